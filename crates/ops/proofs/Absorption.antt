@@ -1,0 +1,113 @@
+-- Where one operand settles the result, the other cannot change it.
+-- Assumes nothing.
+use mathlib.Core.Path.{_≡_, refl, sym, ap, _∙_}
+use mathlib.Core.Bool.{Bool, true, false, not, _&&_, _||_}
+use Prim.Native.Nat.{ℕ, _+_, _*_, _%_, _^_, _<_}
+use native.Mathlib.Nat.{zero-mul, mul-zero, zero-mod, mod-eq-of-lt, add-right-cancel}
+use lib.Bits.{bitAnd, bitOr, and-zero-l, and-zero-r, and-comm, and-mask, or-comm, or-mod, or-add-and}
+use lib.Dec.{eqb, leb}
+use lib.Pow.{ones-lt}
+use borrow.Author.Tests.{eqb-true, leb-true}
+use Rattle.ops.specs.declared.Op.the-variants.{Constant, Variable, Not, And, Or, Implies, Equal, Ite, BvNot, BvAnd, BvOr, BvAdd, BvMul, BvShl, BvUlt, Select, Store, Unknown}
+use Rattle.ops.specs.declared.Op.{Op}
+use Rattle.ops.specs.Meaning.{bit, holds, ones, operation, apply}
+use Rattle.ops.specs.Laws.{first, second, Absorbs, Absorption}
+use Rattle.ops.proofs.Booleans.{never, and-shut, or-open}
+use Rattle.ops.proofs.Widths.{mod-below, shifted-out}
+
+-- truths
+
+and-first : (a b b′ : Bool) → not a ≡ true → (a && b) ≡ (a && b′)
+and-first true b b′ p = never p
+and-first false b b′ p = refl
+
+and-second : (a a′ b : Bool) → not b ≡ true → (a && b) ≡ (a′ && b)
+and-second a a′ true p = never p
+and-second a a′ false p = and-shut a ∙ sym (and-shut a′)
+
+or-first : (a b b′ : Bool) → a ≡ true → (a || b) ≡ (a || b′)
+or-first true b b′ p = refl
+or-first false b b′ p = never p
+
+or-second : (a a′ b : Bool) → b ≡ true → (a || b) ≡ (a′ || b)
+or-second a a′ true p = or-open a ∙ sym (or-open a′)
+or-second a a′ false p = never p
+
+-- vectors: a value that each other operand leaves as it is, on either side
+
+module _ (f : ℕ → ℕ → ℕ) (a : ℕ) where
+  one-first : ((y : ℕ) → f a y ≡ a) → (x y y′ : ℕ) → eqb x a ≡ true → f x y ≡ f x y′
+  one-first h x y y′ e =
+      ap (λ (u : ℕ). f u y) (eqb-true x a e) ∙ h y ∙ sym (h y′) ∙ sym (ap (λ (u : ℕ). f u y′) (eqb-true x a e))
+
+  one-second : ((x : ℕ) → f x a ≡ a) → (x x′ y : ℕ) → eqb y a ≡ true → f x y ≡ f x′ y
+  one-second h x x′ y e =
+      ap (λ (u : ℕ). f x u) (eqb-true y a e) ∙ h x ∙ sym (h x′) ∙ sym (ap (λ (u : ℕ). f x′ u) (eqb-true y a e))
+
+module _ (n : ℕ) where
+  nothing : {v : ℕ} → v ≡ 0 → v % 2 ^ n ≡ 0
+  nothing e = ap (λ (u : ℕ). u % 2 ^ n) e ∙ zero-mod (2 ^ n)
+
+  -- all ones, or'ed with a number below 2^n
+  or-below : (y : ℕ) → y < 2 ^ n → bitOr (ones n) y ≡ ones n
+  or-below y h =
+      add-right-cancel y (ap (λ (a : ℕ). bitOr (ones n) y + a) (sym (and-comm (ones n) y ∙ and-mask y n ∙ mod-eq-of-lt h)) ∙ or-add-and (ones n) y)
+
+  or-ones : (y : ℕ) → bitOr (ones n) y % 2 ^ n ≡ ones n
+  or-ones y = or-mod (ones n) y n ∙ ap (λ (a : ℕ). bitOr a (y % 2 ^ n)) (mod-eq-of-lt (ones-lt n)) ∙ or-below (y % 2 ^ n) (mod-below n y)
+
+  ones-or : (x : ℕ) → bitOr x (ones n) % 2 ^ n ≡ ones n
+  ones-or x = ap (λ (a : ℕ). a % 2 ^ n) (or-comm x (ones n)) ∙ or-ones x
+
+  out : (x x′ y : ℕ) → leb n y ≡ true → (x * 2 ^ y) % 2 ^ n ≡ (x′ * 2 ^ y) % 2 ^ n
+  out x x′ y e = shifted-out n x y (leb-true n y e) ∙ sym (shifted-out n x′ y (leb-true n y e))
+
+-- an operator that no value settles
+unsettled : (op : Op) (n : ℕ) → ((x : ℕ) → first (operation op) n x ≡ false) → ((y : ℕ) → second (operation op) n y ≡ false) → Absorbs op n
+unsettled op n a b =
+    record { by-first = λ x y y′ z p. never (sym (a x) ∙ p); by-second = λ x x′ y z p. never (sym (b y) ∙ p) }
+
+pub absorption : Absorption
+unfolding apply
+absorption Constant n = unsettled Constant n (λ x. refl) (λ y. refl)
+absorption Variable n = unsettled Variable n (λ x. refl) (λ y. refl)
+absorption Not n = unsettled Not n (λ x. refl) (λ y. refl)
+absorption And n =
+    record {
+      by-first = λ x y y′ z p. ap bit (and-first (holds x) (holds y) (holds y′) p);
+      by-second = λ x x′ y z p. ap bit (and-second (holds x) (holds x′) (holds y) p);
+    }
+absorption Or n =
+    record {
+      by-first = λ x y y′ z p. ap bit (or-first (holds x) (holds y) (holds y′) p);
+      by-second = λ x x′ y z p. ap bit (or-second (holds x) (holds x′) (holds y) p);
+    }
+absorption Implies n =
+    record {
+      by-first = λ x y y′ z p. ap bit (or-first (not (holds x)) (holds y) (holds y′) p);
+      by-second = λ x x′ y z p. ap bit (or-second (not (holds x)) (not (holds x′)) (holds y) p);
+    }
+absorption Equal n = unsettled Equal n (λ x. refl) (λ y. refl)
+absorption Ite n = unsettled Ite n (λ x. refl) (λ y. refl)
+absorption BvNot n = unsettled BvNot n (λ x. refl) (λ y. refl)
+absorption BvAnd n =
+    record {
+      by-first = λ x y y′ z. one-first (λ u w. bitAnd u w % 2 ^ n) 0 (λ w. nothing n (and-zero-l w)) x y y′;
+      by-second = λ x x′ y z. one-second (λ u w. bitAnd u w % 2 ^ n) 0 (λ u. nothing n (and-zero-r u)) x x′ y;
+    }
+absorption BvOr n =
+    record {
+      by-first = λ x y y′ z. one-first (λ u w. bitOr u w % 2 ^ n) (ones n) (or-ones n) x y y′;
+      by-second = λ x x′ y z. one-second (λ u w. bitOr u w % 2 ^ n) (ones n) (ones-or n) x x′ y;
+    }
+absorption BvAdd n = unsettled BvAdd n (λ x. refl) (λ y. refl)
+absorption BvMul n =
+    record {
+      by-first = λ x y y′ z. one-first (λ u w. (u * w) % 2 ^ n) 0 (λ w. nothing n (zero-mul w)) x y y′;
+      by-second = λ x x′ y z. one-second (λ u w. (u * w) % 2 ^ n) 0 (λ u. nothing n (mul-zero u)) x x′ y;
+    }
+absorption BvShl n = record { by-first = λ x y y′ z p. never p; by-second = λ x x′ y z p. out n x x′ y p }
+absorption BvUlt n = unsettled BvUlt n (λ x. refl) (λ y. refl)
+absorption Select n = unsettled Select n (λ x. refl) (λ y. refl)
+absorption Store n = unsettled Store n (λ x. refl) (λ y. refl)
+absorption Unknown n = unsettled Unknown n (λ x. refl) (λ y. refl)

@@ -1,0 +1,97 @@
+-- Two runs that agree on the operands agree on the result.
+-- Assumes nothing.
+use mathlib.Core.Path.{_≡_, refl, sym, ap, ap₂, _∙_}
+use mathlib.Core.Bool.{Bool, true, false, not, _&&_, _||_, cond}
+use mathlib.Core.Logic.{⊎-elim}
+use Prim.Native.Nat.{ℕ}
+use lib.Dec.{eqb}
+use borrow.Author.Tests.{eqb-true}
+use Rattle.ops.specs.declared.Op.{Op}
+use Rattle.ops.specs.Meaning.{Operation, holds, operation, valueOf, apply}
+use Rattle.ops.specs.Meaning.Operation.{leaf, unary, strict, absorbing, shift, choice}
+use Rattle.ops.specs.Condition.{absorbed, shifted, chosen, conditionOf, settles}
+use Rattle.ops.specs.Laws.{first, second, Agree, Independence, ChoiceIndependence}
+use Rattle.ops.proofs.Booleans.{and-parts, or-parts, and-same, or-same}
+use Rattle.ops.proofs.Absorption.{absorption}
+
+module _ {x x′ y y′ z z′ : ℕ} {c c′ d d′ e e′ : Bool} (p : Agree c c′ x x′) (q : Agree d d′ y y′) (r : Agree e e′ z z′) where
+  both-condition : (c && d) ≡ (c′ && d′)
+  both-condition = and-same (p .condition) (λ h. q .condition)
+
+  both-value : (f : ℕ → ℕ → ℕ) → (c && d) ≡ true → f x y ≡ f x′ y′
+  both-value f h = ap₂ f (p .value (and-parts c d h .0)) (q .value (and-parts c d h .1))
+
+  -- what each operand settles: A tests x, B tests y
+  module _ (f : ℕ → ℕ → ℕ) (A B : ℕ → Bool) where
+    first-value : (A x ≡ true → f x y ≡ f x y′) → (c && A x) ≡ true → f x y ≡ f x′ y′
+    first-value by h =
+        let parts = and-parts c (A x) h in
+        by (parts .1) ∙ ap (λ (u : ℕ). f u y′) (p .value (parts .0))
+
+    second-value : (B y ≡ true → f x y ≡ f x′ y) → (d && B y) ≡ true → f x y ≡ f x′ y′
+    second-value by h =
+        let parts = and-parts d (B y) h in
+        by (parts .1) ∙ ap (λ (u : ℕ). f x′ u) (q .value (parts .0))
+
+    absorbed-agree : (A x ≡ true → f x y ≡ f x y′) → (B y ≡ true → f x y ≡ f x′ y) → Agree (absorbed c (A x) d (B y)) (absorbed c′ (A x′) d′ (B y′)) (f x y) (f x′ y′)
+    absorbed-agree by-first by-second =
+        record {
+          condition = or-same (or-same (and-same (p .condition) (λ h. ap A (p .value h))) (and-same (q .condition) (λ h. ap B (q .value h)))) both-condition;
+          value = λ h. ⊎-elim (λ k. ⊎-elim (first-value by-first) (second-value by-second) (or-parts (c && A x) (d && B y) k)) (both-value f) (or-parts ((c && A x) || (d && B y)) (c && d) h);
+        }
+
+    shifted-agree : (B y ≡ true → f x y ≡ f x′ y) → Agree (shifted c d (B y)) (shifted c′ d′ (B y′)) (f x y) (f x′ y′)
+    shifted-agree by-second =
+        record {
+          condition = or-same (and-same (q .condition) (λ h. ap B (q .value h))) both-condition;
+          value = λ h. ⊎-elim (second-value by-second) (both-value f) (or-parts (d && B y) (c && d) h);
+        }
+
+pub choice-independence : ChoiceIndependence
+choice-independence test test′ y y′ z z′ c c′ d d′ e e′ free same q r =
+    record {
+      condition =
+          or-same
+          (and-same free (λ h. ap (λ (b : Bool). cond b d e) (same h) ∙ ap₂ (λ (a b : Bool). cond test′ a b) (q .condition) (r .condition)))
+          (and-same (and-same (q .condition) (λ h. r .condition)) (λ h. ap₂ eqb (q .value (and-parts d e h .0)) (r .value (and-parts d e h .1))));
+      value = λ h. ⊎-elim tested equal (or-parts (c && cond test d e) ((d && e) && eqb y z) h);
+    }
+  where
+    pick : (b : Bool) → cond b d e ≡ true → cond b y z ≡ cond b y′ z′
+    pick true k = q .value k
+    pick false k = r .value k
+
+    tested : (c && cond test d e) ≡ true → cond test y z ≡ cond test′ y′ z′
+    tested k =
+        let parts = and-parts c (cond test d e) k in
+        pick test (parts .1) ∙ ap (λ (b : Bool). cond b y′ z′) (same (parts .0))
+
+    either : (b b′ : Bool) → y ≡ y′ → z ≡ z′ → y ≡ z → cond b y z ≡ cond b′ y′ z′
+    either true true s t u = s
+    either true false s t u = u ∙ t
+    either false true s t u = sym u ∙ s
+    either false false s t u = t
+
+    equal : ((d && e) && eqb y z) ≡ true → cond test y z ≡ cond test′ y′ z′
+    equal k =
+        let parts = and-parts (d && e) (eqb y z) k in
+        let free-both = and-parts d e (parts .0) in
+        either test test′ (q .value (free-both .0)) (r .value (free-both .1)) (eqb-true y z (parts .1))
+
+-- one operation, with what its tests promise
+operation-agree : (o : Operation) (n : ℕ) {x x′ y y′ z z′ : ℕ} {c c′ d d′ e e′ : Bool} → Agree c c′ x x′ → Agree d d′ y y′ → Agree e e′ z z′
+    → (first o n x ≡ true → valueOf o n x y z ≡ valueOf o n x y′ z) → (second o n y ≡ true → valueOf o n x y z ≡ valueOf o n x′ y z)
+    → Agree (conditionOf o n x y z c d e) (conditionOf o n x′ y′ z′ c′ d′ e′) (valueOf o n x y z) (valueOf o n x′ y′ z′)
+operation-agree leaf n p q r by-first by-second = record { condition = refl; value = λ h. refl }
+operation-agree (unary f) n p q r by-first by-second = record { condition = p .condition; value = λ h. ap (f n) (p .value h) }
+operation-agree (strict f) n p q r by-first by-second = record { condition = both-condition p q r; value = both-value p q r (f n) }
+operation-agree (absorbing f a b) n p q r by-first by-second = absorbed-agree p q r (f n) (a n) (b n) by-first by-second
+operation-agree (shift f b) n p q r by-first by-second = shifted-agree p q r (f n) (b n) (b n) by-second
+operation-agree choice n {x} {x′} {y} {y′} {z} {z′} {c} {c′} {d} {d′} {e} {e′} p q r by-first by-second =
+    choice-independence (holds x) (holds x′) y y′ z z′ c c′ d d′ e e′ (p .condition) (λ h. ap holds (p .value h)) q r
+
+pub independence : Independence
+unfolding apply settles
+independence op n x x′ y y′ z z′ c c′ d d′ e e′ p q r =
+    let a = absorption op n in
+    operation-agree (operation op) n p q r (a .by-first x y y′ z) (a .by-second x x′ y z)

@@ -1,0 +1,12 @@
+use Prim.Native.Nat.{_+_}
+use mathlib.Core.Path.{_∙_}
+use Rattle.ops.proofs.Widths.{wrapped}
+use borrow.Author.Needs.{needs}
+use Rattle.ops.proofs.bvadd.Statement.{statement}
+use Rattle.ops.proofs.bvadd.Tie as tie
+
+returns : tie.Need-returns
+returns c = let a = c .before .before .args in c .reduce .ensures ∙ rw (c .before .wrapping-add-u32 .ensures) (wrapped (a .n) (a .x + a .y) (c .before .before .pre))
+
+pub bvadd-spec : {M : Type 1} → statement M
+bvadd-spec = tie.close (tie.spec (λ c κs. search needs) (λ c κs. search needs) returns)

@@ -1,0 +1,80 @@
+-- What is proved of every operator, as named statements. The proofs are in proofs/Fitting, proofs/Absorption and
+-- proofs/Independence.
+-- Assumes nothing.
+use mathlib.Core.Path.{_≡_}
+use mathlib.Core.Bool.{Bool, true, false, cond}
+use Prim.Native.Nat.{ℕ}
+use lib.Dec.{eqb}
+use Rattle.ops.specs.declared.Op.{Op}
+use Rattle.ops.specs.declared.Op.the-variants.{Constant, Variable, Not, And, Or, Implies, Equal, Ite, BvNot, BvAnd, BvOr, BvAdd, BvMul, BvShl, BvUlt, Select, Store, Unknown}
+use Rattle.ops.specs.Meaning.{Operation, operation, apply}
+use Rattle.ops.specs.Meaning.Operation.{leaf, unary, strict, absorbing, shift, choice}
+use Rattle.ops.specs.Condition.{chosen, settles}
+use Rattle.ops.specs.Fits.{fits}
+
+-- The width of an operator's value (0: a Boolean), from the width n of its first operand and m of its second.
+abbrev pub resultWidth : Op → ℕ → ℕ → ℕ
+resultWidth Constant n m = n
+resultWidth Variable n m = n
+resultWidth Not n m = 0
+resultWidth And n m = 0
+resultWidth Or n m = 0
+resultWidth Implies n m = 0
+resultWidth Equal n m = 0
+resultWidth Ite n m = m
+resultWidth BvNot n m = n
+resultWidth BvAnd n m = n
+resultWidth BvOr n m = n
+resultWidth BvAdd n m = n
+resultWidth BvMul n m = n
+resultWidth BvShl n m = n
+resultWidth BvUlt n m = 0
+resultWidth Select n m = n
+resultWidth Store n m = n
+resultWidth Unknown n m = n
+
+-- Values fit their sort. Only a choice asks it of its operands: the branches, of one width m.
+abbrev pub Fitting : Type 0
+Fitting = (op : Op) (n m x y z : ℕ) → fits m y ≡ true → fits m z ≡ true → fits (resultWidth op n m) (apply op n x y z) ≡ true
+
+-- the tests of an operator: which values of the first and of the second operand settle the result
+abbrev pub first : Operation → ℕ → ℕ → Bool
+first leaf n x = false
+first (unary f) n x = false
+first (strict f) n x = false
+first (absorbing f a b) n x = a n x
+first (shift f b) n x = false
+first choice n x = false
+
+abbrev pub second : Operation → ℕ → ℕ → Bool
+second leaf n y = false
+second (unary f) n y = false
+second (strict f) n y = false
+second (absorbing f a b) n y = b n y
+second (shift f b) n y = b n y
+second choice n y = false
+
+-- Where one operand settles the result, the other cannot change it (source 004: R-absorption).
+pub record Absorbs (op : Op) (n : ℕ) : Type 0 where
+  pub by-first : (x y y′ z : ℕ) → first (operation op) n x ≡ true → apply op n x y z ≡ apply op n x y′ z
+  pub by-second : (x x′ y z : ℕ) → second (operation op) n y ≡ true → apply op n x y z ≡ apply op n x′ y z
+
+abbrev pub Absorption : Type 0
+Absorption = (op : Op) (n : ℕ) → Absorbs op n
+
+-- Two runs agree on a term: one condition, and where it is true one value.
+pub record Agree (c c′ : Bool) (x x′ : ℕ) : Type 0 where
+  pub condition : c ≡ c′
+  pub value : c ≡ true → x ≡ x′
+
+-- Two runs that agree on the operands agree on the result.
+abbrev pub Independence : Type 0
+Independence =
+    (op : Op) (n x x′ y y′ z z′ : ℕ) (c c′ d d′ e e′ : Bool) → Agree c c′ x x′ → Agree d d′ y y′ → Agree e e′ z z′
+    → Agree (settles op n x y z c d e) (settles op n x′ y′ z′ c′ d′ e′) (apply op n x y z) (apply op n x′ y′ z′)
+
+-- The same of a choice whose test is any truth, one in both runs where its condition is true.
+abbrev pub ChoiceIndependence : Type 0
+ChoiceIndependence =
+    (test test′ : Bool) (y y′ z z′ : ℕ) (c c′ d d′ e e′ : Bool) → c ≡ c′ → (c ≡ true → test ≡ test′) → Agree d d′ y y′ → Agree e e′ z z′
+    → Agree (chosen c test d e (eqb y z)) (chosen c′ test′ d′ e′ (eqb y′ z′)) (cond test y z) (cond test′ y′ z′)

@@ -1,0 +1,5 @@
+pub mod Numbers
+pub mod Meaning
+pub mod Condition
+pub mod Fits
+pub mod Laws

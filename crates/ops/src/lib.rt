@@ -1,0 +1,206 @@
+// The operators on numbers: their values, as SMT-LIB 2.6 has them, and their conditions, as paper 01 does.
+ghost use mathlib.Core.Path.{_≡_};
+ghost use mathlib.Core.Bool.{true, false, not, cond, _&&_, _||_};
+ghost use Prim.Native.Nat.{_+_, _-_, _*_, _%_, _^_, _≤_};
+ghost use Rattle.ops.specs.Numbers.{opOf};
+ghost use Rattle.ops.specs.Meaning.{bit, holds, apply};
+ghost use Rattle.ops.specs.Condition.{absorbed, shifted, chosen, settles};
+ghost use Rattle.ops.specs.Fits.{fits};
+
+// The operators by SMT-LIB's names (Core, FixedSizeBitVectors, ArraysEx), and one for every number that has none.
+pub enum Op {
+    Constant,
+    Variable,
+    Not,
+    And,
+    Or,
+    Implies,
+    Equal,
+    Ite,
+    BvNot,
+    BvAnd,
+    BvOr,
+    BvAdd,
+    BvMul,
+    BvShl,
+    BvUlt,
+    Select,
+    Store,
+    Unknown,
+}
+
+// The operators in the order of their numbers.
+const OPS: [Op; 17] = [
+    Op::Constant,
+    Op::Variable,
+    Op::Not,
+    Op::And,
+    Op::Or,
+    Op::Implies,
+    Op::Equal,
+    Op::Ite,
+    Op::BvNot,
+    Op::BvAnd,
+    Op::BvOr,
+    Op::BvAdd,
+    Op::BvMul,
+    Op::BvShl,
+    Op::BvUlt,
+    Op::Select,
+    Op::Store,
+];
+
+// The operator of an op number.
+pub fn op_of(number: u32) -> Op
+    ensures { λ r. ⌜ r ≡ opOf number ⌝ }
+{
+    if number < 17 {
+        OPS[number as usize]
+    } else {
+        Op::Unknown
+    }
+}
+
+fn bit(b: bool) -> u32
+    ensures { λ r. ⌜ r ≡ bit b ⌝ }
+{
+    if b { 1 } else { 0 }
+}
+
+// v modulo 2^n.
+fn reduce(n: u32, v: u32) -> u32
+    ensures { λ r. ⌜ r ≡ v % 2 ^ n ⌝ }
+{
+    if n < 32 { v % (1u32 << n) } else { v }
+}
+
+// The vector of n ones.
+pub fn ones(n: u32) -> u32
+    requires { ⌜ n ≤ 32 ⌝ }
+    ensures { λ r. ⌜ r ≡ 2 ^ n - 1 ⌝ }
+{
+    if n < 32 { (1u32 << n) - 1 } else { 4294967295 }
+}
+
+fn bvnot(n: u32, x: u32) -> u32
+    requires { ⌜ n ≤ 32 ⌝ }
+    ensures { λ r. ⌜ r ≡ (2 ^ n - 1) - x % 2 ^ n ⌝ }
+{
+    ones(n) - reduce(n, x)
+}
+
+// The sum: it wraps at the word, and then at the width.
+fn bvadd(n: u32, x: u32, y: u32) -> u32
+    requires { ⌜ n ≤ 32 ⌝ }
+    ensures { λ r. ⌜ r ≡ (x + y) % 2 ^ n ⌝ }
+{
+    reduce(n, std::num::wrapping_add_u32(x, y))
+}
+
+fn bvmul(n: u32, x: u32, y: u32) -> u32
+    requires { ⌜ n ≤ 32 ⌝ }
+    ensures { λ r. ⌜ r ≡ (x * y) % 2 ^ n ⌝ }
+{
+    let product = (x as u64) * (y as u64);
+    reduce(n, (product % 4294967296) as u32)
+}
+
+fn bvshl(n: u32, x: u32, y: u32) -> u32
+    requires { ⌜ n ≤ 32 ⌝ }
+    ensures { λ r. ⌜ r ≡ (x * 2 ^ y) % 2 ^ n ⌝ }
+{
+    if y < n { reduce(n, x << y) } else { 0 }
+}
+
+fn ite(test: bool, y: u32, z: u32) -> u32
+    ensures { λ r. ⌜ r ≡ cond test y z ⌝ }
+{
+    if test { y } else { z }
+}
+
+// The value of an operator, from the first operand's width and the operands' values.
+pub fn apply(op: Op, n: u32, x: u32, y: u32, z: u32) -> u32
+    requires { ⌜ n ≤ 32 ⌝ }
+    ensures { λ r. ⌜ r ≡ apply op n x y z ⌝ }
+{
+    match op {
+        Op::Constant => 0,
+        Op::Variable => 0,
+        Op::Not => bit(x != 1),
+        Op::And => bit((x == 1) & (y == 1)),
+        Op::Or => bit((x == 1) | (y == 1)),
+        Op::Implies => bit((x != 1) | (y == 1)),
+        Op::Equal => bit(x == y),
+        Op::Ite => ite(x == 1, y, z),
+        Op::BvNot => bvnot(n, x),
+        Op::BvAnd => reduce(n, x & y),
+        Op::BvOr => reduce(n, x | y),
+        Op::BvAdd => bvadd(n, x, y),
+        Op::BvMul => bvmul(n, x, y),
+        Op::BvShl => bvshl(n, x, y),
+        Op::BvUlt => bit(x < y),
+        Op::Select => 0,
+        Op::Store => 0,
+        Op::Unknown => 0,
+    }
+}
+
+// An operand that is free and settles the result, or both operands free.
+fn absorbed(c: bool, a: bool, d: bool, b: bool) -> bool
+    ensures { λ r. ⌜ r ≡ absorbed c a d b ⌝ }
+{
+    ((c & a) | (d & b)) | (c & d)
+}
+
+fn shifted(c: bool, d: bool, out: bool) -> bool
+    ensures { λ r. ⌜ r ≡ shifted c d out ⌝ }
+{
+    (d & out) | (c & d)
+}
+
+// A free test picks the branch that must be free; else both branches are free and equal.
+pub fn chosen(c: bool, test: bool, d: bool, e: bool, same: bool) -> bool
+    ensures { λ r. ⌜ r ≡ chosen c test d e same ⌝ }
+{
+    (c & ((test & d) | (!test & e))) | ((d & e) & same)
+}
+
+// The condition of an operator, from the first operand's width and the operands' values and conditions.
+pub fn settles(op: Op, n: u32, x: u32, y: u32, z: u32, c: bool, d: bool, e: bool) -> bool
+    requires { ⌜ n ≤ 32 ⌝ }
+    ensures { λ r. ⌜ r ≡ settles op n x y z c d e ⌝ }
+{
+    match op {
+        Op::Constant => false,
+        Op::Variable => false,
+        Op::Not => c,
+        Op::And => absorbed(c, x != 1, d, y != 1),
+        Op::Or => absorbed(c, x == 1, d, y == 1),
+        Op::Implies => absorbed(c, x != 1, d, y == 1),
+        Op::Equal => c & d,
+        Op::Ite => chosen(c, x == 1, d, e, y == z),
+        Op::BvNot => c,
+        Op::BvAnd => absorbed(c, x == 0, d, y == 0),
+        Op::BvOr => absorbed(c, x == ones(n), d, y == ones(n)),
+        Op::BvAdd => c & d,
+        Op::BvMul => absorbed(c, x == 0, d, y == 0),
+        Op::BvShl => shifted(c, d, n <= y),
+        Op::BvUlt => c & d,
+        Op::Select => false,
+        Op::Store => false,
+        Op::Unknown => false,
+    }
+}
+
+// Whether v fits width n, which is 0 for a Boolean.
+pub fn fits(n: u32, v: u32) -> bool
+    ensures { λ r. ⌜ r ≡ fits n v ⌝ }
+{
+    if n == 0 {
+        v <= 1
+    } else if n < 32 {
+        (v >> n) == 0
+    } else {
+        true
+    }
+}

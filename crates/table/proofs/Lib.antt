@@ -1,0 +1,5 @@
+pub mod Chains
+pub mod Searches
+pub mod Slots
+pub mod Scans
+pub mod Admitted

@@ -1,0 +1,9 @@
+use borrow.Author.Needs.{needs}
+use Rattle.table.proofs.clashes.claims.Statement.{statement}
+use Rattle.table.proofs.clashes.claims.Tie as tie
+
+returns : tie.Need-returns
+returns c = rw (c .before .variable .ensures)
+
+pub claims-spec : {M : Type 1} → statement M
+claims-spec = tie.close (tie.spec (λ c κs. search needs) returns)

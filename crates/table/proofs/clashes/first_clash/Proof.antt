@@ -1,0 +1,173 @@
+use Prim.Native.Nat.{ℕ, max, _+_, _-_, _≤_, _<_}
+use mathlib.Core.Path.{_≡_, refl, sym, ap, _∙_, subst}
+use mathlib.Core.Bool.{true, false}
+use native.Mathlib.Nat.{not-suc-le-zero}
+use native.Mathlib.Omega.{arith}
+use borrow.Author.Needs.{needs}
+use borrow.Author.Count.{below-more}
+use borrow.Author.Tests.{not-true, not-false}
+use lib.ListN.{getD, set}
+use Rattle.table.specs.Faults.{claims, recalls}
+use Rattle.table.proofs.Slots.{Searched, started, entries, top-bound, all-clean, one-passed, one-noted, one-found, low-slot}
+use Rattle.table.proofs.clashes.first_clash.Statement.{statement}
+use Rattle.table.proofs.clashes.first_clash.Tie as tie
+
+abbrev Inv-loop : tie.InvT-loop
+Inv-loop table terms earlier top at₀ i x s₀ at s =
+    (s ≤ top) × (at ≡ at₀) × ((j : ℕ) → j < s → recalls table (getD earlier j 0) x ≡ false)
+
+abbrev μ-loop : tie.MeasureT-loop
+μ-loop table terms earlier top at₀ i x s₀ at s = top - s
+
+abbrev Inv-variables : tie.InvT-variables
+Inv-variables table terms earlier₀ top₀ at₀ i₀ earlier top at i = (at ≡ terms) × Searched table terms earlier top i
+
+abbrev μ-variables : tie.MeasureT-variables
+μ-variables table terms earlier₀ top₀ at₀ i₀ earlier top at i = terms - i
+
+variables-holds : tie.Need-variables-holds Inv-loop μ-loop Inv-variables μ-variables
+variables-holds c = (refl, started (c .before .args .table .now) (c .before .args .terms))
+
+add-i : tie.Need-add-i Inv-loop μ-loop Inv-variables μ-variables
+add-i c = omega arith
+
+variables-less : tie.Need-variables-less Inv-loop μ-loop Inv-variables μ-variables
+variables-less c = omega arith
+
+variables-again : tie.Need-variables-again Inv-loop μ-loop Inv-variables μ-variables
+variables-again c =
+    let v = c .before .before .before .before .variables in
+    let t = c .before .before .before .before .before .before .args in (
+      v .inv .0,
+      one-passed (t .table .now) (t .terms) (v .earlier) (v .top) (v .i) (v .inv .1) (c .before .before .before .variables-test .taken)
+          (c .before .before .term-at .result) (c .before .before .term-at .ensures)
+          (sym (c .before .claims .ensures) ∙ not-true _ (c .if1 .taken)),
+    )
+
+loop-holds : tie.Need-loop-holds Inv-loop μ-loop Inv-variables μ-variables
+loop-holds c = (omega arith, refl, λ j b. absurd (not-suc-le-zero b))
+
+-- a slot that is looked at is below 256
+inside : (c : tie.In-loop Inv-loop μ-loop Inv-variables μ-variables) → c .before .loop .s < 256
+inside c =
+    let v = c .before .before .before .before .before .before .variables in
+    let t = c .before .before .before .before .before .before .before .before .args in
+    omega (arith, top-bound (t .table .now) (t .terms) (v .earlier) (v .top) (v .i) (v .inv .1), c .loop-test .taken)
+
+mul-recalls : tie.Need-mul-recalls Inv-loop μ-loop Inv-variables μ-variables
+mul-recalls c = omega (arith, inside c)
+
+array-read-recalls : tie.Need-array-read-recalls Inv-loop μ-loop Inv-variables μ-variables
+array-read-recalls c =
+    let v = c .before .before .before .before .before .before .variables in
+    let t = c .before .before .before .before .before .before .before .before .args in
+    omega (arith, inside c, entries (t .table .now) (t .terms) (v .earlier) (v .top) (v .i) (v .inv .1))
+
+add-s : tie.Need-add-s Inv-loop μ-loop Inv-variables μ-variables
+add-s c = omega (arith, inside (c .before .before))
+
+loop-less : tie.Need-loop-less Inv-loop μ-loop Inv-variables μ-variables
+loop-less c = omega arith
+
+loop-again : tie.Need-loop-again Inv-loop μ-loop Inv-variables μ-variables
+loop-again c =
+    let l = c .before .before .before .loop in
+    (omega arith, l .inv .1, below-more _ _ (l .inv .2) (sym (c .before .recalls .ensures) ∙ c .if2 .left))
+
+-- the variable that is noted has a slot up to 255
+low : (c : tie.After-struct-known Inv-loop μ-loop Inv-variables μ-variables) → c .before .before .before .before .before .term-at .result .p < 256
+low c =
+    let v = c .before .before .before .before .before .before .before .variables in
+    let t = c .before .before .before .before .before .before .before .before .before .args in
+    let x = c .before .before .before .before .before .term-at in
+    low-slot (t .table .now) (t .terms) (v .earlier) (v .top) (v .i) (v .inv .1) (c .before .before .before .before .before .before .variables-test .taken)
+    (x .result) (x .ensures)
+    (sym (c .before .before .before .before .claims .ensures) ∙ not-false _ (c .before .before .before .if1 .left))
+
+cast-slot : tie.Need-cast-slot Inv-loop μ-loop Inv-variables μ-variables
+cast-slot c = omega (arith, low c)
+
+add-earlier : tie.Need-add-earlier Inv-loop μ-loop Inv-variables μ-variables
+add-earlier c = omega arith
+
+mul-earlier : tie.Need-mul-earlier Inv-loop μ-loop Inv-variables μ-variables
+mul-earlier c = omega (arith, low c)
+
+array-write-earlier : tie.Need-array-write-earlier Inv-loop μ-loop Inv-variables μ-variables
+array-write-earlier c =
+    let v = c .before .before .before .before .before .before .before .variables in
+    let t = c .before .before .before .before .before .before .before .before .before .args in
+    omega (arith, low c, entries (t .table .now) (t .terms) (v .earlier) (v .top) (v .i) (v .inv .1))
+
+add-most : tie.Need-add-most Inv-loop μ-loop Inv-variables μ-variables
+add-most c = omega (arith, low c)
+
+add-i-2 : tie.Need-add-i-2 Inv-loop μ-loop Inv-variables μ-variables
+add-i-2 c = omega arith
+
+variables-less-2 : tie.Need-variables-less-2 Inv-loop μ-loop Inv-variables μ-variables
+variables-less-2 c = omega arith
+
+variables-again-2 : tie.Need-variables-again-2 Inv-loop μ-loop Inv-variables μ-variables
+variables-again-2 c =
+    let v = c .before .before .before .before .before .before .before .before .variables in
+    let t = c .before .before .before .before .before .before .before .before .before .before .args in
+    let x = c .before .before .before .before .before .before .term-at in (
+      c .before .before .before .loop .inv .1 ∙ v .inv .0,
+      subst (λ (top : ℕ). Searched (t .table .now) (t .terms) (set (v .earlier) (x .result .p) (v .i + 1)) top (v .i + 1))
+          (sym (c .most .ensures))
+          (one-noted (t .table .now) (t .terms) (v .earlier) (v .top) (v .i) (v .inv .1) (c .before .before .before .before .before .before .before .variables-test .taken)
+          (x .result) (x .ensures)
+          (sym (c .before .before .before .before .before .claims .ensures) ∙ not-false _ (c .before .before .before .before .if1 .left))
+          (λ s b. c .before .before .before .loop .inv .2 s (omega (arith, c .before .before .loop-test .left)))),
+    )
+
+returns : tie.Need-returns Inv-loop μ-loop Inv-variables μ-variables
+returns c =
+    let v = c .before .variables in
+    let t = c .before .before .before .args in
+    v .inv .0 ∙ all-clean (t .table .now) (t .terms) (v .earlier) (v .top) (v .i) (v .inv .1) (c .variables-test .left)
+
+returns-2 : tie.Need-returns-2 Inv-loop μ-loop Inv-variables μ-variables
+returns-2 c =
+    let v = c .before .before .before .before .before .before .before .before .variables in
+    let t = c .before .before .before .before .before .before .before .before .before .before .args in
+    let x = c .before .before .before .before .before .before .term-at in
+    one-found (t .table .now) (t .terms) (v .earlier) (v .top) (v .i) (v .inv .1) (c .before .before .before .before .before .before .before .variables-test .taken)
+    (x .result) (x .ensures)
+    (sym (c .before .before .before .before .before .claims .ensures) ∙ not-false _ (c .before .before .before .before .if1 .left))
+    (c .before .before .before .loop .s)
+    (sym (c .before .recalls .ensures) ∙ c .if2 .taken)
+
+pub first-clash-spec : {M : Type 1} → statement M
+first-clash-spec =
+    tie.close
+    (tie.spec
+    Inv-loop
+    μ-loop
+    Inv-variables
+    μ-variables
+    variables-holds
+    (λ c κs. search needs)
+    (λ c κs. search needs)
+    add-i
+    variables-less
+    variables-again
+    loop-holds
+    mul-recalls
+    array-read-recalls
+    (λ c κs. search needs)
+    add-s
+    loop-less
+    loop-again
+    cast-slot
+    add-earlier
+    mul-earlier
+    array-write-earlier
+    add-most
+    (λ c κs. search needs)
+    add-i-2
+    variables-less-2
+    variables-again-2
+    returns
+    returns-2)

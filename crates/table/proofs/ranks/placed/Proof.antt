@@ -1,0 +1,33 @@
+use borrow.Author.Needs.{needs}
+use Rattle.table.proofs.ranks.placed.Statement.{statement}
+use Rattle.table.proofs.ranks.placed.Tie as tie
+
+returns : tie.Need-returns
+returns c = rw (c .before .before .enum-told .given .1)
+
+returns-2 : tie.Need-returns-2
+returns-2 c = rw (c .before .enum-told2 .given .1)
+
+returns-3 : tie.Need-returns-3
+returns-3 c = rw (c .before .before .before .enum-told3 .given .1)
+
+returns-4 : tie.Need-returns-4
+returns-4 c = rw (c .before .before .before .enum-told4 .given .1)
+
+returns-5 : tie.Need-returns-5
+returns-5 c = rw (c .before .before .before .enum-told5 .given .1)
+
+pub placed-spec : {M : Type 1} → statement M
+placed-spec =
+    tie.close
+    (tie.spec
+    (λ c. search needs)
+    (λ c. search needs)
+    (λ c. search needs)
+    (λ c. search needs)
+    (λ c. search needs)
+    returns
+    returns-2
+    returns-3
+    returns-4
+    returns-5)

@@ -1,0 +1,40 @@
+-- What refuses a table, and in what order: paper 01, "Refused because of the input", 1 to 10.
+-- Assumes nothing.
+use mathlib.Core.Bool.{Bool, true, false, cond, not, _||_}
+use mathlib.Core.List.{List}
+use Prim.Native.Nat.{ℕ, zero, suc, pred, _%_}
+use lib.Dec.{eqb, ltb}
+use lib.ListN.{length}
+use Rattle.table.specs.declared.Refusal.{Refusal}
+use Rattle.table.specs.declared.Admission.{Admission}
+use Rattle.table.specs.declared.Admission.the-variants.{Admitted, Refused}
+use Rattle.table.specs.Terms.{words, terms, sortAt, boolean}
+use Rattle.table.specs.Faults.{fault}
+
+abbrev pub refused : ℕ → ℕ → Admission
+refused number place = Refused (record { number = number; place = place })
+
+-- refused by a number from 3 to 9, by none where it is 0
+abbrev pub refusedBy : ℕ → ℕ → Admission → Admission
+refusedBy zero at rest = rest
+refusedBy (suc f) at rest = refused (suc f) at
+
+-- term by term, place its number: left terms from at on, then the rest
+unfoldable pub scan : List ℕ → ℕ → ℕ → Admission → Admission
+scan t zero at rest = rest
+scan t (suc left) at rest = refusedBy (fault t at) at (scan t left (suc at) rest)
+
+-- 10 last term not Boolean (its number)
+abbrev pub ended : List ℕ → ℕ → Admission
+ended t last = cond (boolean (sortAt t last)) Admitted (refused 10 last)
+
+-- 1 table length 0 or not a multiple of six (place 0). 2 more than limit terms (place 0). Then the terms. Then 10
+unfoldable pub admissionWithin : ℕ → List ℕ → Admission
+admissionWithin limit t =
+    cond (eqb (length t) 0 || not (eqb (length t % words) 0)) (refused 1 0)
+    (cond (ltb limit (terms t)) (refused 2 0)
+    (scan t (terms t) 0 (ended t (pred (terms t)))))
+
+-- 2 more than 512 terms, or for evaluate 80,000
+abbrev pub admission : List ℕ → Admission
+admission t = admissionWithin 512 t

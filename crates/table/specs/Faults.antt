@@ -1,0 +1,133 @@
+-- What refuses a term: paper 01, "Refused because of the input", 3 to 9, line by line.
+-- Assumes nothing.
+use mathlib.Core.Bool.{Bool, true, false, cond, not, _&&_, _||_}
+use mathlib.Core.List.{List}
+use Prim.Native.Nat.{ℕ, zero, suc}
+use lib.Dec.{eqb, ltb, leb}
+use Rattle.ops.specs.Numbers.{opOf}
+use Rattle.ops.specs.Fits.{fits}
+use Rattle.table.specs.declared.ranks.Rank.{Rank}
+use Rattle.table.specs.declared.ranks.Rank.the-variants.{Literal, Input, BoolUnary, BoolBinary, Equality, Choice, BvUnary, BvBinary, BvCompare, Read, Write, Other}
+use Rattle.table.specs.declared.ranks.Fields.{Fields}
+use Rattle.table.specs.declared.ranks.Fields.the-variants.{Value, Slot, One, Two, Three}
+use Rattle.table.specs.declared.words.Sort.{Sort}
+use Rattle.table.specs.declared.words.Term.{Term}
+use Rattle.table.specs.Terms.{sortAt, termAt, boolean, vector, scalar, array, vectorOf, sameSort}
+use Rattle.table.specs.Ranks.{rankOf, fieldsOf, slotted, writes}
+
+abbrev pub rank : Term → Rank
+rank x = rankOf (opOf (x .op))
+
+abbrev pub fields : Term → Fields
+fields x = fieldsOf (rank x)
+
+abbrev pub variable : Term → Bool
+variable x = slotted (fields x)
+
+abbrev pub storing : Term → Bool
+storing x = writes (rank x)
+
+-- 3 op over 16
+abbrev pub known : Term → Bool
+known x = leb (x .op) 16
+
+-- 4 not one of the three sorts
+abbrev pub width : ℕ → Bool
+width n = ltb 0 n && leb n 32
+
+abbrev pub sorted : Sort → Bool
+sorted s = boolean s || (eqb (s .m) 0 && width (s .n)) || (width (s .m) && width (s .n))
+
+-- 5 an operand not below the term, or an unused field not 0
+abbrev pub placedAs : Fields → ℕ → Term → Bool
+placedAs Value i x = eqb (x .q) 0 && eqb (x .r) 0
+placedAs Slot i x = eqb (x .r) 0
+placedAs One i x = ltb (x .p) i && eqb (x .q) 0 && eqb (x .r) 0
+placedAs Two i x = ltb (x .p) i && ltb (x .q) i && eqb (x .r) 0
+placedAs Three i x = ltb (x .p) i && ltb (x .q) i && ltb (x .r) i
+
+-- 6 sorts not as the op's line asks: x the term's sort, a, b, c those of p, q, r
+abbrev pub typedAs : Rank → Sort → Sort → Sort → Sort → Bool
+typedAs Literal x a b c = scalar x
+typedAs Input x a b c = true
+typedAs BoolUnary x a b c = boolean x && boolean a
+typedAs BoolBinary x a b c = boolean x && boolean a && boolean b
+typedAs Equality x a b c = boolean x && scalar a && sameSort a b
+typedAs Choice x a b c = scalar x && boolean a && sameSort b x && sameSort c x
+typedAs BvUnary x a b c = vector x && sameSort a x
+typedAs BvBinary x a b c = vector x && sameSort a x && sameSort b x
+typedAs BvCompare x a b c = boolean x && vector a && sameSort a b
+typedAs Read x a b c = array a && vectorOf (a .m) b && vectorOf (a .n) x
+typedAs Write x a b c = array x && sameSort a x && vectorOf (x .m) b && vectorOf (x .n) c
+typedAs Other x a b c = true
+
+unfoldable pub typed : List ℕ → Term → Bool
+typed t x = typedAs (rank x) (x .sort) (sortAt t (x .p)) (sortAt t (x .q)) (sortAt t (x .r))
+
+-- 7 a constant that does not fit, a slot over 255, a mark over 1
+abbrev pub valuedAs : Fields → Term → Bool
+valuedAs Value x = fits (x .sort .n) (x .p)
+valuedAs Slot x = leb (x .p) 255 && leb (x .q) 1
+valuedAs One x = true
+valuedAs Two x = true
+valuedAs Three x = true
+
+-- 8 an earlier variable has this slot with another sort or mark
+abbrev pub conflicts : Term → Term → Bool
+conflicts a x = eqb (a .p) (x .p) && not (sameSort (a .sort) (x .sort) && eqb (a .q) (x .q))
+
+unfoldable pub anyBelow : ℕ → (ℕ → Bool) → Bool
+anyBelow zero f = false
+anyBelow (suc k) f = anyBelow k f || f k
+
+unfoldable pub clash : List ℕ → ℕ → Bool
+clash t i = variable (termAt t i) && anyBelow i (λ k. variable (termAt t k) && conflicts (termAt t k) (termAt t i))
+
+-- 9 a 17th store in a chain: the stores from term k inward, counted up to a limit
+unfoldable pub chain : ℕ → List ℕ → ℕ → ℕ
+chain zero t k = 0
+chain (suc left) t k = cond (storing (termAt t k)) (suc (chain left t (termAt t k .p))) 0
+
+-- the lowest number, 3 to 9, that refuses term i, and 0 where none does
+abbrev pub refuse : ℕ → Bool → ℕ → ℕ
+refuse number true rest = rest
+refuse number false rest = number
+
+unfoldable pub faultIf : List ℕ → ℕ → Bool → ℕ
+faultIf t i clashing =
+    let x = termAt t i in
+    refuse 3 (known x)
+    (refuse 4 (sorted (x .sort))
+    (refuse 5 (placedAs (fields x) i x)
+    (refuse 6 (typed t x)
+    (refuse 7 (valuedAs (fields x) x)
+    (refuse 8 (not clashing)
+    (refuse 9 (leb (chain 17 t i) 16)
+    0))))))
+
+unfoldable pub fault : List ℕ → ℕ → ℕ
+fault t i = faultIf t i (clash t i)
+
+-- The search for the first clash looks at slots up to 255 alone: over 255, 7 refuses first.
+
+-- a variable of a slot up to 255
+abbrev pub claims : Term → Bool
+claims x = variable x && leb (x .p) 255
+
+abbrev pub slotClash : List ℕ → ℕ → Bool
+slotClash t i = claims (termAt t i) && clash t i
+
+-- the first of left numbers, from at on, of which f is true; the number past them where there is none
+unfoldable pub firstFrom : (ℕ → Bool) → ℕ → ℕ → ℕ
+firstFrom f zero at = at
+firstFrom f (suc left) at =
+    let rest = firstFrom f left (suc at) in
+    cond (f at) at rest
+
+abbrev pub firstClash : List ℕ → ℕ → ℕ
+firstClash t n = firstFrom (slotClash t) n 0
+
+-- the term of an entry, which is its number and one, or 0 for none, against a variable
+abbrev pub recalls : List ℕ → ℕ → Term → Bool
+recalls t zero x = false
+recalls t (suc k) x = conflicts (termAt t k) x

@@ -1,0 +1,5 @@
+pub mod Terms
+pub mod Ranks
+pub mod Faults
+pub mod Admission
+pub mod WellFormed

@@ -1,0 +1,46 @@
+-- What an admitted table satisfies: the record that the other routines rest on.
+-- Assumes nothing.
+use mathlib.Core.Path.{_≡_}
+use mathlib.Core.Bool.{true, false}
+use mathlib.Core.List.{List}
+use Prim.Native.Nat.{ℕ, pred, _*_, _≤_, _<_}
+use lib.ListN.{length}
+use Rattle.table.specs.declared.Admission.the-variants.{Admitted}
+use Rattle.table.specs.Terms.{words, terms, termAt, sortAt, boolean}
+use Rattle.table.specs.Faults.{fields, variable, known, sorted, placedAs, typed, valuedAs, clash, chain}
+use Rattle.table.specs.Admission.{admissionWithin}
+
+-- Of term k: an op up to 16; one of the three sorts; operands below and unused fields 0; sorts as the op's line asks;
+-- a constant that fits, a slot up to 255 and a mark up to 1; no clash; at most 16 stores in a chain.
+pub record Sound (t : List ℕ) (k : ℕ) : Type 0 where
+  pub is-known : known (termAt t k) ≡ true
+  pub is-sorted : sorted (sortAt t k) ≡ true
+  pub is-placed : placedAs (fields (termAt t k)) k (termAt t k) ≡ true
+  pub is-typed : typed t (termAt t k) ≡ true
+  pub is-valued : valuedAs (fields (termAt t k)) (termAt t k) ≡ true
+  pub no-clash : clash t k ≡ false
+  pub short : chain 17 t k ≤ 16
+
+-- Of a table: at least one term and at most limit, whole; each of them sound; the last one Boolean.
+pub record WellFormed (limit : ℕ) (t : List ℕ) : Type 0 where
+  pub some : 0 < terms t
+  pub whole : length t ≡ terms t * words
+  pub few : terms t ≤ limit
+  pub sound : (k : ℕ) → k < terms t → Sound t k
+  pub rule : boolean (sortAt t (pred (terms t))) ≡ true
+
+-- A slot is used with one sort and one mark.
+abbrev pub OneUse : List ℕ → Type 0
+OneUse t =
+    (j k : ℕ) → j < terms t → k < terms t → variable (termAt t j) ≡ true → variable (termAt t k) ≡ true → termAt t j .p ≡ termAt t k .p
+    → (sortAt t j ≡ sortAt t k) × (termAt t j .q ≡ termAt t k .q)
+
+-- The theorems: just the well-formed tables are admitted, and they use each slot with one sort and mark.
+abbrev pub AdmissionSound : Type 0
+AdmissionSound = (limit : ℕ) (t : List ℕ) → admissionWithin limit t ≡ Admitted → WellFormed limit t
+
+abbrev pub AdmissionComplete : Type 0
+AdmissionComplete = (limit : ℕ) (t : List ℕ) → WellFormed limit t → admissionWithin limit t ≡ Admitted
+
+abbrev pub SlotsHaveOneUse : Type 0
+SlotsHaveOneUse = (limit : ℕ) (t : List ℕ) → WellFormed limit t → OneUse t

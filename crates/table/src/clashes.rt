@@ -1,0 +1,65 @@
+// Refusal 8: the first variable with an earlier one of its slot that has another sort or mark.
+ghost use mathlib.Core.Path.{_≡_};
+ghost use Prim.Native.Nat.{max};
+ghost use Rattle.table.specs.Faults.{conflicts, claims, recalls, firstClash};
+use crate::ranks::variable;
+use crate::sorts::same_sort;
+use crate::words::Term;
+use crate::words::term_at;
+
+// One slot, and another sort or mark.
+fn conflicts(a: Term, x: Term) -> bool
+    ensures { λ r. ⌜ r ≡ conflicts a x ⌝ }
+{
+    (a.p == x.p) & !(same_sort(a.sort, x.sort) & (a.q == x.q))
+}
+
+// Whether the variable that an entry names (its number and one, 0 for none) conflicts with x.
+fn recalls(table: &[u32], entry: u32, x: Term) -> bool
+    ensures { λ r. ⌜ r ≡ recalls (now (table .entry)) entry x ⌝ }
+{
+    if entry == 0 {
+        false
+    } else {
+        conflicts(term_at(table, entry - 1), x)
+    }
+}
+
+// A variable of a slot up to 255.
+fn claims(x: Term) -> bool
+    ensures { λ r. ⌜ r ≡ claims x ⌝ }
+{
+    variable(x) & (x.p <= 255)
+}
+
+fn most(a: usize, b: usize) -> usize
+    ensures { λ r. ⌜ r ≡ max a b ⌝ }
+{
+    if a < b { b } else { a }
+}
+
+// The first variable that clashes with an earlier one, else the count of terms. The earlier variables stand by slot:
+// earlier holds, for each slot below top, the number of its latest variable and one. Those before it are no different.
+pub fn first_clash(table: &[u32], terms: u32) -> u32
+    ensures { λ r. ⌜ r ≡ firstClash (now (table .entry)) terms ⌝ }
+{
+    let mut earlier = [0u32; 256];
+    let mut top = 0usize;
+    let mut at = terms;
+    'variables: for i in 0..terms {
+        let x = term_at(table, i);
+        if !claims(x) {
+            continue;
+        }
+        for s in 0..top {
+            if recalls(table, earlier[s], x) {
+                at = i;
+                break 'variables;
+            }
+        }
+        let slot = x.p as usize;
+        earlier[slot] = i + 1;
+        top = most(top, slot + 1);
+    }
+    at
+}

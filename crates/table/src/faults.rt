@@ -1,0 +1,47 @@
+// Refusals 3 to 9: what is wrong with one term.
+ghost use mathlib.Core.Path.{_≡_};
+ghost use Rattle.table.specs.Faults.{chain, refuse, faultIf};
+use crate::ranks::fields_of;
+use crate::ranks::placed;
+use crate::ranks::rank_of;
+use crate::ranks::storing;
+use crate::ranks::typed;
+use crate::ranks::valued;
+use crate::sorts::sorted;
+use crate::words::term_at;
+
+// number unless ok, else rest.
+fn refuse(number: u32, ok: bool, rest: u32) -> u32
+    ensures { λ r. ⌜ r ≡ refuse number ok rest ⌝ }
+{
+    if ok { rest } else { number }
+}
+
+// The stores from term k inward, counted up to 17.
+fn chain(table: &[u32], k: u32) -> u32
+    ensures { λ r. ⌜ r ≡ chain 17 (now (table .entry)) k ⌝ }
+{
+    let mut at = k;
+    let mut count = 0u32;
+    while count < 17 {
+        let x = term_at(table, at);
+        if !storing(x) {
+            break;
+        }
+        at = x.p;
+        count += 1;
+    }
+    count
+}
+
+// The lowest number, 3 to 9, that refuses term i, and 0 where none does; whether it clashes is known.
+pub fn fault(table: &[u32], i: u32, clashing: bool) -> u32
+    ensures { λ r. ⌜ r ≡ faultIf (now (table .entry)) i clashing ⌝ }
+{
+    let x = term_at(table, i);
+    let fields = fields_of(rank_of(x.op));
+    let late = refuse(8, !clashing, refuse(9, chain(table, i) <= 16, 0));
+    let sorts = refuse(6, typed(table, x), refuse(7, valued(fields, x), late));
+    let early = refuse(5, placed(fields, i, x), sorts);
+    refuse(3, x.op <= 16, refuse(4, sorted(x.sort), early))
+}

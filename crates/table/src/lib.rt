@@ -1,0 +1,85 @@
+// Tables of terms, and which of them the other routines take (paper 01, "Refused because of the input", 1 to 10).
+mod clashes; // refusal 8
+mod faults; // refusals 3 to 9, term by term
+mod ranks; // what each operator asks of its fields and sorts
+mod sorts; // Boolean, vector, array
+mod words; // a table's numbers as terms
+
+pub use ranks::Rank;
+pub use ranks::rank_of;
+pub use words::Sort;
+pub use words::Term;
+use words::WORDS;
+pub use words::sort_at;
+pub use words::term_at;
+ghost use mathlib.Core.Path.{_≡_};
+ghost use Prim.Native.Nat.{pred, _<_};
+ghost use Rattle.table.specs.Admission.{refused, scan, ended, admissionWithin, admission};
+ghost use Rattle.table.specs.Faults.{firstClash};
+
+pub struct Refusal {
+    pub number: u32,
+    pub place: u64,
+}
+
+pub enum Admission {
+    Admitted,
+    Refused(Refusal),
+}
+
+fn refused(number: u32, place: u32) -> Admission
+    ensures { λ r. ⌜ r ≡ refused number place ⌝ }
+{
+    Admission::Refused(Refusal {
+        number: number,
+        place: place as u64,
+    })
+}
+
+fn ended(table: &[u32], last: u32) -> Admission
+    ensures { λ r. ⌜ r ≡ ended (now (table .entry)) last ⌝ }
+{
+    if sorts::boolean(sort_at(table, last)) {
+        Admission::Admitted
+    } else {
+        refused(10, last)
+    }
+}
+
+// The terms in order, the first clash being known; then the last term's sort.
+fn first_fault(table: &[u32], terms: u32, clash: u32) -> Admission
+    requires { ⌜ 0 < terms ⌝ }
+    requires { ⌜ clash ≡ firstClash (now table) terms ⌝ }
+    ensures { λ r. ⌜ r ≡ scan (now (table .entry)) terms 0 (ended (now (table .entry)) (pred terms)) ⌝ }
+{
+    for i in 0..terms {
+        let number = faults::fault(table, i, i == clash);
+        if number != 0 {
+            return refused(number, i);
+        }
+    }
+    ended(table, terms - 1)
+}
+
+// Admission with any limit on the count of terms.
+pub fn admit_within(table: &[u32], limit: u32) -> Admission
+    ensures { λ r. ⌜ r ≡ admissionWithin limit (now (table .entry)) ⌝ }
+{
+    let len = table.len();
+    if (len == 0) | (len % WORDS != 0) {
+        return refused(1, 0);
+    }
+    let count = len / WORDS;
+    if (limit as usize) < count {
+        return refused(2, 0);
+    }
+    let terms = count as u32;
+    first_fault(table, terms, clashes::first_clash(table, terms))
+}
+
+// Whether a table is one that the other routines take, else its first refusal.
+pub fn admit(table: &[u32]) -> Admission
+    ensures { λ r. ⌜ r ≡ admission (now (table .entry)) ⌝ }
+{
+    admit_within(table, 512)
+}

@@ -1,0 +1,189 @@
+// What each operator asks of its fields and sorts.
+ghost use mathlib.Core.Path.{_≡_};
+ghost use Rattle.ops.specs.Numbers.{opOf};
+ghost use Rattle.table.specs.Ranks.{rankOf, fieldsOf, slotted, writes};
+ghost use Rattle.table.specs.Faults.{placedAs, typedAs, typed, valuedAs, variable, storing};
+use crate::sorts::array;
+use crate::sorts::boolean;
+use crate::sorts::same_sort;
+use crate::sorts::scalar;
+use crate::sorts::vector;
+use crate::sorts::vector_of;
+use crate::words::Sort;
+use crate::words::Term;
+use crate::words::sort_at;
+
+// The lines of paper 01's table of operators, by the sorts that they ask (SMT-LIB: ranks).
+pub enum Rank {
+    Literal,
+    Input,
+    BoolUnary,
+    BoolBinary,
+    Equality,
+    Choice,
+    BvUnary,
+    BvBinary,
+    BvCompare,
+    Read,
+    Write,
+    Other,
+}
+
+// What the fields p, q, r hold: a value; a slot and a mark; one, two or three operands.
+pub enum Fields {
+    Value,
+    Slot,
+    One,
+    Two,
+    Three,
+}
+
+// The operators' ranks, in the order of their numbers.
+const RANKS: [Rank; 17] = [
+    Rank::Literal,
+    Rank::Input,
+    Rank::BoolUnary,
+    Rank::BoolBinary,
+    Rank::BoolBinary,
+    Rank::BoolBinary,
+    Rank::Equality,
+    Rank::Choice,
+    Rank::BvUnary,
+    Rank::BvBinary,
+    Rank::BvBinary,
+    Rank::BvBinary,
+    Rank::BvBinary,
+    Rank::BvBinary,
+    Rank::BvCompare,
+    Rank::Read,
+    Rank::Write,
+];
+
+pub fn rank_of(op: u32) -> Rank
+    ensures { λ r. ⌜ r ≡ rankOf (opOf op) ⌝ }
+{
+    if op < 17 {
+        RANKS[op as usize]
+    } else {
+        Rank::Other
+    }
+}
+
+pub fn fields_of(rank: Rank) -> Fields
+    ensures { λ r. ⌜ r ≡ fieldsOf rank ⌝ }
+{
+    match rank {
+        Rank::Literal => Fields::Value,
+        Rank::Input => Fields::Slot,
+        Rank::BoolUnary => Fields::One,
+        Rank::BoolBinary => Fields::Two,
+        Rank::Equality => Fields::Two,
+        Rank::Choice => Fields::Three,
+        Rank::BvUnary => Fields::One,
+        Rank::BvBinary => Fields::Two,
+        Rank::BvCompare => Fields::Two,
+        Rank::Read => Fields::Two,
+        Rank::Write => Fields::Three,
+        Rank::Other => Fields::Three,
+    }
+}
+
+// 5: each operand below term i, each unused field 0.
+pub fn placed(fields: Fields, i: u32, x: Term) -> bool
+    ensures { λ r. ⌜ r ≡ placedAs fields i x ⌝ }
+{
+    match fields {
+        Fields::Value => (x.q == 0) & (x.r == 0),
+        Fields::Slot => x.r == 0,
+        Fields::One => (x.p < i) & (x.q == 0) & (x.r == 0),
+        Fields::Two => (x.p < i) & (x.q < i) & (x.r == 0),
+        Fields::Three => (x.p < i) & (x.q < i) & (x.r < i),
+    }
+}
+
+// 6: the sorts of a term x and of its operands a, b, c.
+fn typed_as(rank: Rank, x: Sort, a: Sort, b: Sort, c: Sort) -> bool
+    ensures { λ r. ⌜ r ≡ typedAs rank x a b c ⌝ }
+{
+    match rank {
+        Rank::Literal => scalar(x),
+        Rank::Input => true,
+        Rank::BoolUnary => boolean(x) & boolean(a),
+        Rank::BoolBinary => boolean(x) & boolean(a) & boolean(b),
+        Rank::Equality => boolean(x) & scalar(a) & same_sort(a, b),
+        Rank::Choice => scalar(x) & boolean(a) & same_sort(b, x) & same_sort(c, x),
+        Rank::BvUnary => vector(x) & same_sort(a, x),
+        Rank::BvBinary => vector(x) & same_sort(a, x) & same_sort(b, x),
+        Rank::BvCompare => boolean(x) & vector(a) & same_sort(a, b),
+        Rank::Read => array(a) & vector_of(a.m, b) & vector_of(a.n, x),
+        Rank::Write => array(x) & same_sort(a, x) & vector_of(x.m, b) & vector_of(x.n, c),
+        Rank::Other => true,
+    }
+}
+
+pub fn typed(table: &[u32], x: Term) -> bool
+    ensures { λ r. ⌜ r ≡ typed (now (table .entry)) x ⌝ }
+{
+    let a = sort_at(table, x.p);
+    let b = sort_at(table, x.q);
+    let c = sort_at(table, x.r);
+    typed_as(rank_of(x.op), x.sort, a, b, c)
+}
+
+// 7: a constant that fits; a slot up to 255 and a mark up to 1.
+pub fn valued(fields: Fields, x: Term) -> bool
+    ensures { λ r. ⌜ r ≡ valuedAs fields x ⌝ }
+{
+    match fields {
+        Fields::Value => ops::fits(x.sort.n, x.p),
+        Fields::Slot => (x.p <= 255) & (x.q <= 1),
+        Fields::One => true,
+        Fields::Two => true,
+        Fields::Three => true,
+    }
+}
+
+fn slotted(fields: Fields) -> bool
+    ensures { λ r. ⌜ r ≡ slotted fields ⌝ }
+{
+    match fields {
+        Fields::Value => false,
+        Fields::Slot => true,
+        Fields::One => false,
+        Fields::Two => false,
+        Fields::Three => false,
+    }
+}
+
+// Whether a term is a variable.
+pub fn variable(x: Term) -> bool
+    ensures { λ r. ⌜ r ≡ variable x ⌝ }
+{
+    slotted(fields_of(rank_of(x.op)))
+}
+
+fn writes(rank: Rank) -> bool
+    ensures { λ r. ⌜ r ≡ writes rank ⌝ }
+{
+    match rank {
+        Rank::Literal => false,
+        Rank::Input => false,
+        Rank::BoolUnary => false,
+        Rank::BoolBinary => false,
+        Rank::Equality => false,
+        Rank::Choice => false,
+        Rank::BvUnary => false,
+        Rank::BvBinary => false,
+        Rank::BvCompare => false,
+        Rank::Read => false,
+        Rank::Write => true,
+        Rank::Other => false,
+    }
+}
+
+// Whether a term is a store.
+pub fn storing(x: Term) -> bool
+    ensures { λ r. ⌜ r ≡ storing x ⌝ }
+{
+    writes(rank_of(x.op))
+}

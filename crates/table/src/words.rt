@@ -1,0 +1,49 @@
+// A table's numbers as terms.
+ghost use mathlib.Core.Path.{_≡_};
+ghost use Rattle.table.specs.Terms.{wordAt, sortAt, termAt};
+
+// Boolean (0, 0); vector (0, n); array (m, n).
+pub struct Sort {
+    pub m: u32,
+    pub n: u32,
+}
+
+pub struct Term {
+    pub op: u32,
+    pub sort: Sort,
+    pub p: u32,
+    pub q: u32,
+    pub r: u32,
+}
+
+// The numbers of a term.
+pub const WORDS: usize = 6;
+
+// Number j of term k, 0 past the table's end.
+fn word(table: &[u32], k: u32, j: u32) -> u32
+    ensures { λ r. ⌜ r ≡ wordAt (now (table .entry)) k j ⌝ }
+{
+    let at = (k as usize) * WORDS + (j as usize);
+    if at < table.len() { table[at] } else { 0 }
+}
+
+pub fn sort_at(table: &[u32], k: u32) -> Sort
+    ensures { λ r. ⌜ r ≡ sortAt (now (table .entry)) k ⌝ }
+{
+    Sort {
+        m: word(table, k, 1),
+        n: word(table, k, 2),
+    }
+}
+
+pub fn term_at(table: &[u32], k: u32) -> Term
+    ensures { λ r. ⌜ r ≡ termAt (now (table .entry)) k ⌝ }
+{
+    Term {
+        op: word(table, k, 0),
+        sort: sort_at(table, k),
+        p: word(table, k, 3),
+        q: word(table, k, 4),
+        r: word(table, k, 5),
+    }
+}

@@ -3,3 +3,4 @@ pub mod Ranks
 pub mod Faults
 pub mod Admission
 pub mod WellFormed
+pub mod Bench

@@ -1,0 +1,152 @@
+// What admit answers.
+use crate::rules::put;
+use crate::rules::put_stores;
+use crate::rules::rule_g;
+use crate::rules::rule_h;
+use libc::STDOUT_FILENO;
+use table::Admission;
+
+// A name, then what was answered.
+fn show(name: &[u8], answer: Admission) {
+    io::write_all(STDOUT_FILENO, name);
+    match answer {
+        Admission::Admitted => {
+            io::write_all(STDOUT_FILENO, b": admitted\n");
+        }
+        Admission::Refused(refusal) => {
+            io::write_all(STDOUT_FILENO, b": refused ");
+            io::print_decimal(STDOUT_FILENO, refusal.number as u64);
+            io::write_all(STDOUT_FILENO, b" at ");
+            io::print_decimal(STDOUT_FILENO, refusal.place);
+            io::write_all(STDOUT_FILENO, b"\n");
+        }
+    }
+}
+
+// A table of two terms, the second a Boolean constant.
+fn first_term(name: &[u8], op: u32, m: u32, n: u32, p: u32, q: u32, r: u32) {
+    let mut table = [0u32; 12];
+    put(&mut table, 0, op, m, n, p, q, r);
+    show(name, table::admit(&table));
+}
+
+// A table of four: a Boolean, a vector of width 8 and an array (8, 8), all unmarked, then the term given.
+fn fourth_term(name: &[u8], op: u32, m: u32, n: u32, p: u32, q: u32, r: u32) {
+    let mut table = [0u32; 24];
+    put(&mut table, 0, 1, 0, 0, 0, 0, 0);
+    put(&mut table, 1, 1, 0, 8, 1, 0, 0);
+    put(&mut table, 2, 1, 8, 8, 2, 0, 0);
+    put(&mut table, 3, op, m, n, p, q, r);
+    show(name, table::admit(&table));
+}
+
+// Rules G and H; 16 stores and a 17th; one slot both marked and unmarked.
+pub fn bench() {
+    show(b"rule G", table::admit(&rule_g()));
+    show(b"rule H", table::admit(&rule_h()));
+    let mut sixteen = [0u32; 120];
+    put_stores(&mut sixteen, 16);
+    put(&mut sixteen, 18, 15, 0, 8, 17, 0, 0);
+    put(&mut sixteen, 19, 6, 0, 0, 18, 0, 0);
+    show(b"16 stores, read", table::admit(&sixteen));
+    let mut seventeen = [0u32; 126];
+    put_stores(&mut seventeen, 17);
+    put(&mut seventeen, 19, 15, 0, 8, 18, 0, 0);
+    put(&mut seventeen, 20, 6, 0, 0, 19, 0, 0);
+    show(b"17 stores, read", table::admit(&seventeen));
+    let mut twice = [0u32; 12];
+    put(&mut twice, 0, 1, 0, 0, 3, 0, 0);
+    put(&mut twice, 1, 1, 0, 0, 3, 1, 0);
+    show(b"one slot both marked and unmarked", table::admit(&twice));
+}
+
+// 1 and 2: the table's length.
+pub fn lengths() {
+    show(b"no number", table::admit(&[]));
+    show(b"seven numbers", table::admit(&[0, 0, 0, 0, 0, 0, 0]));
+    show(b"512 terms", table::admit(&[0u32; 3072]));
+    show(b"513 terms", table::admit(&[0u32; 3078]));
+    show(
+        b"80,000 terms, for evaluate",
+        table::admit_within(&[0u32; 480000], 80000),
+    );
+    show(
+        b"80,001 terms, for evaluate",
+        table::admit_within(&[0u32; 480006], 80000),
+    );
+}
+
+// 3 and 5: the op, the operands' numbers and the unused fields.
+pub fn fields() {
+    first_term(b"op 16, a store of nothing", 16, 8, 8, 0, 0, 0);
+    first_term(b"op 17", 17, 0, 0, 0, 0, 0);
+    first_term(b"an operand at its own term", 2, 0, 0, 0, 0, 0);
+    fourth_term(b"an operand above its term", 3, 0, 0, 0, 4, 0);
+    first_term(b"an unused field of a constant", 0, 0, 0, 1, 1, 0);
+    fourth_term(b"an unused field of not", 2, 0, 0, 0, 1, 0);
+    fourth_term(b"an unused field, and a wrong sort", 2, 0, 8, 0, 1, 0);
+    fourth_term(b"a wrong sort", 2, 0, 8, 0, 0, 0);
+}
+
+// 4, 6 and 10: the sorts.
+pub fn sorts() {
+    fourth_term(b"a vector of width 33", 0, 0, 33, 0, 0, 0);
+    fourth_term(b"an array of width 0", 1, 8, 0, 5, 0, 0);
+    fourth_term(b"an array of index width 33", 1, 33, 8, 5, 0, 0);
+    fourth_term(b"a constant array", 0, 8, 8, 0, 0, 0);
+    fourth_term(b"not of a vector", 2, 0, 0, 1, 0, 0);
+    fourth_term(b"equality of arrays", 6, 0, 0, 2, 2, 0);
+    fourth_term(b"equality of a vector and a Boolean", 6, 0, 0, 1, 0, 0);
+    fourth_term(b"equality of vectors", 6, 0, 0, 1, 1, 0);
+    fourth_term(b"a choice of arrays", 7, 8, 8, 0, 2, 2);
+    fourth_term(b"a choice of Booleans", 7, 0, 0, 0, 0, 0);
+    fourth_term(b"a read of its array's sort", 15, 8, 8, 2, 1, 0);
+    fourth_term(b"a store of a Boolean", 16, 8, 8, 2, 1, 0);
+    fourth_term(b"a read as the rule", 15, 0, 8, 2, 1, 0);
+    fourth_term(b"a store as the rule", 16, 8, 8, 2, 1, 1);
+}
+
+// 7: constants, slots and marks.
+pub fn values() {
+    first_term(b"255 at width 8", 0, 0, 8, 255, 0, 0);
+    first_term(b"256 at width 8", 0, 0, 8, 256, 0, 0);
+    first_term(b"4294967295 at width 32", 0, 0, 32, 4294967295, 0, 0);
+    first_term(b"Boolean 2", 0, 0, 0, 2, 0, 0);
+    first_term(b"slot 255, marked", 1, 0, 0, 255, 1, 0);
+    first_term(b"slot 256", 1, 0, 0, 256, 0, 0);
+    first_term(b"mark 2", 1, 0, 0, 0, 2, 0);
+}
+
+// A Boolean variable of slot 3, then a term, then a Boolean variable of slot 3.
+fn between(name: &[u8], op: u32, n: u32, q: u32, mark: u32) {
+    let mut table = [0u32; 18];
+    put(&mut table, 0, 1, 0, 0, 3, 0, 0);
+    put(&mut table, 1, op, 0, n, 3, q, 0);
+    put(&mut table, 2, 1, 0, 0, 3, mark, 0);
+    show(name, table::admit(&table));
+}
+
+// 8: one slot, another sort or mark. It is merged with the other refusals by place.
+pub fn clashes() {
+    between(b"one slot three times", 1, 0, 0, 0);
+    between(b"one slot with two sorts", 1, 8, 0, 0);
+    between(b"one slot with two marks", 1, 0, 0, 1);
+    between(b"a clash, then a wrong mark", 1, 0, 1, 2);
+    between(b"a wrong mark, then a clash", 1, 0, 2, 1);
+    between(b"op 17, then a clash", 17, 0, 0, 1);
+    let mut table = [0u32; 18];
+    put(&mut table, 0, 1, 0, 0, 3, 0, 0);
+    put(&mut table, 1, 1, 0, 0, 3, 1, 0);
+    put(&mut table, 2, 17, 0, 0, 0, 0, 0);
+    show(b"a clash, then op 17", table::admit(&table));
+}
+
+// 9: every store counts, read or not.
+pub fn chains() {
+    let mut sixteen = [0u32; 114];
+    put_stores(&mut sixteen, 16);
+    show(b"16 stores, not read", table::admit(&sixteen));
+    let mut seventeen = [0u32; 120];
+    put_stores(&mut seventeen, 17);
+    show(b"17 stores, not read", table::admit(&seventeen));
+}

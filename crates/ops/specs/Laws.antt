@@ -33,9 +33,19 @@ resultWidth Select n m = n
 resultWidth Store n m = n
 resultWidth Unknown n m = n
 
--- Values fit their sort. Only a choice asks it of its operands: the branches, of one width m.
+abbrev pub chooses : Operation → Bool
+chooses leaf = false
+chooses (unary f) = false
+chooses (strict f) = false
+chooses (absorbing f a b) = false
+chooses (shift f b) = false
+chooses choice = true
+
+-- Values fit their sort. Only a choice asks something of its operands: that the branches fit their width m.
 abbrev pub Fitting : Type 0
-Fitting = (op : Op) (n m x y z : ℕ) → fits m y ≡ true → fits m z ≡ true → fits (resultWidth op n m) (apply op n x y z) ≡ true
+Fitting =
+    (op : Op) (n m x y z : ℕ) → (chooses (operation op) ≡ true → (fits m y ≡ true) × (fits m z ≡ true))
+    → fits (resultWidth op n m) (apply op n x y z) ≡ true
 
 -- the tests of an operator: which values of the first and of the second operand settle the result
 abbrev pub first : Operation → ℕ → ℕ → Bool

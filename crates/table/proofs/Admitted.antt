@@ -15,14 +15,12 @@ use Rattle.table.specs.declared.Admission.{Admission}
 use Rattle.table.specs.declared.Admission.the-variants.{Admitted}
 use Rattle.table.specs.Terms.{words, terms, termAt, sortAt, boolean}
 use Rattle.table.specs.Faults.{fields, variable, known, sorted, placedAs, typed, valuedAs, conflicts, anyBelow, clash, chain, refuse, faultIf, fault}
-use Rattle.table.specs.Admission.{refused, refusedBy, scan, ended, admissionWithin}
+use Rattle.table.specs.Admission.{refused, scan, ended, admissionWithin}
 use Rattle.table.specs.WellFormed.{Sound, WellFormed, OneUse, AdmissionSound, AdmissionComplete, SlotsHaveOneUse}
 use Rattle.table.proofs.Searches.{none-of-any}
 use Rattle.table.proofs.Slots.{one-sort}
-use Rattle.table.proofs.Scans.{refuse-zero}
-
-not-both : (number place : ℕ) → refused number place ≡ Admitted → ⊥
-not-both number place e = let z : _≡_ {A = ℕ} 0 1 = cc in omega arith
+use Rattle.table.proofs.Scans.{not-both, scan-sound, scan-complete}
+use Rattle.table.proofs.TermFaults.{refuse-zero}
 
 -- a table that is not refused by 1 has a term
 pub one-term : (n : ℕ) → eqb n 0 || not (eqb (n % words) 0) ≡ false → 0 < n / words
@@ -65,34 +63,9 @@ unfolding fault faultIf
 sound-fault t k s =
     rw (s .is-known, s .is-sorted, s .is-placed, s .is-typed, s .is-valued, s .no-clash, le-leb (chain 17 t k) 16 (s .short))
 
--- The scan
-
-refused-by-none : (f at : ℕ) (rest : Admission) → refusedBy f at rest ≡ Admitted → (f ≡ 0) × (rest ≡ Admitted)
-refused-by-none zero at rest h = (refl, h)
-refused-by-none (suc f) at rest h = absurd (not-both (suc f) at h)
-
--- every term that was passed has no fault, and the end was reached
-scan-sound : (t : List ℕ) (left at : ℕ) (rest : Admission) → scan t left at rest ≡ Admitted → (rest ≡ Admitted) × ((k : ℕ) → at ≤ k → k < at + left → fault t k ≡ 0)
-unfolding scan
-scan-sound t zero at rest h = (h, λ k b c. absurd (omega arith))
-scan-sound t (suc left) at rest h = go (scan-sound t left (suc at) rest (refused-by-none (fault t at) at (scan t left (suc at) rest) h .1))
-  where
-    go : (rest ≡ Admitted) × ((k : ℕ) → suc at ≤ k → k < suc at + left → fault t k ≡ 0) → (rest ≡ Admitted) × ((k : ℕ) → at ≤ k → k < at + suc left → fault t k ≡ 0)
-    go later = (later .0, λ k b c. here k b c (ℕ-discrete at k))
-      where
-        here : (k : ℕ) → at ≤ k → k < at + suc left → Dec (at ≡ k) → fault t k ≡ 0
-        here k b c (yes e) = ap (fault t) (sym e) ∙ refused-by-none (fault t at) at (scan t left (suc at) rest) h .0
-        here k b c (no e) = later .1 k (omega arith) (omega arith)
-
-scan-complete : (t : List ℕ) (left at : ℕ) (rest : Admission) → ((k : ℕ) → at ≤ k → k < at + left → fault t k ≡ 0) → scan t left at rest ≡ rest
-unfolding scan
-scan-complete t zero at rest h = refl
-scan-complete t (suc left) at rest h =
-    rw (h at (omega arith) (omega arith)) (scan-complete t left (suc at) rest (λ k b c. h k (omega arith) (omega arith)))
-
 -- The whole
 
-cond-admitted : (b : Bool) (number : ℕ) (rest : Admission) → cond b (refused number 0) rest ≡ Admitted → (b ≡ false) × (rest ≡ Admitted)
+pub cond-admitted : (b : Bool) (number : ℕ) (rest : Admission) → cond b (refused number 0) rest ≡ Admitted → (b ≡ false) × (rest ≡ Admitted)
 cond-admitted true number rest h = absurd (not-both number 0 h)
 cond-admitted false number rest h = (refl, h)
 
@@ -103,16 +76,16 @@ ended-admitted false last h = absurd (not-both 10 last h)
 pub admission-sound : AdmissionSound
 unfolding admissionWithin
 admission-sound limit t h =
-    let scanned = scan t (terms t) 0 (ended t (pred (terms t))) in
+    let scanned = scan (fault t) (terms t) 0 (ended t (pred (terms t))) in
     let first = cond-admitted (eqb (length t) 0 || not (eqb (length t % words) 0)) 1 (cond (ltb limit (terms t)) (refused 2 0) scanned) h in
     let second = cond-admitted (ltb limit (terms t)) 2 scanned (first .1) in
-    let all = scan-sound t (terms t) 0 (ended t (pred (terms t))) (second .1) in
+    let all = scan-sound (fault t) (terms t) (ended t (pred (terms t))) (second .1) in
     let exact : length t % words ≡ 0 = eqb-true (length t % words) 0 (not-false (eqb (length t % words) 0) (or-neither (eqb (length t) 0) (not (eqb (length t % words) 0)) (first .0) .1)) in
     record {
       some = one-term (length t) (first .0);
       whole = omega arith;
       few = ltb-false limit (terms t) (second .0);
-      sound = λ k b. fault-sound t k (all .1 k (omega arith) (omega arith));
+      sound = λ k b. fault-sound t k (all .1 k b);
       rule = ended-admitted (boolean (sortAt t (pred (terms t)))) (pred (terms t)) (all .0);
     }
 
@@ -124,7 +97,7 @@ admission-complete limit t w =
     let exact : length t % words ≡ 0 = omega arith in
     let none : length t ≡ 0 → ⊥ = λ e. omega arith in
     rw (ne-eqb (length t) 0 none, eq-eqb (length t % words) 0 exact, le-ltb limit (terms t) (w .few))
-    (scan-complete t (terms t) 0 (ended t (pred (terms t))) (λ k b c. sound-fault t k (w .sound k (omega arith)))
+    (scan-complete (fault t) (terms t) (ended t (pred (terms t))) (λ k b. sound-fault t k (w .sound k b))
     ∙ rw (w .rule))
 
 -- One use of each slot

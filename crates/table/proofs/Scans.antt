@@ -1,141 +1,90 @@
--- The scan of the terms with the first clash known: one turn of it.
+-- A scan by any faults, turn by turn; what it says where it refuses nothing.
 -- Assumes nothing.
 use mathlib.Core.Path.{_≡_, refl, sym, ap, _∙_}
-use mathlib.Core.Bool.{Bool, true, false, not, _&&_}
-use mathlib.Core.List.{List}
 use Prim.Native.Nat.{ℕ, zero, suc, _+_, _-_, _≤_, _<_}
 use native.Mathlib.Decide.{ℕ-discrete}
 use native.Mathlib.Numerals.{add-one}
 use native.Mathlib.Omega.{arith}
-use lib.Dec.{eqb, leb}
-use borrow.Author.Tests.{eq-eqb, ne-eqb}
-use Rattle.ops.proofs.Booleans.{never, and-parts}
-use Rattle.table.specs.declared.ranks.Fields.{Fields}
-use Rattle.table.specs.declared.ranks.Fields.the-variants.{Value, Slot, One, Two, Three}
-use Rattle.table.specs.declared.words.Term.{Term}
 use Rattle.table.specs.declared.Admission.{Admission}
-use Rattle.table.specs.Terms.{termAt}
-use Rattle.table.specs.Ranks.{slotted}
-use Rattle.table.specs.Faults.{fields, known, sorted, placedAs, typed, variable, valuedAs, conflicts, anyBelow, clash, slotClash, firstClash, chain, refuse, faultIf, fault}
+use Rattle.table.specs.declared.Admission.the-variants.{Admitted}
 use Rattle.table.specs.Admission.{refused, refusedBy, scan}
-use Rattle.table.proofs.Searches.{First, first-is}
 
-slot-valued : (s : Fields) (x : Term) → slotted s ≡ true → valuedAs s x ≡ leb (x .p) 255 && leb (x .q) 1
-slot-valued Value x e = never e
-slot-valued Slot x e = refl
-slot-valued One x e = never e
-slot-valued Two x e = never e
-slot-valued Three x e = never e
+pub not-both : (number place : ℕ) → refused number place ≡ Admitted → ⊥
+not-both number place e = let z : _≡_ {A = ℕ} 0 1 = cc in omega arith
 
--- what a test has cut off does not count
-cut : (number : ℕ) (ok : Bool) (a b : ℕ) → (ok ≡ true → a ≡ b) → refuse number ok a ≡ refuse number ok b
-cut number true a b h = h refl
-cut number false a b h = refl
+pub refused-by-some : (f at : ℕ) (rest : Admission) → (f ≡ 0 → ⊥) → refused f at ≡ refusedBy f at rest
+refused-by-some zero at rest h = absurd (h refl)
+refused-by-some (suc f) at rest h = refl
 
-pub refuse-zero : (n : ℕ) (ok : Bool) (rest : ℕ) → refuse (suc n) ok rest ≡ 0 → (ok ≡ true) × (rest ≡ 0)
-refuse-zero n true rest h = (refl, h)
-refuse-zero n false rest h = absurd (omega arith)
+module _ (faults : ℕ → ℕ) where
+  -- One turn of the scan of n
+  module _ (n i : ℕ) (rest : Admission) (inside : i < n) where
+    left : n - i ≡ suc (n - (i + 1))
+    left = omega arith
 
--- a clash refuses, whatever else there is
-clash-refuses : (t : List ℕ) (i : ℕ) → faultIf t i true ≡ 0 → ⊥
-unfolding faultIf
-clash-refuses t i h =
-    let x = termAt t i in
-    let after-7 : ℕ = refuse 7 (valuedAs (fields x) x) 8 in
-    let after-6 : ℕ = refuse 6 (typed t x) after-7 in
-    let after-5 : ℕ = refuse 5 (placedAs (fields x) i x) after-6 in
-    let after-4 : ℕ = refuse 4 (sorted (x .sort)) after-5 in
-    let z3 = refuse-zero 2 (known x) after-4 h in
-    let z4 = refuse-zero 3 (sorted (x .sort)) after-5 (z3 .1) in
-    let z5 = refuse-zero 4 (placedAs (fields x) i x) after-6 (z4 .1) in
-    let z6 = refuse-zero 5 (typed t x) after-7 (z5 .1) in
-    let z : _≡_ {A = ℕ} 8 0 = refuse-zero 6 (valuedAs (fields x) x) 8 (z6 .1) .1 in
-    omega arith
-
--- where the slot is over 255, 7 comes first
-without-low : (v low any b : Bool) → v && low && (v && any) ≡ b → (v ≡ true → low ≡ true) → v && any ≡ b
-without-low true low any b e h = rw (h refl) at e
-without-low false low any b e h = e
-
-module _ (t : List ℕ) (i : ℕ) where
-  clash-of : (b : Bool) → slotClash t i ≡ b → valuedAs (fields (termAt t i)) (termAt t i) ≡ true → clash t i ≡ b
-  unfolding clash
-  clash-of b e ok =
-      let x = termAt t i in
-      without-low (variable x) (leb (x .p) 255) (anyBelow i (λ k. variable (termAt t k) && conflicts (termAt t k) x)) b e
-      (λ v. and-parts (leb (x .p) 255) (leb (x .q) 1) (sym (slot-valued (fields x) x v) ∙ ok) .0)
-
-  fault-of : (b : Bool) → slotClash t i ≡ b → faultIf t i b ≡ fault t i
-  unfolding faultIf fault
-  fault-of b e =
-      let x = termAt t i in
-      ap (λ (rest : ℕ). refuse 3 (known x) (refuse 4 (sorted (x .sort)) (refuse 5 (placedAs (fields x) i x) (refuse 6 (typed t x) rest))))
-      (cut 7 (valuedAs (fields x) x) _ _ (λ ok. ap (λ (c : Bool). refuse 8 (not c) (refuse 9 (leb (chain 17 t i) 16) 0)) (sym (clash-of b e ok))))
-
-  module _ (n first : ℕ) (h : First (slotClash t) n first) (inside : i < n) (reached : i ≤ first) where
-    -- what the code computes of term i is the definition's
-    fault-here : faultIf t i (eqb i first) ≡ fault t i
-    fault-here = go (ℕ-discrete i first)
-      where
-        go : Dec (i ≡ first) → faultIf t i (eqb i first) ≡ fault t i
-        go (yes e) = rw (eq-eqb i first e) (fault-of true (ap (slotClash t) e ∙ h .found (omega arith)))
-        go (no e) = rw (ne-eqb i first e) (fault-of false (h .before i (omega arith)))
-
-    -- no fault: the first clash is further on
-    reached-on : faultIf t i (eqb i first) ≡ 0 → i + 1 ≤ first
-    reached-on z = go (ℕ-discrete i first)
-      where
-        go : Dec (i ≡ first) → i + 1 ≤ first
-        go (yes e) = absurd (clash-refuses t i (rw (eq-eqb i first e) at z))
-        go (no e) = omega arith
-
--- One turn of the scan of n terms
-module _ (t : List ℕ) (n i : ℕ) (rest : Admission) (inside : i < n) where
-  left : n - i ≡ suc (n - (i + 1))
-  left = omega arith
-
-  scan-on : fault t i ≡ 0 → scan t (n - i) i rest ≡ scan t (n - (i + 1)) (i + 1) rest
-  unfolding scan
-  scan-on z = rw (left, z, add-one)
-
-  scan-stop : (f : ℕ) → fault t i ≡ f → (f ≡ 0 → ⊥) → scan t (n - i) i rest ≡ refused f i
-  unfolding scan
-  scan-stop zero e h = absurd (h refl)
-  scan-stop (suc f) e h = rw (left, e)
-
--- The scan has come to term i, and not past the first clash
-pub record Reached (t : List ℕ) (n first : ℕ) (rest : Admission) (i : ℕ) : Type 0 where
-  pub within : i ≤ n
-  pub reached : i ≤ first
-  pub same : scan t n 0 rest ≡ scan t (n - i) i rest
-
-module _ (t : List ℕ) (n first : ℕ) (rest : Admission) where
-  pub begun : Reached t n first rest 0
-  begun =
-      let e : n ≡ n - 0 = omega arith in
-      record { within = omega arith; reached = omega arith; same = ap (λ (left : ℕ). scan t left 0 rest) e }
-
-  module _ (i : ℕ) (h : Reached t n first rest i) where
-    pub through : n ≤ i → rest ≡ scan t n 0 rest
+    scan-on : faults i ≡ 0 → scan faults (n - i) i rest ≡ scan faults (n - (i + 1)) (i + 1) rest
     unfolding scan
-    through end =
-        let e : n - i ≡ 0 = omega arith in
-        sym (h .same ∙ rw e)
+    scan-on z = rw (left, z, add-one)
 
-    module _ (c : first ≡ firstClash t n) (inside : i < n) (f : ℕ) (e : f ≡ faultIf t i (eqb i first)) where
-      is-first : First (slotClash t) n first
-      is-first = first-is (slotClash t) n first c
+    scan-stop : (f : ℕ) → faults i ≡ f → (f ≡ 0 → ⊥) → scan faults (n - i) i rest ≡ refused f i
+    unfolding scan
+    scan-stop zero e h = absurd (h refl)
+    scan-stop (suc f) e h = rw (left, e)
 
-      here : fault t i ≡ f
-      here = sym (e ∙ fault-here t i n first is-first inside (h .reached))
+  -- The scan has come to i: what is left of it is the whole
+  pub record Scanned (n : ℕ) (rest : Admission) (i : ℕ) : Type 0 where
+    pub within : i ≤ n
+    pub same : scan faults n 0 rest ≡ scan faults (n - i) i rest
 
-      pub on : f ≡ 0 → Reached t n first rest (i + 1)
-      on z =
-          record {
-            within = omega arith;
-            reached = reached-on t i n first is-first inside (h .reached) (sym e ∙ z);
-            same = h .same ∙ scan-on t n i rest inside (here ∙ z);
-          }
+  module _ (n : ℕ) (rest : Admission) where
+    pub begun : Scanned n rest 0
+    begun =
+        let e : n ≡ n - 0 = omega arith in
+        record { within = omega arith; same = ap (λ (left : ℕ). scan faults left 0 rest) e }
 
-      pub stop : (f ≡ 0 → ⊥) → refused f i ≡ scan t n 0 rest
-      stop z = sym (h .same ∙ scan-stop t n i rest inside f here z)
+    module _ (i : ℕ) (h : Scanned n rest i) where
+      pub through : n ≤ i → rest ≡ scan faults n 0 rest
+      unfolding scan
+      through end =
+          let e : n - i ≡ 0 = omega arith in
+          sym (h .same ∙ rw e)
+
+      module _ (inside : i < n) (f : ℕ) (here : f ≡ faults i) where
+        pub on : f ≡ 0 → Scanned n rest (i + 1)
+        on z = record { within = omega arith; same = h .same ∙ scan-on n i rest inside (sym here ∙ z) }
+
+        pub stop : (f ≡ 0 → ⊥) → refused f i ≡ scan faults n 0 rest
+        stop z = sym (h .same ∙ scan-stop n i rest inside f (sym here) z)
+
+  -- What is not refused
+
+  refused-by-none : (f at : ℕ) (rest : Admission) → refusedBy f at rest ≡ Admitted → (f ≡ 0) × (rest ≡ Admitted)
+  refused-by-none zero at rest h = (refl, h)
+  refused-by-none (suc f) at rest h = absurd (not-both (suc f) at h)
+
+  -- every one that was passed has no fault, and the end was reached
+  scan-sound-from : (left at : ℕ) (rest : Admission) → scan faults left at rest ≡ Admitted → (rest ≡ Admitted) × ((k : ℕ) → at ≤ k → k < at + left → faults k ≡ 0)
+  unfolding scan
+  scan-sound-from zero at rest h = (h, λ k b c. absurd (omega arith))
+  scan-sound-from (suc left) at rest h = go (scan-sound-from left (suc at) rest (refused-by-none (faults at) at (scan faults left (suc at) rest) h .1))
+    where
+      go : (rest ≡ Admitted) × ((k : ℕ) → suc at ≤ k → k < suc at + left → faults k ≡ 0) → (rest ≡ Admitted) × ((k : ℕ) → at ≤ k → k < at + suc left → faults k ≡ 0)
+      go later = (later .0, λ k b c. here k b c (ℕ-discrete at k))
+        where
+          here : (k : ℕ) → at ≤ k → k < at + suc left → Dec (at ≡ k) → faults k ≡ 0
+          here k b c (yes e) = ap faults (sym e) ∙ refused-by-none (faults at) at (scan faults left (suc at) rest) h .0
+          here k b c (no e) = later .1 k (omega arith) (omega arith)
+
+  pub scan-sound : (n : ℕ) (rest : Admission) → scan faults n 0 rest ≡ Admitted → (rest ≡ Admitted) × ((k : ℕ) → k < n → faults k ≡ 0)
+  scan-sound n rest h =
+      let all = scan-sound-from n 0 rest h in
+      (all .0, λ k b. all .1 k (omega arith) (omega arith))
+
+  scan-complete-from : (left at : ℕ) (rest : Admission) → ((k : ℕ) → at ≤ k → k < at + left → faults k ≡ 0) → scan faults left at rest ≡ rest
+  unfolding scan
+  scan-complete-from zero at rest h = refl
+  scan-complete-from (suc left) at rest h =
+      rw (h at (omega arith) (omega arith)) (scan-complete-from left (suc at) rest (λ k b c. h k (omega arith) (omega arith)))
+
+  pub scan-complete : (n : ℕ) (rest : Admission) → ((k : ℕ) → k < n → faults k ≡ 0) → scan faults n 0 rest ≡ rest
+  scan-complete n rest h = scan-complete-from n 0 rest (λ k b c. h k (omega arith))

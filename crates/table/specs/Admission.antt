@@ -19,10 +19,10 @@ abbrev pub refusedBy : ℕ → ℕ → Admission → Admission
 refusedBy zero at rest = rest
 refusedBy (suc f) at rest = refused (suc f) at
 
--- term by term, place its number: left terms from at on, then the rest
-unfoldable pub scan : List ℕ → ℕ → ℕ → Admission → Admission
-scan t zero at rest = rest
-scan t (suc left) at rest = refusedBy (fault t at) at (scan t left (suc at) rest)
+-- one after the other, place its number: what faults says of left of them, from at on; then the rest
+unfoldable pub scan : (ℕ → ℕ) → ℕ → ℕ → Admission → Admission
+scan faults zero at rest = rest
+scan faults (suc left) at rest = refusedBy (faults at) at (scan faults left (suc at) rest)
 
 -- 10 last term not Boolean (its number)
 abbrev pub ended : List ℕ → ℕ → Admission
@@ -33,7 +33,7 @@ unfoldable pub admissionWithin : ℕ → List ℕ → Admission
 admissionWithin limit t =
     cond (eqb (length t) 0 || not (eqb (length t % words) 0)) (refused 1 0)
     (cond (ltb limit (terms t)) (refused 2 0)
-    (scan t (terms t) 0 (ended t (pred (terms t)))))
+    (scan (fault t) (terms t) 0 (ended t (pred (terms t)))))
 
 -- 2 more than 512 terms, or for evaluate 80,000
 abbrev pub admission : List ℕ → Admission

@@ -11,14 +11,14 @@ use crate::sorts::sorted;
 use crate::words::term_at;
 
 // number unless ok, else rest.
-fn refuse(number: u32, ok: bool, rest: u32) -> u32
+pub fn refuse(number: u32, ok: bool, rest: u32) -> u32
     ensures { λ r. ⌜ r ≡ refuse number ok rest ⌝ }
 {
     if ok { rest } else { number }
 }
 
 // The stores from term k inward, counted up to 17.
-fn chain(table: &[u32], k: u32) -> u32
+pub fn chain(table: &[u32], k: u32) -> u32
     ensures { λ r. ⌜ r ≡ chain 17 (now (table .entry)) k ⌝ }
 {
     let mut at = k;

@@ -5,8 +5,14 @@ mod ranks; // what each operator asks of its fields and sorts
 mod sorts; // Boolean, vector, array
 mod words; // a table's numbers as terms
 
+pub use faults::chain;
+pub use faults::refuse;
 pub use ranks::Rank;
 pub use ranks::rank_of;
+pub use ranks::storing;
+pub use ranks::variable;
+pub use sorts::array;
+pub use sorts::scalar;
 pub use words::Sort;
 pub use words::Term;
 use words::WORDS;
@@ -14,8 +20,9 @@ pub use words::sort_at;
 pub use words::term_at;
 ghost use mathlib.Core.Path.{_≡_};
 ghost use Prim.Native.Nat.{pred, _<_};
-ghost use Rattle.table.specs.Admission.{refused, scan, ended, admissionWithin, admission};
-ghost use Rattle.table.specs.Faults.{firstClash};
+ghost use Rattle.table.specs.Terms.{terms};
+ghost use Rattle.table.specs.Admission.{refused, refusedBy, scan, ended, admissionWithin, admission};
+ghost use Rattle.table.specs.Faults.{fault, firstClash};
 
 pub struct Refusal {
     pub number: u32,
@@ -27,13 +34,33 @@ pub enum Admission {
     Refused(Refusal),
 }
 
-fn refused(number: u32, place: u32) -> Admission
+// A refusal by its number and place.
+pub fn refused(number: u32, place: u64) -> Admission
     ensures { λ r. ⌜ r ≡ refused number place ⌝ }
 {
     Admission::Refused(Refusal {
         number: number,
-        place: place as u64,
+        place: place,
     })
+}
+
+// Refused by a number, at a place; by none where it is 0: then the rest.
+pub fn refused_by(number: u32, place: u64, rest: Admission) -> Admission
+    ensures { λ r. ⌜ r ≡ refusedBy number place rest ⌝ }
+{
+    if number == 0 {
+        rest
+    } else {
+        refused(number, place)
+    }
+}
+
+// The count of terms of a table that has so few.
+pub fn count(table: &[u32]) -> u32
+    requires { ⌜ terms (now table) < 4294967296 ⌝ }
+    ensures { λ r. ⌜ r ≡ terms (now (table .entry)) ⌝ }
+{
+    (table.len() / WORDS) as u32
 }
 
 fn ended(table: &[u32], last: u32) -> Admission
@@ -42,7 +69,7 @@ fn ended(table: &[u32], last: u32) -> Admission
     if sorts::boolean(sort_at(table, last)) {
         Admission::Admitted
     } else {
-        refused(10, last)
+        refused(10, last as u64)
     }
 }
 
@@ -50,12 +77,12 @@ fn ended(table: &[u32], last: u32) -> Admission
 fn first_fault(table: &[u32], terms: u32, clash: u32) -> Admission
     requires { ⌜ 0 < terms ⌝ }
     requires { ⌜ clash ≡ firstClash (now table) terms ⌝ }
-    ensures { λ r. ⌜ r ≡ scan (now (table .entry)) terms 0 (ended (now (table .entry)) (pred terms)) ⌝ }
+    ensures { λ r. ⌜ r ≡ scan (fault (now (table .entry))) terms 0 (ended (now (table .entry)) (pred terms)) ⌝ }
 {
     for i in 0..terms {
         let number = faults::fault(table, i, i == clash);
         if number != 0 {
-            return refused(number, i);
+            return refused(number, i as u64);
         }
     }
     ended(table, terms - 1)

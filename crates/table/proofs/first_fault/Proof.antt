@@ -3,7 +3,9 @@ use mathlib.Core.Path.{_≡_, ap, _∙_}
 use native.Mathlib.Omega.{arith}
 use borrow.Author.Needs.{needs}
 use Rattle.table.specs.Admission.{ended}
-use Rattle.table.proofs.Scans.{Reached, begun, on, stop, through}
+use Rattle.table.specs.Faults.{fault}
+use Rattle.table.proofs.Scans.{stop, through}
+use Rattle.table.proofs.TermFaults.{Reached, begun-reached, here, on-reached}
 use Rattle.table.proofs.first_fault.Statement.{statement}
 use Rattle.table.proofs.first_fault.Tie as tie
 
@@ -16,16 +18,18 @@ abbrev μ-loop : tie.MeasureT-loop
 loop-holds : tie.Need-loop-holds Inv-loop μ-loop
 loop-holds c =
     let a = c .before .args in
-    begun (a .table .now) (a .terms) (a .clash) (ended (a .table .now) (pred (a .terms)))
+    begun-reached (a .table .now) (a .terms) (a .clash) (ended (a .table .now) (pred (a .terms)))
 
 returns : tie.Need-returns Inv-loop μ-loop
 returns c =
     let s = c .before .before .before .before .before .before in
     let l = c .before .before .before .before .loop in
     let f = c .before .before .fault in
+    let rest = ended (s .args .table .now) (pred (s .args .terms)) in
     c .refused .ensures
-    ∙ stop (s .args .table .now) (s .args .terms) (s .args .clash) (ended (s .args .table .now) (pred (s .args .terms)))
-    (l .i) (l .inv) (s .pre .1) (c .before .before .before .loop-test .taken) (f .result) (f .ensures) (c .before .if1 .taken)
+    ∙ stop (fault (s .args .table .now)) (s .args .terms) rest (l .i) (l .inv .scanned) (c .before .before .before .loop-test .taken) (f .result)
+    (here (s .args .table .now) (s .args .terms) (s .args .clash) rest (l .i) (l .inv) (s .pre .1) (c .before .before .before .loop-test .taken) (f .result) (f .ensures))
+    (c .before .if1 .taken)
 
 add-i : tie.Need-add-i Inv-loop μ-loop
 add-i c = omega arith
@@ -38,7 +42,7 @@ loop-again c =
     let s = c .before .before .before .before .before in
     let l = c .before .before .before .loop in
     let f = c .before .fault in
-    on (s .args .table .now) (s .args .terms) (s .args .clash) (ended (s .args .table .now) (pred (s .args .terms)))
+    on-reached (s .args .table .now) (s .args .terms) (s .args .clash) (ended (s .args .table .now) (pred (s .args .terms)))
     (l .i) (l .inv) (s .pre .1) (c .before .before .loop-test .taken) (f .result) (f .ensures) (c .if1 .left)
 
 sub-ended : tie.Need-sub-ended Inv-loop μ-loop
@@ -51,8 +55,7 @@ returns-2 c =
     let last : s .args .terms - 1 ≡ pred (s .args .terms) = omega arith in
     c .ended .ensures
     ∙ ap (ended (s .args .table .now)) last
-    ∙ through (s .args .table .now) (s .args .terms) (s .args .clash) (ended (s .args .table .now) (pred (s .args .terms)))
-    (l .i) (l .inv) (c .before .loop-test .left)
+    ∙ through (fault (s .args .table .now)) (s .args .terms) (ended (s .args .table .now) (pred (s .args .terms))) (l .i) (l .inv .scanned) (c .before .loop-test .left)
 
 pub first-fault-spec : {M : Type 1} → statement M
 first-fault-spec =
@@ -62,6 +65,7 @@ first-fault-spec =
     μ-loop
     loop-holds
     (λ c κs. search needs)
+    (λ c. omega arith)
     (λ c κs. search needs)
     returns
     add-i

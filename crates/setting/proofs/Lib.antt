@@ -1,0 +1,4 @@
+pub mod Looks
+pub mod Latest
+pub mod Backward
+pub mod Checked

@@ -1,0 +1,4 @@
+pub mod Cells
+pub mod Arrays
+pub mod Check
+pub mod Interpretation

@@ -1,0 +1,87 @@
+// The cells: the value of the earliest with a slot and an index; and 14 and 15.
+ghost use mathlib.Core.Path.{_≡_};
+ghost use Prim.Native.Nat.{_+_, _*_, _/_, _≤_};
+ghost use lib.ListN.{length};
+ghost use Rattle.table.specs.declared.Admission.the-variants.{Admitted};
+ghost use Rattle.table.specs.Terms.{terms};
+ghost use Rattle.table.specs.Admission.{refusedBy, scan};
+ghost use Rattle.table.specs.WellFormed.{WellFormed};
+ghost use Rattle.setting.specs.Arrays.{Entries};
+ghost use Rattle.setting.specs.Cells.{cellAt, matches, lookFrom};
+ghost use Rattle.setting.specs.Check.{cellFault};
+use crate::arrays::fill_entries;
+use crate::arrays::slot_sort;
+use table::Admission;
+use table::refuse;
+
+pub struct Cell {
+    pub slot: u32,
+    pub index: u32,
+    pub value: u32,
+}
+
+// Cell k of a row of numbers.
+fn cell_at(cells: &[u32], k: usize) -> Cell
+    requires { ⌜ k * 3 + 3 ≤ length (now cells) ⌝ }
+    ensures { λ r. ⌜ r ≡ cellAt (now (cells .entry)) k ⌝ }
+{
+    let at = k * 3;
+    Cell {
+        slot: cells[at],
+        index: cells[at + 1],
+        value: cells[at + 2],
+    }
+}
+
+fn matches(c: Cell, slot: u32, index: u32) -> bool
+    ensures { λ r. ⌜ r ≡ matches c slot index ⌝ }
+{
+    (c.slot == slot) & (c.index == index)
+}
+
+// The value of the earliest of count cells with this slot and index, else the other.
+pub fn look(cells: &[u32], count: usize, slot: u32, index: u32, other: u32) -> u32
+    requires { ⌜ count * 3 ≤ length (now cells) ⌝ }
+    ensures { λ r. ⌜ r ≡ lookFrom (cellAt (now (cells .entry))) count 0 slot index other ⌝ }
+{
+    for k in 0..count {
+        let c = cell_at(cells, k);
+        if matches(c, slot, index) {
+            return c.value;
+        }
+    }
+    other
+}
+
+// Cell k is checked before the rest.
+pub fn checked_cell(
+    table: &[u32],
+    entries: &[u32; 256],
+    c: Cell,
+    k: u64,
+    rest: Admission,
+) -> Admission
+    requires { ⌜ Entries (now table) (terms (now table)) (now entries) ⌝ }
+    ensures { λ r. ⌜ r ≡ refusedBy (cellFault (now (table .entry)) c) k rest ⌝ }
+{
+    let sort = slot_sort(table, entries, c.slot);
+    let fitting = ops::fits(sort.m, c.index) & ops::fits(sort.n, c.value);
+    let number = refuse(14, table::array(sort), refuse(15, fitting, 0));
+    table::refused_by(number, k, rest)
+}
+
+// The cells, from the last to the first, so that the first has the last word.
+pub fn cells_checked(table: &[u32], cells: &[u32]) -> Admission
+    requires { ⌜ WellFormed 80000 (now table) ⌝ }
+    ensures { λ r. ⌜ r ≡ scan (λ k. cellFault (now (table .entry)) (cellAt (now (cells .entry)) k)) (length (now (cells .entry)) / 3) 0 Admitted ⌝ }
+{
+    let mut entries = [0u32; 256];
+    fill_entries(table, &mut entries);
+    let mut rest = Admission::Admitted;
+    let mut k = cells.len() / 3;
+    while 0 < k {
+        k -= 1;
+        rest = checked_cell(table, &entries, cell_at(cells, k), k as u64, rest);
+    }
+    rest
+}

@@ -1,0 +1,56 @@
+-- What a sound term's sort and slot say of numbers.
+-- Assumes nothing.
+use mathlib.Core.Path.{_≡_, refl, sym, ap, _∙_}
+use mathlib.Core.Bool.{Bool, true, false, _&&_, _||_}
+use mathlib.Core.Logic.{⊎-elim}
+use mathlib.Core.List.{List}
+use Prim.Native.Nat.{ℕ, _≤_, _<_}
+use native.Mathlib.Omega.{arith}
+use lib.Dec.{eqb, ltb, leb}
+use borrow.Author.Tests.{eqb-true, ltb-true, leb-true}
+use Rattle.ops.proofs.Booleans.{and-parts, or-parts}
+use Rattle.table.specs.declared.words.Sort.{Sort}
+use Rattle.table.specs.Terms.{termAt, sortAt, boolean, array}
+use Rattle.table.specs.Faults.{variable, fields, width, sorted}
+use Rattle.table.specs.WellFormed.{Sound}
+use Rattle.table.proofs.TermFaults.{slot-valued}
+
+-- widths are at most 32, and an array's are at least 1
+pub record Widths (s : Sort) : Type 0 where
+  pub m-most : s .m ≤ 32
+  pub n-most : s .n ≤ 32
+  pub array-n : array s ≡ true → 0 < s .n
+
+width-of : (n : ℕ) → width n ≡ true → (0 < n) × (n ≤ 32)
+width-of n h =
+    let parts = and-parts (ltb 0 n) (leb n 32) h in
+    (ltb-true 0 n (parts .0), leb-true n 32 (parts .1))
+
+pub widths : (s : Sort) → sorted s ≡ true → Widths s
+widths s h = ⊎-elim (λ k. ⊎-elim bool vec (or-parts (boolean s) (eqb (s .m) 0 && width (s .n)) k)) arr (or-parts (boolean s || (eqb (s .m) 0 && width (s .n))) (width (s .m) && width (s .n)) h)
+  where
+    bool : boolean s ≡ true → Widths s
+    bool k =
+        let parts = and-parts (eqb (s .m) 0) (eqb (s .n) 0) k in
+        let zm : s .m ≡ 0 = eqb-true (s .m) 0 (parts .0) in
+        let zn : s .n ≡ 0 = eqb-true (s .n) 0 (parts .1) in
+        record { m-most = omega arith; n-most = omega arith; array-n = λ a. let b : 0 < s .m = ltb-true 0 (s .m) a in omega arith }
+
+    vec : eqb (s .m) 0 && width (s .n) ≡ true → Widths s
+    vec k =
+        let parts = and-parts (eqb (s .m) 0) (width (s .n)) k in
+        let zm : s .m ≡ 0 = eqb-true (s .m) 0 (parts .0) in
+        let n = width-of (s .n) (parts .1) in
+        record { m-most = omega arith; n-most = n .1; array-n = λ a. n .0 }
+
+    arr : width (s .m) && width (s .n) ≡ true → Widths s
+    arr k =
+        let parts = and-parts (width (s .m)) (width (s .n)) k in
+        let n = width-of (s .n) (parts .1) in
+        record { m-most = width-of (s .m) (parts .0) .1; n-most = n .1; array-n = λ a. n .0 }
+
+-- a variable's slot is at most 255
+pub slot-most : (t : List ℕ) (k : ℕ) → Sound t k → variable (termAt t k) ≡ true → termAt t k .p ≤ 255
+slot-most t k s v =
+    let x = termAt t k in
+    leb-true (x .p) 255 (and-parts (leb (x .p) 255) (leb (x .q) 1) (sym (slot-valued (fields x) x v) ∙ s .is-valued) .0)

@@ -123,3 +123,9 @@ slots-have-one-use limit t w j k b c vj vk p = go (decLt j k) (ℕ-discrete j k)
     go (no l) (no e) =
         let other = same-use limit t w k j (omega arith) b vk vj (sym p) in
         (sym (other .0), sym (other .1))
+
+-- a wider limit takes what a narrower one takes
+pub wider : (limit limit′ : ℕ) (t : List ℕ) → limit ≤ limit′ → WellFormed limit t → WellFormed limit′ t
+wider limit limit′ t b w =
+    let few : terms t ≤ limit = w .few in
+    record { some = w .some; whole = w .whole; few = omega arith; sound = w .sound; rule = w .rule }

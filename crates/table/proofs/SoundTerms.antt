@@ -4,15 +4,22 @@ use mathlib.Core.Path.{_≡_, refl, sym, ap, _∙_}
 use mathlib.Core.Bool.{Bool, true, false, _&&_, _||_}
 use mathlib.Core.Logic.{⊎-elim}
 use mathlib.Core.List.{List}
-use Prim.Native.Nat.{ℕ, _≤_, _<_}
+use Prim.Native.Nat.{ℕ, _*_, _≤_, _<_}
+use native.Mathlib.Decide.{decLt}
 use native.Mathlib.Omega.{arith}
+use lib.ListN.{length, List·getD-eq-default}
 use lib.Dec.{eqb, ltb, leb}
 use borrow.Author.Tests.{eqb-true, ltb-true, leb-true}
-use Rattle.ops.proofs.Booleans.{and-parts, or-parts}
+use Rattle.ops.specs.Numbers.{opOf}
+use Rattle.ops.proofs.Booleans.{never, and-parts, or-parts}
+use Rattle.table.specs.declared.ranks.Rank.{Rank}
+use Rattle.table.specs.declared.ranks.Rank.the-variants.{Literal, Input, BoolUnary, BoolBinary, Equality, Choice, BvUnary, BvBinary, BvCompare, Read, Write, Other}
 use Rattle.table.specs.declared.words.Sort.{Sort}
-use Rattle.table.specs.Terms.{termAt, sortAt, boolean, array}
-use Rattle.table.specs.Faults.{variable, fields, width, sorted}
-use Rattle.table.specs.WellFormed.{Sound}
+use Rattle.table.specs.declared.words.Term.{Term}
+use Rattle.table.specs.Terms.{terms, wordAt, termAt, sortAt, boolean, array}
+use Rattle.table.specs.Ranks.{rankOf, fieldsOf, writes}
+use Rattle.table.specs.Faults.{rank, variable, storing, fields, width, sorted, placedAs}
+use Rattle.table.specs.WellFormed.{Sound, WellFormed}
 use Rattle.table.proofs.TermFaults.{slot-valued}
 
 -- widths are at most 32, and an array's are at least 1
@@ -54,3 +61,41 @@ pub slot-most : (t : List ℕ) (k : ℕ) → Sound t k → variable (termAt t k)
 slot-most t k s v =
     let x = termAt t k in
     leb-true (x .p) 255 (and-parts (leb (x .p) 255) (leb (x .q) 1) (sym (slot-valued (fields x) x v) ∙ s .is-valued) .0)
+
+-- a store's array is an earlier term
+writes-placed : (r : Rank) (i : ℕ) (x : Term) → writes r ≡ true → placedAs (fieldsOf r) i x ≡ true → x .p < i
+writes-placed Literal i x s h = never s
+writes-placed Input i x s h = never s
+writes-placed BoolUnary i x s h = never s
+writes-placed BoolBinary i x s h = never s
+writes-placed Equality i x s h = never s
+writes-placed Choice i x s h = never s
+writes-placed BvUnary i x s h = never s
+writes-placed BvBinary i x s h = never s
+writes-placed BvCompare i x s h = never s
+writes-placed Read i x s h = never s
+writes-placed Write i x s h = ltb-true (x .p) i (and-parts (ltb (x .p) i) (ltb (x .q) i) (and-parts (ltb (x .p) i && ltb (x .q) i) (ltb (x .r) i) h .0) .0)
+writes-placed Other i x s h = never s
+
+-- past a table's end every number is 0
+module _ (limit : ℕ) (t : List ℕ) (w : WellFormed limit t) where
+  pub past-end : (k j : ℕ) → terms t ≤ k → wordAt t k j ≡ 0
+  past-end k j b =
+      let whole : length t ≡ terms t * 6 = w .whole in
+      List·getD-eq-default t 0 (omega arith)
+
+  -- so widths are at most 32 everywhere
+  pub n-most-at : (k : ℕ) → sortAt t k .n ≤ 32
+  n-most-at k = go (decLt k (terms t))
+    where
+      go : Dec (k < terms t) → sortAt t k .n ≤ 32
+      go (yes b) = widths (sortAt t k) (w .sound k b .is-sorted) .n-most
+      go (no b) = omega (arith, past-end k 2 (omega arith))
+
+  -- and a store stands on an earlier term
+  pub store-below : (k : ℕ) → storing (termAt t k) ≡ true → termAt t k .p < k
+  store-below k s = go (decLt k (terms t))
+    where
+      go : Dec (k < terms t) → termAt t k .p < k
+      go (yes b) = writes-placed (rank (termAt t k)) k (termAt t k) s (w .sound k b .is-placed)
+      go (no b) = never (sym (ap (λ (op : ℕ). writes (rankOf (opOf op))) (past-end k 0 (omega arith))) ∙ s)

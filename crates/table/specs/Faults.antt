@@ -13,7 +13,7 @@ use Rattle.table.specs.declared.ranks.Fields.the-variants.{Value, Slot, 
 use Rattle.table.specs.declared.words.Sort.{Sort}
 use Rattle.table.specs.declared.words.Term.{Term}
 use Rattle.table.specs.Terms.{sortAt, termAt, boolean, vector, scalar, array, vectorOf, sameSort}
-use Rattle.table.specs.Ranks.{rankOf, fieldsOf, slotted, writes}
+use Rattle.table.specs.Ranks.{rankOf, fieldsOf, slotted, immediate, reads, writes}
 
 abbrev pub rank : Term → Rank
 rank x = rankOf (opOf (x .op))
@@ -23,6 +23,12 @@ fields x = fieldsOf (rank x)
 
 abbrev pub variable : Term → Bool
 variable x = slotted (fields x)
+
+abbrev pub constant : Term → Bool
+constant x = immediate (fields x)
+
+abbrev pub reading : Term → Bool
+reading x = reads (rank x)
 
 abbrev pub storing : Term → Bool
 storing x = writes (rank x)

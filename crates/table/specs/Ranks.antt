@@ -52,6 +52,29 @@ slotted One = false
 slotted Two = false
 slotted Three = false
 
+-- a constant's fields
+abbrev pub immediate : Fields → Bool
+immediate Value = true
+immediate Slot = false
+immediate One = false
+immediate Two = false
+immediate Three = false
+
+-- a read's rank
+abbrev pub reads : Rank → Bool
+reads Literal = false
+reads Input = false
+reads BoolUnary = false
+reads BoolBinary = false
+reads Equality = false
+reads Choice = false
+reads BvUnary = false
+reads BvBinary = false
+reads BvCompare = false
+reads Read = true
+reads Write = false
+reads Other = false
+
 -- a store's rank
 abbrev pub writes : Rank → Bool
 writes Literal = false

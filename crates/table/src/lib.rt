@@ -8,7 +8,9 @@ mod words; // a table's numbers as terms
 pub use faults::chain;
 pub use faults::refuse;
 pub use ranks::Rank;
+pub use ranks::constant;
 pub use ranks::rank_of;
+pub use ranks::reading;
 pub use ranks::storing;
 pub use ranks::variable;
 pub use sorts::array;

@@ -1,8 +1,8 @@
 // What each operator asks of its fields and sorts.
 ghost use mathlib.Core.Path.{_≡_};
 ghost use Rattle.ops.specs.Numbers.{opOf};
-ghost use Rattle.table.specs.Ranks.{rankOf, fieldsOf, slotted, writes};
-ghost use Rattle.table.specs.Faults.{placedAs, typedAs, typed, valuedAs, variable, storing};
+ghost use Rattle.table.specs.Ranks.{rankOf, fieldsOf, slotted, immediate, reads, writes};
+ghost use Rattle.table.specs.Faults.{placedAs, typedAs, typed, valuedAs, variable, constant, reading, storing};
 use crate::sorts::array;
 use crate::sorts::boolean;
 use crate::sorts::same_sort;
@@ -160,6 +160,51 @@ pub fn variable(x: Term) -> bool
     ensures { λ r. ⌜ r ≡ variable x ⌝ }
 {
     slotted(fields_of(rank_of(x.op)))
+}
+
+fn immediate(fields: Fields) -> bool
+    ensures { λ r. ⌜ r ≡ immediate fields ⌝ }
+{
+    match fields {
+        Fields::Value => true,
+        Fields::Slot => false,
+        Fields::One => false,
+        Fields::Two => false,
+        Fields::Three => false,
+    }
+}
+
+// Whether a term is a constant.
+pub fn constant(x: Term) -> bool
+    ensures { λ r. ⌜ r ≡ constant x ⌝ }
+{
+    immediate(fields_of(rank_of(x.op)))
+}
+
+fn reads(rank: Rank) -> bool
+    ensures { λ r. ⌜ r ≡ reads rank ⌝ }
+{
+    match rank {
+        Rank::Literal => false,
+        Rank::Input => false,
+        Rank::BoolUnary => false,
+        Rank::BoolBinary => false,
+        Rank::Equality => false,
+        Rank::Choice => false,
+        Rank::BvUnary => false,
+        Rank::BvBinary => false,
+        Rank::BvCompare => false,
+        Rank::Read => true,
+        Rank::Write => false,
+        Rank::Other => false,
+    }
+}
+
+// Whether a term is a read.
+pub fn reading(x: Term) -> bool
+    ensures { λ r. ⌜ r ≡ reading x ⌝ }
+{
+    reads(rank_of(x.op))
 }
 
 fn writes(rank: Rank) -> bool

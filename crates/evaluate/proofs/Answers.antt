@@ -1,0 +1,74 @@
+-- What an answer leaves: of an admission, of what was asked before, and of the room.
+-- Assumes nothing.
+use mathlib.Core.Path.{_≡_, refl, sym, _∙_}
+use mathlib.Core.Bool.{Bool, true, false, cond}
+use mathlib.Core.List.{List, _++_}
+use Prim.Native.Nat.{ℕ, _-_, _*_, _≤_}
+use lib.Dec.{ltb}
+use lib.ListN.{drop}
+use borrow.Author.Tests.{ltb-false}
+use Rattle.ops.proofs.Booleans.{never}
+use Rattle.table.specs.declared.Admission.{Admission}
+use Rattle.table.specs.declared.Admission.the-variants.{Admitted, Refused}
+use Rattle.table.specs.Terms.{terms}
+use Rattle.table.specs.Admission.{admissionWithin}
+use Rattle.setting.specs.Cells.{look}
+use Rattle.setting.specs.Check.{check}
+use Rattle.setting.specs.Interpretation.{interpret}
+use Rattle.evaluate.specs.declared.Evaluation.{Evaluation}
+use Rattle.evaluate.specs.declared.Evaluation.the-variants.{Evaluated, NotEvaluated}
+use Rattle.evaluate.specs.Values.{numbers}
+use Rattle.evaluate.specs.Steps.{steps}
+use Rattle.evaluate.specs.Evaluation.{admits, evaluates, andThen, notEvaluated, afford, ready, roomAfter}
+
+pub is-admitted : (a : Admission) → admits a ≡ true → a ≡ Admitted
+is-admitted Admitted h = refl
+is-admitted (Refused r) h = never h
+
+-- what is refused stays so, whatever would come after
+pub stands : (a : Admission) (x y : Evaluation) → admits a ≡ false → andThen a x ≡ andThen a y
+stands Admitted x y h = never (sym h)
+stands (Refused r) x y h = refl
+
+-- What was not refused
+
+both : (a : Admission) (e : Evaluation) → evaluates (andThen a e) ≡ true → (a ≡ Admitted) × (evaluates e ≡ true)
+both Admitted e h = (refl, h)
+both (Refused r) e h = never h
+
+room-enough : (b : Bool) (number place : ℕ) (rest : Evaluation) → evaluates (cond b (notEvaluated number place) rest) ≡ true → (b ≡ false) × (evaluates rest ≡ true)
+room-enough true number place rest h = never h
+room-enough false number place rest h = (refl, h)
+
+afforded : (w : List ℕ) (each allowance room : ℕ) → evaluates (afford w each allowance room) ≡ true → (terms w * each ≤ room) × (steps w (terms w) ≤ allowance)
+unfolding afford
+afforded w each allowance room h =
+    let spent : ℕ = steps w (terms w) in
+    let rest : Evaluation = cond (ltb allowance spent) (notEvaluated 23 spent) (Evaluated (record { steps = spent; left = allowance - spent })) in
+    let first = room-enough (ltb room (terms w * each)) 22 (terms w * each) rest h in
+    let second = room-enough (ltb allowance spent) 23 spent (Evaluated (record { steps = spent; left = allowance - spent })) (first .1) in
+    (ltb-false room (terms w * each) (first .0), ltb-false allowance spent (second .0))
+
+-- an answer that is no refusal: the table is admitted, the setting checked, the room long enough and the allowance large enough
+pub record Passed (limit : ℕ) (w values cells : List ℕ) (each allowance room : ℕ) : Type 0 where
+  pub admitted : admissionWithin limit w ≡ Admitted
+  pub checked : check w values cells ≡ Admitted
+  pub long : terms w * each ≤ room
+  pub large : steps w (terms w) ≤ allowance
+
+pub passed : (limit : ℕ) (w values cells : List ℕ) (each allowance room : ℕ) → evaluates (ready limit w values cells each allowance room) ≡ true → Passed limit w values cells each allowance room
+passed limit w values cells each allowance room h =
+    let first = both (admissionWithin limit w) (andThen (check w values cells) (afford w each allowance room)) h in
+    let second = both (check w values cells) (afford w each allowance room) (first .1) in
+    let last = afforded w each allowance room (second .1) in
+    record { admitted = first .0; checked = second .0; long = last .0; large = last .1 }
+
+-- The room
+
+pub room-filled : (e : Evaluation) (w values cells room : List ℕ) → evaluates e ≡ true → numbers w (interpret values (look cells)) (terms w) ++ drop (terms w) room ≡ roomAfter e w values cells room
+room-filled (Evaluated s) w values cells room h = refl
+room-filled (NotEvaluated r) w values cells room h = never h
+
+pub room-kept : (e : Evaluation) (w values cells room : List ℕ) → evaluates e ≡ false → room ≡ roomAfter e w values cells room
+room-kept (Evaluated s) w values cells room h = never (sym h)
+room-kept (NotEvaluated r) w values cells room h = refl

@@ -1,0 +1,9 @@
+pub mod Chains
+pub mod Folds
+pub mod Sums
+pub mod Answers
+pub mod Operands
+pub mod Meaning
+pub mod Fronts
+pub mod Runs
+pub mod Fitting

@@ -1,0 +1,37 @@
+use Rattle.evaluate.specs.Turns.{numberOf}
+use mathlib.Core.Path.{sym, _∙_}
+use borrow.Author.Needs.{needs}
+use Rattle.evaluate.proofs.turns.number.Statement.{statement}
+use Rattle.evaluate.proofs.turns.number.Tie as tie
+
+returns : tie.Need-returns
+unfolding numberOf
+returns c = c .read .ensures ∙ rw (c .before .number-at .ensures, sym (c .before .before .before .reading .ensures) ∙ c .before .before .if1 .taken)
+
+returns-2 : tie.Need-returns-2
+unfolding numberOf
+returns-2 c = rw (sym (c .before .before .before .reading .ensures) ∙ c .before .before .if1 .left, sym (c .before .constant .ensures) ∙ c .if2 .taken)
+
+returns-3 : tie.Need-returns-3
+unfolding numberOf
+returns-3 c = c .variable-number .ensures ∙ rw (sym (c .before .before .before .before .before .before .reading .ensures) ∙ c .before .before .before .before .before .if1 .left, sym (c .before .before .before .before .constant .ensures) ∙ c .before .before .before .if2 .left, sym (c .before .before .variable .ensures) ∙ c .before .if3 .taken)
+
+returns-4 : tie.Need-returns-4
+unfolding numberOf
+returns-4 c = c .operated-number .ensures ∙ rw (sym (c .before .before .before .before .before .before .reading .ensures) ∙ c .before .before .before .before .before .if1 .left, sym (c .before .before .before .before .constant .ensures) ∙ c .before .before .before .if2 .left, sym (c .before .before .variable .ensures) ∙ c .before .if3 .left)
+
+pub number-spec : {M : Type 1} → statement M
+number-spec =
+    tie.close
+    (tie.spec
+    (λ c κs. search needs)
+    (λ c κs. search needs)
+    (λ c κs. search needs)
+    returns
+    (λ c κs. search needs)
+    returns-2
+    (λ c κs. search needs)
+    (λ c κs. search needs)
+    returns-3
+    (λ c κs. search needs)
+    returns-4)

@@ -1,0 +1,59 @@
+-- What evaluating answers, and what it leaves in the work room: paper 01, "Results", 22 and 23.
+-- Assumes nothing.
+use mathlib.Core.Bool.{Bool, true, false, cond}
+use mathlib.Core.List.{List, _++_}
+use Prim.Native.Nat.{ℕ, _-_, _*_}
+use lib.Dec.{ltb}
+use lib.ListN.{length, drop}
+use Rattle.table.specs.declared.Refusal.{Refusal}
+use Rattle.table.specs.declared.Admission.{Admission}
+use Rattle.table.specs.declared.Admission.the-variants.{Admitted, Refused}
+use Rattle.table.specs.Terms.{terms}
+use Rattle.table.specs.Admission.{admissionWithin}
+use Rattle.setting.specs.Cells.{look}
+use Rattle.setting.specs.Check.{check}
+use Rattle.setting.specs.Interpretation.{interpret}
+use Rattle.evaluate.specs.declared.Spent.{Spent}
+use Rattle.evaluate.specs.declared.Evaluation.{Evaluation}
+use Rattle.evaluate.specs.declared.Evaluation.the-variants.{Evaluated, NotEvaluated}
+use Rattle.evaluate.specs.Values.{numbers}
+use Rattle.evaluate.specs.Steps.{steps}
+
+abbrev pub notEvaluated : ℕ → ℕ → Evaluation
+notEvaluated number place = NotEvaluated (record { number = number; place = place })
+
+abbrev pub admits : Admission → Bool
+admits Admitted = true
+admits (Refused r) = false
+
+abbrev pub evaluates : Evaluation → Bool
+evaluates (Evaluated s) = true
+evaluates (NotEvaluated r) = false
+
+-- a refusal stands; else the rest
+abbrev pub andThen : Admission → Evaluation → Evaluation
+andThen Admitted rest = rest
+andThen (Refused r) rest = NotEvaluated r
+
+-- 22 the work room is too short (numbers needed): each numbers a term. 23 the allowance is below the table's steps (steps needed).
+-- Else the steps, and the allowance left
+unfoldable pub afford : List ℕ → ℕ → ℕ → ℕ → Evaluation
+afford w each allowance room =
+    let needed = terms w * each in
+    let spent = steps w (terms w) in
+    cond (ltb room needed) (notEvaluated 22 needed)
+    (cond (ltb allowance spent) (notEvaluated 23 spent)
+    (Evaluated (record { steps = spent; left = allowance - spent })))
+
+-- 1 to 10, by a limit on the terms; then 11 to 15; then 22 and 23
+abbrev pub ready : ℕ → List ℕ → List ℕ → List ℕ → ℕ → ℕ → ℕ → Evaluation
+ready limit w values cells each allowance room = andThen (admissionWithin limit w) (andThen (check w values cells) (afford w each allowance room))
+
+-- evaluating: at most 80,000 terms, one number a term
+abbrev pub evaluation : List ℕ → List ℕ → List ℕ → ℕ → ℕ → Evaluation
+evaluation w values cells allowance room = ready 80000 w values cells 1 allowance room
+
+-- the room: its front holds the terms' values, its rest is untouched; a refusal leaves it as it was
+abbrev pub roomAfter : Evaluation → List ℕ → List ℕ → List ℕ → List ℕ → List ℕ
+roomAfter (Evaluated s) w values cells room = numbers w (interpret values (look cells)) (terms w) ++ drop (terms w) room
+roomAfter (NotEvaluated r) w values cells room = room

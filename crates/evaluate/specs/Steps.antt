@@ -1,0 +1,17 @@
+-- Steps: paper 01, "A setting". Those of a read are the stores in its whole chain, of which an admitted table has at most 16.
+-- Assumes nothing.
+use mathlib.Core.Bool.{cond}
+use mathlib.Core.List.{List}
+use Prim.Native.Nat.{ℕ, zero, suc, _+_}
+use Rattle.table.specs.declared.words.Term.{Term}
+use Rattle.table.specs.Terms.{termAt}
+use Rattle.table.specs.Faults.{reading, chain}
+
+-- the steps of a term: none but for a read
+abbrev pub stepsOf : List ℕ → Term → ℕ
+stepsOf w x = cond (reading x) (chain 17 w (x .p)) 0
+
+-- the sum over the first k terms
+unfoldable pub steps : List ℕ → ℕ → ℕ
+steps w zero = 0
+steps w (suc k) = steps w k + stepsOf w (termAt w k)

@@ -1,0 +1,43 @@
+-- A turn of evaluating: which cell a term asks for, and its number from the answer.
+-- Assumes nothing.
+use mathlib.Core.Bool.{Bool, true, false, cond}
+use mathlib.Core.List.{List}
+use Prim.Native.Nat.{ℕ}
+use lib.Dec.{ltb}
+use lib.ListN.{getD}
+use Rattle.ops.specs.Numbers.{opOf}
+use Rattle.ops.specs.Meaning.{apply}
+use Rattle.table.specs.declared.words.Term.{Term}
+use Rattle.table.specs.Terms.{termAt, sortAt, scalar}
+use Rattle.table.specs.Faults.{variable, constant, reading}
+use Rattle.evaluate.specs.declared.turns.Turn.{Turn}
+use Rattle.evaluate.specs.Reads.{readAt, bottomAt}
+
+-- a read asks among count cells for its bottom variable's cell at its index, else for the slot's own value; any other
+-- term asks among none
+abbrev pub turnBy : Bool → Bool → ℕ → ℕ → ℕ → ℕ → ℕ → Turn
+turnBy true on at count slot index other = record { on = on; at = at; count = count; slot = slot; index = index; other = other }
+turnBy false on at count slot index other = record { on = on; at = at; count = 0; slot = 0; index = 0; other = 0 }
+
+-- what term at asks, of a table of so many terms; front holds the numbers of the terms before it
+unfoldable pub turnOf : List ℕ → List ℕ → ℕ → ℕ → List ℕ → ℕ → Turn
+turnOf w values count terms front at =
+    let x = termAt w at in
+    let slot = bottomAt w (x .p) in
+    turnBy (reading x) (ltb at terms) at count slot (getD front (x .q) 0) (getD values slot 0)
+
+-- a variable's number: its slot's value, 0 for an array
+abbrev pub variableNumber : List ℕ → Term → ℕ
+variableNumber values x = cond (scalar (x .sort)) (getD values (x .p) 0) 0
+
+-- an operator's number, from those of its operands
+abbrev pub operatedNumber : List ℕ → List ℕ → Term → ℕ
+operatedNumber w front x = apply (opOf (x .op)) (sortAt w (x .p) .n) (getD front (x .p) 0) (getD front (x .q) 0) (getD front (x .r) 0)
+
+-- the number of term x, where its cell has the value answer
+unfoldable pub numberOf : List ℕ → List ℕ → List ℕ → Term → ℕ → ℕ
+numberOf w values front x answer =
+    cond (reading x) (readAt w front (x .p) (getD front (x .q) 0) answer)
+    (cond (constant x) (x .p)
+    (cond (variable x) (variableNumber values x)
+    (operatedNumber w front x)))

@@ -1,0 +1,100 @@
+// Evaluating a table in a setting (paper 01, "Results"; 22 and 23).
+mod reads; // a read along its chain
+mod room; // filling the work room
+mod spend; // steps, the room's length and the allowance
+mod turns; // one term: which cell it asks for, and its value
+
+pub use reads::bottom;
+pub use spend::afford;
+use table::Admission;
+use table::Refusal;
+pub use turns::Turn;
+pub use turns::step;
+pub use turns::turn_at;
+ghost use mathlib.Core.Path.{_≡_};
+ghost use Prim.Native.Nat.{_≤_};
+ghost use lib.ListN.{length};
+ghost use Rattle.evaluate.specs.Evaluation.{admits, andThen, evaluates, ready, evaluation, roomAfter};
+
+// The steps that were spent, and the allowance that is left.
+pub struct Spent {
+    pub steps: u64,
+    pub left: u64,
+}
+
+pub enum Evaluation {
+    Evaluated(Spent),
+    NotEvaluated(Refusal),
+}
+
+fn admits(a: Admission) -> bool
+    ensures { λ r. ⌜ r ≡ admits a ⌝ }
+{
+    match a {
+        Admission::Admitted => true,
+        Admission::Refused(_) => false,
+    }
+}
+
+// A refusal stands; else the rest.
+pub fn and_then(a: Admission, rest: Evaluation) -> Evaluation
+    ensures { λ r. ⌜ r ≡ andThen a rest ⌝ }
+{
+    match a {
+        Admission::Admitted => rest,
+        Admission::Refused(refusal) => Evaluation::NotEvaluated(refusal),
+    }
+}
+
+pub fn evaluates(e: Evaluation) -> bool
+    ensures { λ r. ⌜ r ≡ evaluates e ⌝ }
+{
+    match e {
+        Evaluation::Evaluated(_) => true,
+        Evaluation::NotEvaluated(_) => false,
+    }
+}
+
+// The first refusal, or what a run spends: 1 to 10 by a limit, 11 to 15, then 22 and 23 for each numbers a term.
+pub fn ready(
+    table: &[u32],
+    limit: u32,
+    values: &[u32],
+    cells: &[u32],
+    each: u32,
+    allowance: u64,
+    room: usize,
+) -> Evaluation
+    requires { ⌜ limit ≤ 80000 ⌝ }
+    requires { ⌜ each ≤ 8 ⌝ }
+    ensures { λ r. ⌜ r ≡ ready limit (now (table .entry)) (now (values .entry)) (now (cells .entry)) each allowance room ⌝ }
+{
+    let nothing = Evaluation::Evaluated(Spent { steps: 0, left: 0 });
+    let admitted = table::admit_within(table, limit);
+    if !admits(admitted) {
+        return and_then(admitted, nothing);
+    }
+    let checked = setting::check(table, values, cells);
+    if !admits(checked) {
+        return and_then(checked, nothing);
+    }
+    afford(table, each, allowance, room)
+}
+
+// Evaluates a table in a setting: the front of work holds one value a term, 0 for an array.
+pub fn evaluate(
+    table: &[u32],
+    values: &[u32],
+    cells: &[u32],
+    allowance: u64,
+    work: &mut [u32],
+) -> Evaluation
+    ensures { λ r. ⌜ r ≡ evaluation (now (table .entry)) (now (values .entry)) (now (cells .entry)) allowance (length (now (work .entry))) ⌝ }
+    ensures { λ r. ⌜ now (work .exit) ≡ roomAfter r (now (table .entry)) (now (values .entry)) (now (cells .entry)) (now (work .entry)) ⌝ }
+{
+    let answer = ready(table, 80000, values, cells, 1, allowance, work.len());
+    if evaluates(answer) {
+        room::fill(table, values, cells, work);
+    }
+    answer
+}

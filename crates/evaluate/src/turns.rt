@@ -1,0 +1,120 @@
+// One term of a run: which cell it asks for, and its value from the answer.
+ghost use mathlib.Core.Path.{_≡_};
+ghost use Prim.Native.Nat.{_+_, _≤_, _<_};
+ghost use lib.ListN.{length, take, set};
+ghost use Rattle.table.specs.Terms.{terms, termAt};
+ghost use Rattle.table.specs.WellFormed.{WellFormed};
+ghost use Rattle.evaluate.specs.Turns.{turnOf, variableNumber, operatedNumber, numberOf};
+use crate::reads::bottom;
+use crate::reads::read;
+use setting::number_at;
+use table::Term;
+
+// Whether there is a term at, and the cell that it asks for: among count cells, by slot and index, else the other.
+pub struct Turn {
+    pub on: bool,
+    pub at: u32,
+    pub count: usize,
+    pub slot: u32,
+    pub index: u32,
+    pub other: u32,
+}
+
+// What term at asks. Only a read asks among cells.
+pub fn turn_at(
+    table: &[u32],
+    values: &[u32],
+    count: usize,
+    terms: u32,
+    front: &[u32],
+    at: u32,
+) -> Turn
+    requires { ⌜ WellFormed 80000 (now table) ⌝ }
+    ensures { λ r. ⌜ r ≡ turnOf (now (table .entry)) (now (values .entry)) count terms (now (front .entry)) at ⌝ }
+{
+    let x = table::term_at(table, at);
+    let on = at < terms;
+    if !table::reading(x) {
+        return Turn {
+            on,
+            at,
+            count: 0,
+            slot: 0,
+            index: 0,
+            other: 0,
+        };
+    }
+    let slot = bottom(table, x.p);
+    Turn {
+        on,
+        at,
+        count,
+        slot,
+        index: number_at(front, x.q),
+        other: number_at(values, slot),
+    }
+}
+
+fn variable_number(values: &[u32], x: Term) -> u32
+    ensures { λ r. ⌜ r ≡ variableNumber (now (values .entry)) x ⌝ }
+{
+    if table::scalar(x.sort) {
+        number_at(values, x.p)
+    } else {
+        0
+    }
+}
+
+fn operated_number(table: &[u32], front: &[u32], x: Term) -> u32
+    requires { ⌜ WellFormed 80000 (now table) ⌝ }
+    ensures { λ r. ⌜ r ≡ operatedNumber (now (table .entry)) (now (front .entry)) x ⌝ }
+{
+    let first = table::sort_at(table, x.p);
+    ops::apply(
+        ops::op_of(x.op),
+        first.n,
+        number_at(front, x.p),
+        number_at(front, x.q),
+        number_at(front, x.r),
+    )
+}
+
+// The value of a term, 0 for an array.
+fn number(table: &[u32], values: &[u32], front: &[u32], x: Term, answer: u32) -> u32
+    requires { ⌜ WellFormed 80000 (now table) ⌝ }
+    ensures { λ r. ⌜ r ≡ numberOf (now (table .entry)) (now (values .entry)) (now (front .entry)) x answer ⌝ }
+{
+    if table::reading(x) {
+        return read(table, front, x.p, number_at(front, x.q), answer);
+    }
+    if table::constant(x) {
+        return x.p;
+    }
+    if table::variable(x) {
+        return variable_number(values, x);
+    }
+    operated_number(table, front, x)
+}
+
+// Writes the value of a turn's term, and goes on to the next.
+pub fn step(
+    table: &[u32],
+    values: &[u32],
+    count: usize,
+    terms: u32,
+    work: &mut [u32],
+    turn: Turn,
+    answer: u32,
+) -> Turn
+    requires { ⌜ WellFormed 80000 (now table) ⌝ }
+    requires { ⌜ (turn .at < terms) × (terms ≤ length (now work)) ⌝ }
+    ensures { λ r. ⌜ r ≡ turnOf (now (table .entry)) (now (values .entry)) count terms (take (turn .at + 1) (now (work .exit))) (turn .at + 1) ⌝ }
+    ensures { λ r. ⌜ now (work .exit) ≡ set (now (work .entry)) (turn .at) (numberOf (now (table .entry)) (now (values .entry)) (take (turn .at) (now (work .entry))) (termAt (now (table .entry)) (turn .at)) answer) ⌝ }
+{
+    let i = turn.at;
+    let at = i as usize;
+    let value = number(table, values, &work[..at], table::term_at(table, i), answer);
+    work[at] = value;
+    let next = at + 1;
+    turn_at(table, values, count, terms, &work[..next], i + 1)
+}

@@ -7,3 +7,4 @@ pub mod Meaning
 pub mod Fronts
 pub mod Runs
 pub mod Fitting
+pub mod Familiar

@@ -2,14 +2,17 @@
 -- Assumes nothing.
 use mathlib.Core.Path.{_≡_}
 use mathlib.Core.List.{List}
-use Prim.Native.Nat.{ℕ, _<_}
+use Prim.Native.Nat.{ℕ, _+_, _%_, _^_, _<_}
+use Rattle.ops.specs.declared.Op.the-variants.{BvAdd, BvMul, Store}
+use Rattle.ops.specs.Numbers.{opOf}
+use Rattle.ops.specs.Meaning.{apply}
 use Rattle.table.specs.declared.Admission.the-variants.{Admitted}
-use Rattle.table.specs.Terms.{terms, sortAt}
+use Rattle.table.specs.Terms.{terms, termAt, sortAt}
 use Rattle.table.specs.WellFormed.{WellFormed}
 use Rattle.setting.specs.Cells.{look}
 use Rattle.setting.specs.Check.{check}
 use Rattle.setting.specs.Interpretation.{Interpretation, interpret, Fit, FitInputs}
-use Rattle.evaluate.specs.Values.{valueAt}
+use Rattle.evaluate.specs.Values.{valueIn, values, valueAt}
 
 -- In an interpretation that fits, the value of every term of an admitted table fits its sort.
 abbrev pub ValuesFit : Type 0
@@ -20,3 +23,21 @@ abbrev pub CheckedValuesFit : Type 0
 CheckedValuesFit =
     (limit : ℕ) (w values cells : List ℕ) → WellFormed limit w → check w values cells ≡ Admitted
     → (k : ℕ) → k < terms w → Fit (sortAt w k) (valueAt w (interpret values (look cells)) k)
+
+-- Familiar facts: 200 + 100 at width 8 is 44 (P5), 16 × 16 is 0 (P6).
+abbrev pub Familiar : Type 0
+Familiar = (apply BvAdd 8 200 100 0 ≡ 44) × (apply BvMul 8 16 16 0 ≡ 0)
+
+-- A sum is the operands' sum, kept modulo 2^n.
+abbrev pub SumIs : Type 0
+SumIs =
+    (w : List ℕ) (I : Interpretation) (k : ℕ) → opOf (termAt w k .op) ≡ BvAdd
+    → valueAt w I k .num ≡ (valueIn (values w I k) (termAt w k .p) .num + valueIn (values w I k) (termAt w k .q) .num) % 2 ^ sortAt w (termAt w k .p) .n
+
+-- The axioms of ArraysEx: at its own index a store holds the stored value, at any other what the array beneath holds.
+pub record ReadOverWrite (w : List ℕ) (I : Interpretation) (k : ℕ) : Type 0 where
+  pub hit : valueAt w I k .cell (valueIn (values w I k) (termAt w k .q) .num) ≡ valueIn (values w I k) (termAt w k .r) .num
+  pub miss : (j : ℕ) → (valueIn (values w I k) (termAt w k .q) .num ≡ j → ⊥) → valueAt w I k .cell j ≡ valueIn (values w I k) (termAt w k .p) .cell j
+
+abbrev pub StoreIs : Type 0
+StoreIs = (w : List ℕ) (I : Interpretation) (k : ℕ) → opOf (termAt w k .op) ≡ Store → ReadOverWrite w I k

@@ -1,5 +1,6 @@
 // Paper 01's bench examples and our own, run through the library. What is printed is held to the file stdout.
 mod admissions; // what admit answers
+mod evaluations; // what evaluate answers
 mod rules; // the tables
 
 fn main() {
@@ -10,4 +11,8 @@ fn main() {
     admissions::values();
     admissions::clashes();
     admissions::chains();
+    evaluations::bench();
+    evaluations::cells();
+    evaluations::settings();
+    evaluations::rooms();
 }

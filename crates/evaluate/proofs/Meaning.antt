@@ -32,28 +32,28 @@ use Rattle.evaluate.proofs.Operands.{array-op, same-sort, four, op-at, 
 
 -- values by their operator
 
-variable-cell : (I : Interpretation) (v : ℕ → Value) (width : ℕ) (x : Term) (j : ℕ) → array (x .sort) ≡ true → valueBy I v width x Variable .cell j ≡ I (x .p) .cell j
+pub variable-cell : (I : Interpretation) (v : ℕ → Value) (width : ℕ) (x : Term) (j : ℕ) → array (x .sort) ≡ true → valueBy I v width x Variable .cell j ≡ I (x .p) .cell j
 unfolding valueBy
 variable-cell I v width x j r = rw (ne-eqb (x .sort .m) 0 (λ z. let p : 0 < x .sort .m = ltb-true 0 (x .sort .m) r in omega arith))
 
-store-cell : (I : Interpretation) (v : ℕ → Value) (width : ℕ) (x : Term) (j : ℕ) → valueBy I v width x Store .cell j ≡ cond (eqb (v (x .q) .num) j) (v (x .r) .num) (v (x .p) .cell j)
+pub store-cell : (I : Interpretation) (v : ℕ → Value) (width : ℕ) (x : Term) (j : ℕ) → valueBy I v width x Store .cell j ≡ cond (eqb (v (x .q) .num) j) (v (x .r) .num) (v (x .p) .cell j)
 unfolding valueBy
 store-cell I v width x j = refl
 
 -- of one sort with an array: an array
-same-array : (a x : Sort) → sameSort a x ≡ true → array x ≡ true → array a ≡ true
+pub same-array : (a x : Sort) → sameSort a x ≡ true → array x ≡ true → array a ≡ true
 same-array a x h r = ap (λ (m : ℕ). ltb 0 m) (same-sort a x h .m) ∙ r
 
 module _ (limit : ℕ) (w row : List ℕ) (look : ℕ → ℕ → ℕ → ℕ) (f : WellFormed limit w) where
   -- the interpretation, and what the variable beneath array a holds at j
-  abbrev I : Interpretation
+  abbrev pub I : Interpretation
   I = interpret row look
 
-  abbrev cellBeneath : ℕ → ℕ → ℕ
+  abbrev pub cellBeneath : ℕ → ℕ → ℕ
   cellBeneath a j = look (bottomAt w a) j (getD row (bottomAt w a) 0)
 
   -- in the list of the first k values a passed term has its value, and in that of numbers its number
-  number-below : (k i : ℕ) → i < k → getD (numbers w I k) i 0 ≡ valueAt w I i .num
+  pub number-below : (k i : ℕ) → i < k → getD (numbers w I k) i 0 ≡ valueAt w I i .num
   number-below k i b = number-in w I k i ∙ ap (λ (v : Value). v .num) (value-below w I k i b)
 
   -- one array term, whose stores beneath are known
@@ -144,7 +144,7 @@ module _ (w row front : List ℕ) (look : ℕ → ℕ → ℕ → ℕ) (v : ℕ 
   number-by Unknown h = refl
 
 -- the only operator that reads
-reads-select : (op : Op) → reads (rankOf op) ≡ true → op ≡ Select
+pub reads-select : (op : Op) → reads (rankOf op) ≡ true → op ≡ Select
 reads-select Constant h = never h
 reads-select Variable h = never h
 reads-select Not h = never h

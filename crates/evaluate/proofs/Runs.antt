@@ -10,6 +10,7 @@ use lib.ListN.{length, take, drop, set, getD}
 use lib.Seq.{take-at}
 use borrow.Author.Tests.{ltb-true, ltb-false}
 use Rattle.ops.proofs.Booleans.{never}
+use Rattle.table.specs.Folds.{fold}
 use Rattle.table.specs.Terms.{terms, termAt}
 use Rattle.table.specs.Faults.{reading}
 use Rattle.table.specs.WellFormed.{WellFormed}
@@ -39,20 +40,20 @@ turn-count true on at count slot index other = omega arith
 turn-count false on at count slot index other = omega arith
 
 module _ (w row front : List ℕ) (count n i : ℕ) where
-  on-is : turnOf w row count n front i .on ≡ ltb i n
+  pub on-is : turnOf w row count n front i .on ≡ ltb i n
   unfolding turnOf
   on-is = turn-on (reading (termAt w i)) (ltb i n) i count (bottomAt w (termAt w i .p)) (getD front (termAt w i .q) 0) (getD row (bottomAt w (termAt w i .p)) 0)
 
-  place-is : turnOf w row count n front i .at ≡ i
+  pub place-is : turnOf w row count n front i .at ≡ i
   unfolding turnOf
   place-is = turn-place (reading (termAt w i)) (ltb i n) i count (bottomAt w (termAt w i .p)) (getD front (termAt w i .q) 0) (getD row (bottomAt w (termAt w i .p)) 0)
 
-  count-most : turnOf w row count n front i .count ≤ count
+  pub count-most : turnOf w row count n front i .count ≤ count
   unfolding turnOf
   count-most = turn-count (reading (termAt w i)) (ltb i n) i count (bottomAt w (termAt w i .p)) (getD front (termAt w i .q) 0) (getD row (bottomAt w (termAt w i .p)) 0)
 
   -- a read's turn asks for its cell
-  asks-is : reading (termAt w i) ≡ true → turnOf w row count n front i ≡ record { on = ltb i n; at = i; count = count; slot = bottomAt w (termAt w i .p); index = getD front (termAt w i .q) 0; other = getD row (bottomAt w (termAt w i .p)) 0 }
+  pub asks-is : reading (termAt w i) ≡ true → turnOf w row count n front i ≡ record { on = ltb i n; at = i; count = count; slot = bottomAt w (termAt w i .p); index = getD front (termAt w i .q) 0; other = getD row (bottomAt w (termAt w i .p)) 0 }
   unfolding turnOf
   asks-is r = rw r
 
@@ -68,7 +69,7 @@ module _ (w row : List ℕ) (cells : ℕ → Cell) (count : ℕ) (begin : List �
     pub asks : turn ≡ turnOf w row count n (numbers w I i) i
 
   pub begun : (n : ℕ) (turn : Turn) → turn ≡ turnOf w row count n [] 0 → Running n begin turn
-  unfolding values
+  unfolding fold
   begun n turn e = record { i = 0; within = omega arith; is = refl; asks = e }
 
   module _ (n : ℕ) (all : n ≡ terms w) (enough : n ≤ length begin) (room : List ℕ) (turn : Turn) (h : Running n room turn) where

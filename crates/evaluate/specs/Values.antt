@@ -1,8 +1,8 @@
 -- SMT-LIB's value of each term of a table, in an interpretation of its inputs: a fold over the table.
 -- Assumes nothing.
 use mathlib.Core.Bool.{cond}
-use mathlib.Core.List.{List, [], _∷_, _++_, map}
-use Prim.Native.Nat.{ℕ, zero, suc}
+use mathlib.Core.List.{List, map}
+use Prim.Native.Nat.{ℕ}
 use lib.Dec.{eqb}
 use lib.ListN.{getD}
 use Rattle.ops.specs.declared.Op.{Op}
@@ -10,6 +10,7 @@ use Rattle.ops.specs.declared.Op.the-variants.{Constant, Variable, Not, And, Or
 use Rattle.ops.specs.Numbers.{opOf}
 use Rattle.ops.specs.Meaning.{apply}
 use Rattle.table.specs.declared.words.Term.{Term}
+use Rattle.table.specs.Folds.{fold}
 use Rattle.table.specs.Terms.{termAt, sortAt}
 use Rattle.setting.specs.Interpretation.{Value, Interpretation}
 
@@ -51,10 +52,9 @@ valueIn vs k = getD vs k (scalarValue 0)
 abbrev pub valueOf : List ℕ → Interpretation → (ℕ → Value) → Term → Value
 valueOf w I v t = valueBy I v (sortAt w (t .p) .n) t (opOf (t .op))
 
--- the values of the first k terms
-unfoldable pub values : List ℕ → Interpretation → ℕ → List Value
-values w I zero = []
-values w I (suc k) = values w I k ++ (valueOf w I (valueIn (values w I k)) (termAt w k) ∷ [])
+-- the values of the first k terms: each from those before it
+abbrev pub values : List ℕ → Interpretation → ℕ → List Value
+values w I k = fold (λ vs i. valueOf w I (valueIn vs) (termAt w i)) k
 
 -- the value of term k
 abbrev pub valueAt : List ℕ → Interpretation → ℕ → Value

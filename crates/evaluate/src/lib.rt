@@ -9,6 +9,7 @@ pub use spend::afford;
 use table::Admission;
 use table::Refusal;
 pub use turns::Turn;
+pub use turns::number;
 pub use turns::step;
 pub use turns::turn_at;
 ghost use mathlib.Core.Path.{_≡_};

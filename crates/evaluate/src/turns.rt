@@ -80,7 +80,7 @@ fn operated_number(table: &[u32], front: &[u32], x: Term) -> u32
 }
 
 // The value of a term, 0 for an array.
-fn number(table: &[u32], values: &[u32], front: &[u32], x: Term, answer: u32) -> u32
+pub fn number(table: &[u32], values: &[u32], front: &[u32], x: Term, answer: u32) -> u32
     requires { ⌜ WellFormed 80000 (now table) ⌝ }
     ensures { λ r. ⌜ r ≡ numberOf (now (table .entry)) (now (values .entry)) (now (front .entry)) x answer ⌝ }
 {

@@ -12,7 +12,7 @@ fn show_number(n: u32) {
 }
 
 // The numbers of a room, one after the other.
-fn show_room(room: &[u32]) {
+pub fn show_room(room: &[u32]) {
     let mut i = 0;
     while i < room.len() {
         show_number(room[i]);

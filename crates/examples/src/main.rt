@@ -1,6 +1,7 @@
 // Paper 01's bench examples and our own, run through the library. What is printed is held to the file stdout.
 mod admissions; // what admit answers
 mod evaluations; // what evaluate answers
+mod judgements; // what judge answers
 mod rules; // the tables
 
 fn main() {
@@ -15,4 +16,8 @@ fn main() {
     evaluations::cells();
     evaluations::settings();
     evaluations::rooms();
+    judgements::rule_g_settings();
+    judgements::rule_h_settings();
+    judgements::terms();
+    judgements::refusals();
 }

@@ -61,7 +61,7 @@ pub fn op_of(number: u32) -> Op
     }
 }
 
-fn bit(b: bool) -> u32
+pub fn bit(b: bool) -> u32
     ensures { λ r. ⌜ r ≡ bit b ⌝ }
 {
     if b { 1 } else { 0 }
@@ -112,7 +112,7 @@ fn bvshl(n: u32, x: u32, y: u32) -> u32
     if y < n { reduce(n, x << y) } else { 0 }
 }
 
-fn ite(test: bool, y: u32, z: u32) -> u32
+pub fn ite(test: bool, y: u32, z: u32) -> u32
     ensures { λ r. ⌜ r ≡ cond test y z ⌝ }
 {
     if test { y } else { z }

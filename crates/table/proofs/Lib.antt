@@ -1,3 +1,4 @@
+pub mod FoldLaws
 pub mod Chains
 pub mod Searches
 pub mod Slots

@@ -1,3 +1,4 @@
+pub mod Folds
 pub mod Terms
 pub mod Ranks
 pub mod Faults

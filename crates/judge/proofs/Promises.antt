@@ -1,0 +1,117 @@
+-- Demand 3, of every judgement.
+-- Assumes nothing.
+use mathlib.Core.Path.{_≡_, refl, sym, subst, _∙_}
+use mathlib.Core.Bool.{Bool, true, false, cond}
+use mathlib.Core.List.{List}
+use Prim.Native.Nat.{ℕ, _-_, _*_}
+use Prim.{tt}
+use lib.Dec.{ltb}
+use Rattle.ops.proofs.Booleans.{and-parts}
+use Rattle.table.specs.declared.Admission.{Admission}
+use Rattle.table.specs.declared.Admission.the-variants.{Admitted, Refused}
+use Rattle.table.specs.Terms.{terms}
+use Rattle.table.specs.Admission.{admissionWithin}
+use Rattle.table.specs.WellFormed.{WellFormed}
+use Rattle.table.proofs.Admitted.{admission-sound}
+use Rattle.setting.specs.Cells.{look}
+use Rattle.setting.specs.Check.{check}
+use Rattle.setting.specs.Interpretation.{Interpretation, interpret, FitInputs, AgreeUnmarked}
+use Rattle.setting.proofs.Checked.{checked-fits}
+use Rattle.evaluate.specs.declared.Evaluation.{Evaluation}
+use Rattle.evaluate.specs.declared.Evaluation.the-variants.{Evaluated, NotEvaluated}
+use Rattle.evaluate.specs.Steps.{steps}
+use Rattle.evaluate.specs.Evaluation.{notEvaluated, evaluates, andThen, afford, ready}
+use Rattle.evaluate.proofs.Answers.{passed}
+use Rattle.judge.specs.declared.Verdict.{Verdict}
+use Rattle.judge.specs.declared.Judgement.{Judgement}
+use Rattle.judge.specs.declared.Judgement.the-variants.{Judged, NotJudged}
+use Rattle.judge.specs.Conditions.{ownMarks}
+use Rattle.judge.specs.Judgement.{ruleIn, ruleCondition, verdict, judgement, passes}
+use Rattle.judge.specs.Demand3.{SameVerdict, Promise, Demand3}
+use Rattle.judge.proofs.Alike.{independence}
+
+-- The steps that an evaluation spent
+
+-- those that it reports, where it is no refusal
+abbrev Spends : ℕ → Evaluation → Type 0
+Spends n (Evaluated s) = s .steps ≡ n
+Spends n (NotEvaluated r) = Unit {0}
+
+-- a refusal before it, or none, changes nothing of that
+spends-then : (n : ℕ) (a : Admission) (e : Evaluation) → Spends n e → Spends n (andThen a e)
+spends-then n Admitted e h = h
+spends-then n (Refused r) e h = tt
+
+spends-unless : (n : ℕ) (b : Bool) (number place : ℕ) (e : Evaluation) → Spends n e → Spends n (cond b (notEvaluated number place) e)
+spends-unless n true number place e h = tt
+spends-unless n false number place e h = h
+
+-- they are the table's
+afford-spends : (w : List ℕ) (each allowance room : ℕ) → Spends (steps w (terms w)) (afford w each allowance room)
+unfolding afford
+afford-spends w each allowance room =
+    let spent : ℕ = steps w (terms w) in
+    let last : Evaluation = Evaluated (record { steps = spent; left = allowance - spent }) in
+    spends-unless spent (ltb room (terms w * each)) 22 (terms w * each) (cond (ltb allowance spent) (notEvaluated 23 spent) last)
+    (spends-unless spent (ltb allowance spent) 23 spent last refl)
+
+ready-spends : (limit : ℕ) (w values cells : List ℕ) (each allowance room : ℕ) → Spends (steps w (terms w)) (ready limit w values cells each allowance room)
+ready-spends limit w values cells each allowance room =
+    spends-then (steps w (terms w)) (admissionWithin limit w) (andThen (check w values cells) (afford w each allowance room))
+    (spends-then (steps w (terms w)) (check w values cells) (afford w each allowance room) (afford-spends w each allowance room))
+
+-- What is known of a verdict
+
+-- a judgement that is no refusal: the table is well formed, the setting fits, and this is what it says
+pub record Known (w values cells : List ℕ) (v : Verdict) : Type 0 where
+  pub formed : WellFormed 512 w
+  pub fit : FitInputs w (interpret values (look cells))
+  pub rule : v .rule ≡ ruleIn w (interpret values (look cells))
+  pub condition : v .condition ≡ ruleCondition w (interpret values (look cells))
+  pub steps : v .steps ≡ steps w (terms w)
+
+-- the same of a judgement: nothing of a refusal
+abbrev KnownOf : List ℕ → List ℕ → List ℕ → Judgement → Type 0
+KnownOf w values cells (Judged v) = Known w values cells v
+KnownOf w values cells (NotJudged r) = Unit {0}
+
+-- it is so of every judgement
+known : (w values cells : List ℕ) (allowance room : ℕ) → KnownOf w values cells (judgement w values cells allowance room)
+known w values cells allowance room =
+    go (ready 512 w values cells 2 allowance room) (ready-spends 512 w values cells 2 allowance room)
+    (λ h. let p = passed 512 w values cells 2 allowance room h in let f = admission-sound 512 w (p .admitted) in (f, checked-fits 512 w values cells f (p .checked)))
+  where
+    go : (e : Evaluation) → Spends (steps w (terms w)) e → (evaluates e ≡ true → WellFormed 512 w × FitInputs w (interpret values (look cells))) → KnownOf w values cells (verdict e w (interpret values (look cells)))
+    go (Evaluated s) h f = record { formed = f refl .0; fit = f refl .1; rule = refl; condition = refl; steps = h }
+    go (NotEvaluated r) h f = tt
+
+-- (a) two verdicts of settings that agree on every unmarked input
+same-verdict : (w values cells values′ cells′ : List ℕ) (v v′ : Verdict) → Known w values cells v → Known w values′ cells′ v′
+    → AgreeUnmarked w ownMarks (interpret values (look cells)) (interpret values′ (look cells′)) → SameVerdict v v′
+same-verdict w values cells values′ cells′ v v′ k k′ agree =
+    let one = independence 512 w (interpret values (look cells)) (interpret values′ (look cells′)) (k .formed) (k .fit) (k′ .fit) agree in
+    record {
+      condition = k .condition ∙ one .condition ∙ sym (k′ .condition);
+      steps = k .steps ∙ sym (k′ .steps);
+      rule = λ h. k .rule ∙ one .rule (sym (k .condition) ∙ h) ∙ sym (k′ .rule);
+    }
+
+-- (b) a verdict that passes, and an interpretation that agrees
+sure-of : (w values cells : List ℕ) (v : Verdict) → Known w values cells v → passes v ≡ true
+    → (I : Interpretation) → FitInputs w I → AgreeUnmarked w ownMarks (interpret values (look cells)) I → ruleIn w I ≡ true
+sure-of w values cells v k h I fit agree =
+    let both = and-parts (v .rule) (v .condition) h in
+    sym (independence 512 w (interpret values (look cells)) I (k .formed) (k .fit) fit agree .rule (sym (k .condition) ∙ both .1)) ∙ sym (k .rule) ∙ both .0
+
+-- both, of every judgement
+pub demand3 : Demand3
+demand3 w values cells allowance room = go (judgement w values cells allowance room) (known w values cells allowance room)
+  where
+    go : (j : Judgement) → KnownOf w values cells j → Promise w values cells j
+    go (Judged v) k =
+        record {
+          same = λ values′ cells′ allowance′ room′ v′ e agree.
+              same-verdict w values cells values′ cells′ v v′ k (subst (KnownOf w values′ cells′) e (known w values′ cells′ allowance′ room′)) agree;
+          sure = sure-of w values cells v k;
+        }
+    go (NotJudged r) k = tt

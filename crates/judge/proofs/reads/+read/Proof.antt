@@ -1,0 +1,54 @@
+use Prim.Native.Nat.{ℕ, _<_}
+use mathlib.Core.Path.{_≡_, sym, ap, subst, _∙_}
+use mathlib.Core.Bool.{Bool, _&&_}
+use borrow.Author.Needs.{needs}
+use borrow.Author.Tests.{not-true, not-false}
+use borrow.Fn.Kinds.{In}
+use borrow.Fn.PlainCycle.{Measures, is, falls, and}
+use Rattle.judge.proofs.reads.read.Reads as read
+use Rattle.judge.proofs.reads.read.Kinds as read-kinds
+use Rattle.judge.proofs.reads.+read.Lts-read as read-lts
+use Rattle.judge.proofs.reads.overlay.Reads as overlay-reads
+use Rattle.judge.proofs.reads.truth_at.Reads as truth-at-reads
+use Rattle.table.specs.declared.words.Term.{Term}
+use Rattle.table.specs.Faults.{storing}
+use Rattle.table.proofs.SoundTerms.{store-below}
+use Rattle.table.proofs.storing.Reads as storing-reads
+use Rattle.table.proofs.term_at.Reads as term-at-reads
+use Rattle.evaluate.proofs.Chains.{beneath}
+use Rattle.judge.specs.Readings.{overlaid, readingAt}
+use Rattle.judge.proofs.Chains.{reading-end, reading-store}
+use Rattle.judge.proofs.reads.+read.{statement}
+use Rattle.judge.proofs.reads.+read.Tie.{close}
+
+abbrev μ-read : Measures 3 read-kinds.ps ℕ
+μ-read κs a = a .1 .1 .1 .0
+
+abbrev read-at : ℕ → In 3 read-kinds.ps
+read-at t = and 3 read-kinds.ps (is 3 read-kinds.ps μ-read t) read.Pre
+
+abbrev read-below : ℕ → In 3 read-kinds.ps
+read-below t = and 3 read-kinds.ps (falls 3 read-kinds.ps _<_ μ-read t) read.Pre
+
+pub +read-spec : {M : Type 1} → statement M
++read-spec = close μ-read λ t. read-lts.spec (
+  term-at-reads.Asked,
+  term-at-reads.Learnt,
+  storing-reads.Asked,
+  storing-reads.Learnt,
+  truth-at-reads.Asked,
+  truth-at-reads.Learnt,
+  read-below t,
+  read.Post,
+  overlay-reads.Asked,
+  overlay-reads.Learnt,
+)
+    (read-at t)
+    read.Post
+    (λ c κs. search needs)
+    (λ c κs. search needs)
+    (λ c κs. search needs)
+    (λ c. let s = c .before .before .before .before .before .before .before in let x = c .before .before .before .term-at in rw (c .truth-at .ensures) (reading-end (s .args .table .now) (s .args .front .now) (s .args .truths .now) (store-below 80000 (s .args .table .now) (s .pre .1)) (s .args .j) (s .args .cj) (s .args .cell) (s .args .a) (ap storing (sym (x .ensures)) ∙ sym (c .before .before .storing .ensures) ∙ not-true _ (c .before .if1 .taken))))
+    (λ c κs. let s = c .before .before .before .before .before .before in let x = c .before .before .term-at in (subst (λ (n : ℕ). x .result .p < n) (s .pre .0) (beneath (s .args .table .now) (store-below 80000 (s .args .table .now) (s .pre .1)) (s .args .a) (x .result) (x .ensures) (sym (c .before .storing .ensures) ∙ not-false _ (c .if1 .left))), s .pre .1))
+    (λ c κs. search needs)
+    (λ c. let s = c .before .before .before .before .before .before .before .before in let x = c .before .before .before .before .term-at in c .overlay .ensures ∙ ap (overlaid (s .args .front .now) (s .args .truths .now) (x .result) (s .args .j) (s .args .cj)) (c .before .read .ensures) ∙ ap (λ (y : Term). overlaid (s .args .front .now) (s .args .truths .now) y (s .args .j) (s .args .cj) (readingAt (s .args .table .now) (s .args .front .now) (s .args .truths .now) (y .p) (s .args .j) (s .args .cj) (s .args .cell))) (x .ensures) ∙ reading-store (s .args .table .now) (s .args .front .now) (s .args .truths .now) (store-below 80000 (s .args .table .now) (s .pre .1)) (s .args .j) (s .args .cj) (s .args .cell) (s .args .a) (ap storing (sym (x .ensures)) ∙ sym (c .before .before .before .storing .ensures) ∙ not-false _ (c .before .before .if1 .left)))

@@ -1,0 +1,111 @@
+-- Paper 01's bench examples P1 to P12, as rows of one list.
+-- Assumes nothing.
+use mathlib.Core.Path.{_≡_, refl}
+use mathlib.Core.Bool.{Bool, true, false, _&&_, Bool·beq}
+use mathlib.Core.List.{List, [], _∷_}
+use Prim.Native.Nat.{ℕ}
+use lib.Dec.{eqb}
+use Rattle.ops.specs.Meaning.{apply}
+use Rattle.ops.specs.Condition.{settles}
+use Rattle.table.specs.Bench.{term, ruleG, ruleH}
+use Rattle.table.specs.Folds.{fold}
+use Rattle.table.specs.Terms.{terms}
+use Rattle.table.specs.Faults.{typed, anyBelow, clash, chain, faultIf, fault}
+use Rattle.table.specs.Admission.{scan, admissionWithin, admission}
+use Rattle.setting.specs.Cells.{lookFrom, look}
+use Rattle.setting.specs.Interpretation.{interpret}
+use Rattle.evaluate.specs.Evaluation.{admits}
+use Rattle.evaluate.specs.Steps.{steps}
+use Rattle.evaluate.specs.Values.{valueBy, valueAt}
+use Rattle.judge.specs.Conditions.{conditionBy, conditionAt, ownMarks}
+
+-- a table in a setting: of the term at, the value and the condition that the paper says; of the table, the steps
+pub record Row : Type 0 where
+  pub table : List ℕ
+  pub values : List ℕ
+  pub cells : List ℕ
+  pub at : ℕ
+  pub value : ℕ
+  pub condition : Bool
+  pub spent : ℕ
+
+-- a row is right: its table is admitted, and the meanings say what the row says
+pub right : Row → Bool
+right x =
+    admits (admission (x .table))
+    && eqb (valueAt (x .table) (interpret (x .values) (look (x .cells))) (x .at) .num) (x .value)
+    && Bool·beq (conditionAt (x .table) ownMarks (interpret (x .values) (look (x .cells))) (x .at) .free) (x .condition)
+    && eqb (steps (x .table) (terms (x .table))) (x .spent)
+
+-- every row is right
+pub all : List Row → Bool
+all [] = true
+all (x ∷ xs) = right x && all xs
+
+-- two constants, an operator on them, and whether that is the third constant: all of width 8
+abbrev ofConstants : ℕ → ℕ → ℕ → ℕ → List ℕ
+ofConstants op x y z = term 0 0 8 x 0 0 (term 0 0 8 y 0 0 (term op 0 8 0 1 0 (term 0 0 8 z 0 0 (term 6 0 0 2 3 0 []))))
+
+-- a marked vector of width 8 shifted by an unmarked one (slots 0, 1) is 0
+abbrev shifting : List ℕ
+shifting = term 1 0 8 0 1 0 (term 1 0 8 1 0 0 (term 13 0 8 0 1 0 (term 0 0 8 0 0 0 (term 6 0 0 2 3 0 []))))
+
+-- a marked test, unmarked branches of width 8 (slots 0, 1, 2): the choice is 3
+abbrev choosing : List ℕ
+choosing = term 1 0 0 0 1 0 (term 1 0 8 1 0 0 (term 1 0 8 2 0 0 (term 7 0 8 0 1 2 (term 0 0 8 3 0 0 (term 6 0 0 3 4 0 [])))))
+
+-- x < 5 or not (x < 5), x marked, of width 8
+abbrev either : List ℕ
+either = term 1 0 8 0 1 0 (term 0 0 8 5 0 0 (term 14 0 0 0 1 0 (term 2 0 0 2 0 0 (term 4 0 0 2 3 0 []))))
+
+-- rule H with t unmarked and a marked
+abbrev markedIndex : List ℕ
+markedIndex =
+    term 1 8 8 0 0 0
+    (term 1 0 8 1 1 0
+    (term 1 0 8 2 0 0
+    (term 0 0 8 42 0 0
+    (term 16 8 8 0 1 3
+    (term 15 0 8 4 2 0
+    (term 6 0 0 5 3 0 []))))))
+
+-- P1 to P4: rule G, values a, x, b. P5, P6: a sum and a product. P7, P8: rule H, values t (all of it), a, c. P9, P10: a shift.
+-- P11: a choice, equal branches and others. P12: in two settings. Last, a read of a store at a marked index.
+pub rows : List Row
+rows =
+    -- P1
+    record { table = ruleG; values = 0 ∷ 5 ∷ 1 ∷ []; cells = []; at = 6; value = 1; condition = true; spent = 0 }
+    -- P2
+    ∷ record { table = ruleG; values = 1 ∷ 1 ∷ 0 ∷ []; cells = []; at = 6; value = 1; condition = false; spent = 0 }
+    -- P3
+    ∷ record { table = ruleG; values = 0 ∷ 5 ∷ 0 ∷ []; cells = []; at = 6; value = 0; condition = true; spent = 0 }
+    -- P4
+    ∷ record { table = ruleG; values = 1 ∷ 0 ∷ 1 ∷ []; cells = []; at = 6; value = 1; condition = false; spent = 0 }
+    -- P5
+    ∷ record { table = ofConstants 11 200 100 44; values = []; cells = []; at = 2; value = 44; condition = true; spent = 0 }
+    -- P6
+    ∷ record { table = ofConstants 12 16 16 0; values = []; cells = []; at = 2; value = 0; condition = true; spent = 0 }
+    -- P7
+    ∷ record { table = ruleH; values = 9 ∷ 0 ∷ 0 ∷ []; cells = []; at = 6; value = 1; condition = true; spent = 1 }
+    -- P8
+    ∷ record { table = ruleH; values = 42 ∷ 0 ∷ 2 ∷ []; cells = []; at = 6; value = 1; condition = false; spent = 1 }
+    -- P9
+    ∷ record { table = shifting; values = 1 ∷ 8 ∷ []; cells = []; at = 2; value = 0; condition = true; spent = 0 }
+    -- P10
+    ∷ record { table = shifting; values = 1 ∷ 7 ∷ []; cells = []; at = 2; value = 128; condition = false; spent = 0 }
+    -- P11
+    ∷ record { table = choosing; values = 1 ∷ 3 ∷ 3 ∷ []; cells = []; at = 3; value = 3; condition = true; spent = 0 }
+    -- P11
+    ∷ record { table = choosing; values = 1 ∷ 3 ∷ 4 ∷ []; cells = []; at = 3; value = 3; condition = false; spent = 0 }
+    -- P12
+    ∷ record { table = either; values = 4 ∷ []; cells = []; at = 4; value = 1; condition = false; spent = 0 }
+    -- P12
+    ∷ record { table = either; values = 5 ∷ []; cells = []; at = 4; value = 1; condition = false; spent = 0 }
+    -- the read group: a store at a marked index
+    ∷ record { table = markedIndex; values = 9 ∷ 0 ∷ 0 ∷ []; cells = []; at = 6; value = 1; condition = false; spent = 1 }
+    ∷ []
+
+-- by computation
+pub examples : all rows ≡ true
+unfolding all rows right admissionWithin scan fault faultIf typed anyBelow clash chain steps fold valueBy conditionBy apply settles lookFrom
+examples = refl

@@ -1,0 +1,49 @@
+-- Demand 3: paper 01, "What demand 3 compares".
+-- Assumes nothing.
+use mathlib.Core.Path.{_≡_}
+use mathlib.Core.Bool.{Bool, true}
+use mathlib.Core.List.{List}
+use Prim.Native.Nat.{ℕ}
+use Rattle.table.specs.declared.words.Term.{Term}
+use Rattle.table.specs.WellFormed.{WellFormed}
+use Rattle.setting.specs.Cells.{look}
+use Rattle.setting.specs.Interpretation.{Interpretation, interpret, FitInputs, AgreeUnmarked}
+use Rattle.evaluate.specs.Values.{valueAt}
+use Rattle.judge.specs.declared.Verdict.{Verdict}
+use Rattle.judge.specs.declared.Judgement.{Judgement}
+use Rattle.judge.specs.declared.Judgement.the-variants.{Judged, NotJudged}
+use Rattle.judge.specs.Conditions.{ownMarks, conditionAt}
+use Rattle.judge.specs.Judgement.{ruleIn, ruleCondition, judgement, passes}
+
+-- Of interpretations: two that fit and agree on every unmarked input give the rule one condition, and where it is true one value.
+pub record OneCondition (w : List ℕ) (I I′ : Interpretation) : Type 0 where
+  pub condition : ruleCondition w I ≡ ruleCondition w I′
+  pub rule : ruleCondition w I ≡ true → ruleIn w I ≡ ruleIn w I′
+
+abbrev pub Independence : Type 0
+Independence =
+    (limit : ℕ) (w : List ℕ) (I I′ : Interpretation) → WellFormed limit w → FitInputs w I → FitInputs w I′
+    → AgreeUnmarked w ownMarks I I′ → OneCondition w I I′
+
+-- (a) of two judgements of one table that are not refused, in settings that agree on every unmarked input, whatever the marked inputs,
+-- the rows' lengths and listings, the allowances and the rooms: one condition, one count of steps, and where the condition is true one
+-- value of the rule
+pub record SameVerdict (v v′ : Verdict) : Type 0 where
+  pub condition : v .condition ≡ v′ .condition
+  pub steps : v .steps ≡ v′ .steps
+  pub rule : v .condition ≡ true → v .rule ≡ v′ .rule
+
+-- (b) where a setting passes, the rule's SMT-LIB value is true in every fitting interpretation that agrees with it on the unmarked inputs
+pub record Independent (w values cells : List ℕ) (v : Verdict) : Type 0 where
+  pub same : (values′ cells′ : List ℕ) (allowance′ room′ : ℕ) (v′ : Verdict) → judgement w values′ cells′ allowance′ room′ ≡ Judged v′
+      → AgreeUnmarked w ownMarks (interpret values (look cells)) (interpret values′ (look cells′)) → SameVerdict v v′
+  pub sure : passes v ≡ true → (I : Interpretation) → FitInputs w I → AgreeUnmarked w ownMarks (interpret values (look cells)) I → ruleIn w I ≡ true
+
+-- what a judgement promises besides its answer: nothing for a refusal
+abbrev pub Promise : List ℕ → List ℕ → List ℕ → Judgement → Type 0
+Promise w values cells (Judged v) = Independent w values cells v
+Promise w values cells (NotJudged r) = Unit {0}
+
+-- Demand 3, of every judgement
+abbrev pub Demand3 : Type 0
+Demand3 = (w values cells : List ℕ) (allowance room : ℕ) → Promise w values cells (judgement w values cells allowance room)

@@ -1,0 +1,47 @@
+-- What judging answers, and what it leaves in the work room: paper 01, "Results".
+-- Assumes nothing.
+use mathlib.Core.Bool.{Bool, true, false, _&&_}
+use mathlib.Core.List.{List, _++_}
+use Prim.Native.Nat.{ℕ, pred, _*_}
+use lib.ListN.{length, drop}
+use Rattle.ops.specs.Meaning.{holds}
+use Rattle.table.specs.Terms.{terms}
+use Rattle.setting.specs.Cells.{look}
+use Rattle.setting.specs.Interpretation.{Interpretation, interpret}
+use Rattle.evaluate.specs.declared.Evaluation.{Evaluation}
+use Rattle.evaluate.specs.declared.Evaluation.the-variants.{Evaluated, NotEvaluated}
+use Rattle.evaluate.specs.Evaluation.{ready}
+use Rattle.evaluate.specs.Values.{valueAt, numbers}
+use Rattle.judge.specs.declared.Verdict.{Verdict}
+use Rattle.judge.specs.declared.Judgement.{Judgement}
+use Rattle.judge.specs.declared.Judgement.the-variants.{Judged, NotJudged}
+use Rattle.judge.specs.Conditions.{ownMarks, conditionAt, truths}
+
+-- the rule is the last term: its value and its condition in an interpretation
+abbrev pub ruleIn : List ℕ → Interpretation → Bool
+ruleIn w I = holds (valueAt w I (pred (terms w)) .num)
+
+abbrev pub ruleCondition : List ℕ → Interpretation → Bool
+ruleCondition w I = conditionAt w ownMarks I (pred (terms w)) .free
+
+-- rule, condition, steps and allowance left, or the refusal
+abbrev pub verdictBy : Evaluation → Bool → Bool → Judgement
+verdictBy (Evaluated s) rule condition = Judged (record { rule = rule; condition = condition; steps = s .steps; left = s .left })
+verdictBy (NotEvaluated r) rule condition = NotJudged r
+
+abbrev pub verdict : Evaluation → List ℕ → Interpretation → Judgement
+verdict e w I = verdictBy e (ruleIn w I) (ruleCondition w I)
+
+-- judging: at most 512 terms, two numbers a term
+abbrev pub judgement : List ℕ → List ℕ → List ℕ → ℕ → ℕ → Judgement
+judgement w values cells allowance room = verdict (ready 512 w values cells 2 allowance room) w (interpret values (look cells))
+
+-- a setting passes just where rule and condition are both true
+abbrev pub passes : Verdict → Bool
+passes v = v .rule && v .condition
+
+-- the room: the n values, then the n truths, its rest untouched; a refusal leaves it as it was
+abbrev pub roomAfter : Judgement → List ℕ → List ℕ → List ℕ → List ℕ → List ℕ
+roomAfter (Judged v) w values cells room =
+    numbers w (interpret values (look cells)) (terms w) ++ truths w ownMarks (interpret values (look cells)) (terms w) ++ drop (terms w * 2) room
+roomAfter (NotJudged r) w values cells room = room

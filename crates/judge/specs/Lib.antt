@@ -1,0 +1,5 @@
+pub mod Conditions
+pub mod Readings
+pub mod Judgement
+pub mod Demand3
+pub mod Bench

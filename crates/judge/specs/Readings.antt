@@ -1,0 +1,65 @@
+-- What the code computes of a term: value and truth together, from the numbers and truths of the terms before it.
+-- Assumes nothing.
+use mathlib.Core.Bool.{Bool, true, false, not, cond, _&&_}
+use mathlib.Core.List.{List}
+use Prim.Native.Nat.{ℕ, zero, suc, _+_}
+use lib.Dec.{eqb}
+use lib.ListN.{getD, take, drop, set}
+use Rattle.ops.specs.Numbers.{opOf}
+use Rattle.ops.specs.Meaning.{bit, holds}
+use Rattle.ops.specs.Condition.{chosen, settles}
+use Rattle.table.specs.declared.words.Term.{Term}
+use Rattle.table.specs.Terms.{termAt, sortAt}
+use Rattle.table.specs.Faults.{variable, constant, reading, storing}
+use Rattle.evaluate.specs.Turns.{numberOf}
+use Rattle.judge.specs.declared.reads.Reading.{Reading}
+use Rattle.judge.specs.Conditions.{ownMarks}
+
+abbrev pub pick : Bool → Reading → Reading → Reading
+pick true x y = x
+pick false x y = y
+
+abbrev pub truthIn : List ℕ → ℕ → Bool
+truthIn truths k = holds (getD truths k 0)
+
+-- a store x over what is read beneath, at index j whose condition is cj
+abbrev pub overlaid : List ℕ → List ℕ → Term → ℕ → Bool → Reading → Reading
+overlaid front truths x j cj below =
+    record {
+      value = cond (eqb (getD front (x .q) 0) j) (getD front (x .r) 0) (below .value);
+      free = chosen (truthIn truths (x .q) && cj) (eqb (getD front (x .q) 0) j) (truthIn truths (x .r)) (below .free) (eqb (getD front (x .r) 0) (below .value));
+    }
+
+-- the read of array term a at j, through at most left terms; cell is what the variable at the end holds there
+unfoldable pub readingWithin : ℕ → List ℕ → List ℕ → List ℕ → ℕ → ℕ → Bool → ℕ → Reading
+readingWithin zero w front truths a j cj cell = record { value = 0; free = false }
+readingWithin (suc left) w front truths a j cj cell =
+    let x = termAt w a in
+    let below = readingWithin left w front truths (x .p) j cj cell in
+    pick (storing x) (overlaid front truths x j cj below) (record { value = cell; free = truthIn truths a && cj })
+
+abbrev pub readingAt : List ℕ → List ℕ → List ℕ → ℕ → ℕ → Bool → ℕ → Reading
+readingAt w front truths a j cj cell = readingWithin (suc a) w front truths a j cj cell
+
+-- the truth of an operator
+abbrev pub settledBy : List ℕ → List ℕ → List ℕ → Term → Bool
+settledBy w front truths x =
+    settles (opOf (x .op)) (sortAt w (x .p) .n) (getD front (x .p) 0) (getD front (x .q) 0) (getD front (x .r) 0) (truthIn truths (x .p)) (truthIn truths (x .q)) (truthIn truths (x .r))
+
+-- the truth of a term that is no read
+abbrev pub truthOf : List ℕ → List ℕ → List ℕ → Term → Bool
+truthOf w front truths x = cond (constant x) true (cond (variable x) (not (ownMarks x)) (settledBy w front truths x))
+
+-- value and truth of term x, where its cell has the value answer
+unfoldable pub readingOf : List ℕ → List ℕ → List ℕ → List ℕ → Term → ℕ → Reading
+readingOf w row front truths x answer =
+    pick (reading x) (readingAt w front truths (x .p) (getD front (x .q) 0) (truthIn truths (x .q)) answer)
+    (record { value = numberOf w row front x answer; free = truthOf w front truths x })
+
+-- what a turn at term at reads: the numbers before it stand at the front of the room, the truths from number terms on
+abbrev pub readingHere : List ℕ → List ℕ → ℕ → List ℕ → ℕ → ℕ → Reading
+readingHere w row terms room at answer = readingOf w row (take at room) (take at (drop terms room)) (termAt w at) answer
+
+-- and writes: its value, and its truth
+abbrev pub written : Reading → ℕ → List ℕ → ℕ → List ℕ
+written r terms room at = set (set room at (r .value)) (terms + at) (bit (r .free))

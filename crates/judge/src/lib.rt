@@ -1,0 +1,69 @@
+// Judging a setting (paper 01, "Results"; demand 3).
+mod reads; // a read along its chain: value and truth
+mod room; // filling the work room
+mod terms; // one term: value and truth
+
+use evaluate::Evaluation;
+pub use reads::Reading;
+use table::Refusal;
+pub use terms::step;
+ghost use mathlib.Core.Path.{_≡_};
+ghost use lib.ListN.{length};
+ghost use Rattle.judge.specs.Judgement.{verdictBy, passes, judgement, roomAfter};
+ghost use Rattle.judge.specs.Demand3.{Promise};
+
+// Rule and condition, the steps that were spent, and the allowance that is left.
+pub struct Verdict {
+    pub rule: bool,
+    pub condition: bool,
+    pub steps: u64,
+    pub left: u64,
+}
+
+pub enum Judgement {
+    Judged(Verdict),
+    NotJudged(Refusal),
+}
+
+fn answered(e: Evaluation, rule: bool, condition: bool) -> Judgement
+    ensures { λ r. ⌜ r ≡ verdictBy e rule condition ⌝ }
+{
+    match e {
+        Evaluation::Evaluated(spent) => Judgement::Judged(Verdict {
+            rule: rule,
+            condition: condition,
+            steps: spent.steps,
+            left: spent.left,
+        }),
+        Evaluation::NotEvaluated(refusal) => Judgement::NotJudged(refusal),
+    }
+}
+
+// A setting passes just where rule and condition are both true.
+pub fn passes(v: Verdict) -> bool
+    ensures { λ r. ⌜ r ≡ passes v ⌝ }
+{
+    v.rule & v.condition
+}
+
+// Judges a setting: rule and condition, steps and allowance left. The front of work holds the n values, then the n truths.
+pub fn judge(
+    table: &[u32],
+    values: &[u32],
+    cells: &[u32],
+    allowance: u64,
+    work: &mut [u32],
+) -> Judgement
+    ensures { λ r. ⌜ r ≡ judgement (now (table .entry)) (now (values .entry)) (now (cells .entry)) allowance (length (now (work .entry))) ⌝ }
+    ensures { λ r. ⌜ now (work .exit) ≡ roomAfter r (now (table .entry)) (now (values .entry)) (now (cells .entry)) (now (work .entry)) ⌝ }
+    ensures { λ r. ⌜ Promise (now (table .entry)) (now (values .entry)) (now (cells .entry)) r ⌝ }
+{
+    let answer = evaluate::ready(table, 512, values, cells, 2, allowance, work.len());
+    if !evaluate::evaluates(answer) {
+        return answered(answer, false, false);
+    }
+    room::fill(table, values, cells, work);
+    let terms = table.len() / 6;
+    let last = terms - 1;
+    answered(answer, work[last] == 1, work[terms + last] == 1)
+}

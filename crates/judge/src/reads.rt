@@ -1,0 +1,71 @@
+// A read along its chain of stores: value and truth.
+ghost use mathlib.Core.Path.{_≡_};
+ghost use mathlib.Core.Bool.{_&&_};
+ghost use Rattle.table.specs.WellFormed.{WellFormed};
+ghost use Rattle.judge.specs.Readings.{truthIn, overlaid, readingAt};
+use setting::number_at;
+use table::Term;
+
+// A value, and whether it ignores the marked inputs.
+pub struct Reading {
+    pub value: u32,
+    pub free: bool,
+}
+
+// The truth of term k's condition.
+pub fn truth_at(truths: &[u32], k: u32) -> bool
+    ensures { λ r. ⌜ r ≡ truthIn (now (truths .entry)) k ⌝ }
+{
+    number_at(truths, k) == 1
+}
+
+// A store over what is read beneath it, at index j whose condition is cj.
+fn overlay(front: &[u32], truths: &[u32], x: Term, j: u32, cj: bool, below: Reading) -> Reading
+    ensures { λ r. ⌜ r ≡ overlaid (now (front .entry)) (now (truths .entry)) x j cj below ⌝ }
+{
+    let index = number_at(front, x.q);
+    let stored = number_at(front, x.r);
+    let beneath = below.value;
+    let test = truth_at(truths, x.q) & cj;
+    Reading {
+        value: ops::ite(index == j, stored, beneath),
+        free: ops::chosen(
+            test,
+            index == j,
+            truth_at(truths, x.r),
+            below.free,
+            stored == beneath,
+        ),
+    }
+}
+
+// The read of the array term a at index j, whose condition is cj, the outermost store first; cell is that of the variable
+// beneath the stores.
+pub fn read(
+    table: &[u32],
+    front: &[u32],
+    truths: &[u32],
+    a: u32,
+    j: u32,
+    cj: bool,
+    cell: u32,
+) -> Reading
+    requires { ⌜ WellFormed 80000 (now table) ⌝ }
+    ensures { λ r. ⌜ r ≡ readingAt (now (table .entry)) (now (front .entry)) (now (truths .entry)) a j cj cell ⌝ }
+{
+    let x = table::term_at(table, a);
+    if !table::storing(x) {
+        return Reading {
+            value: cell,
+            free: truth_at(truths, a) & cj,
+        };
+    }
+    overlay(
+        front,
+        truths,
+        x,
+        j,
+        cj,
+        read(table, front, truths, x.p, j, cj, cell),
+    )
+}

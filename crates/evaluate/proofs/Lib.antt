@@ -6,5 +6,6 @@ pub mod Operands
 pub mod Meaning
 pub mod Fronts
 pub mod Runs
+pub mod Fills
 pub mod Fitting
 pub mod Familiar

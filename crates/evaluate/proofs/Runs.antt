@@ -1,13 +1,12 @@
--- A run over a table, term by term: the front of the room holds the values so far, and the turn asks for the next.
+-- A run over a table, term by term, whatever it writes to the room: what is known at each turn.
 -- Assumes nothing.
 use mathlib.Core.Path.{_≡_, refl, sym, ap, subst, _∙_}
 use mathlib.Core.Bool.{Bool, true, false}
-use mathlib.Core.List.{List, [], _∷_, _++_}
+use mathlib.Core.List.{List, []}
 use Prim.Native.Nat.{ℕ, _+_, _≤_, _<_}
 use native.Mathlib.Omega.{arith}
 use lib.Dec.{ltb}
-use lib.ListN.{length, take, drop, set, getD}
-use lib.Seq.{take-at}
+use lib.ListN.{take, getD}
 use borrow.Author.Tests.{ltb-true, ltb-false}
 use Rattle.ops.proofs.Booleans.{never}
 use Rattle.table.specs.Folds.{fold}
@@ -18,12 +17,10 @@ use Rattle.setting.specs.declared.cells.Cell.{Cell}
 use Rattle.setting.specs.Cells.{lookFrom}
 use Rattle.setting.specs.Interpretation.{Interpretation, interpret}
 use Rattle.evaluate.specs.declared.turns.Turn.{Turn}
-use Rattle.evaluate.specs.Values.{values, valueAt, numbers}
+use Rattle.evaluate.specs.Values.{numbers}
 use Rattle.evaluate.specs.Reads.{bottomAt}
-use Rattle.evaluate.specs.Turns.{turnBy, turnOf, numberOf}
-use Rattle.evaluate.proofs.Folds.{length-numbers, numbers-more}
-use Rattle.evaluate.proofs.Fronts.{front-more, front-length}
-use Rattle.evaluate.proofs.Meaning.{asked, number-is}
+use Rattle.evaluate.specs.Turns.{turnBy, turnOf}
+use Rattle.evaluate.proofs.Meaning.{asked}
 
 -- what a turn says, whether or not its term is a read
 
@@ -57,30 +54,27 @@ module _ (w row front : List ℕ) (count n i : ℕ) where
   unfolding turnOf
   asks-is r = rw r
 
-module _ (w row : List ℕ) (cells : ℕ → Cell) (count : ℕ) (begin : List ℕ) where
-  abbrev I : Interpretation
-  I = interpret row (λ slot j other. lookFrom cells count 0 slot j other)
+-- a value row and cells
+abbrev pub inCells : List ℕ → (ℕ → Cell) → ℕ → Interpretation
+inCells row cells count = interpret row (λ slot j other. lookFrom cells count 0 slot j other)
 
-  -- the run has come to term i of n: the room began as begin
+-- roomAt i is what the room holds before term i
+module _ (w row : List ℕ) (cells : ℕ → Cell) (count : ℕ) (roomAt : ℕ → List ℕ) where
+  abbrev I : Interpretation
+  I = inCells row cells count
+
+  -- the run has come to term i of n
   pub record Running (n : ℕ) (room : List ℕ) (turn : Turn) : Type 0 where
     pub i : ℕ
     pub within : i ≤ n
-    pub is : room ≡ numbers w I i ++ drop i begin
+    pub is : room ≡ roomAt i
     pub asks : turn ≡ turnOf w row count n (numbers w I i) i
 
-  pub begun : (n : ℕ) (turn : Turn) → turn ≡ turnOf w row count n [] 0 → Running n begin turn
+  pub begun : (n : ℕ) (room : List ℕ) (turn : Turn) → room ≡ roomAt 0 → turn ≡ turnOf w row count n [] 0 → Running n room turn
   unfolding fold
-  begun n turn e = record { i = 0; within = omega arith; is = refl; asks = e }
+  begun n room turn r e = record { i = 0; within = omega arith; is = r; asks = e }
 
-  module _ (n : ℕ) (all : n ≡ terms w) (enough : n ≤ length begin) (room : List ℕ) (turn : Turn) (h : Running n room turn) where
-    front : take (h .i) room ≡ numbers w I (h .i)
-    front = ap (take (h .i)) (h .is) ∙ take-at (numbers w I (h .i)) (drop (h .i) begin) (h .i) (length-numbers w I (h .i))
-
-    pub same-length : length room ≡ length begin
-    same-length =
-        let b : h .i ≤ n = h .within in
-        ap length (h .is) ∙ front-length (numbers w I (h .i)) begin (h .i) (length-numbers w I (h .i)) (omega arith)
-
+  module _ (n : ℕ) (room : List ℕ) (turn : Turn) (h : Running n room turn) where
     pub at-is : turn .at ≡ h .i
     at-is = ap (λ (t : Turn). t .at) (h .asks) ∙ place-is w row (numbers w I (h .i)) count n (h .i)
 
@@ -90,53 +84,35 @@ module _ (w row : List ℕ) (cells : ℕ → Cell) (count : ℕ) (begin : List �
     pub count-here : turn .count ≤ count
     count-here = subst (λ (t : Turn). t .count ≤ count) (sym (h .asks)) (count-most w row (numbers w I (h .i)) count n (h .i))
 
+    pub inside : turn .on ≡ true → h .i < n
+    inside on = ltb-true (h .i) n (sym on-here ∙ on)
+
     pub going : turn .on ≡ true → turn .at < n
-    going on =
-        let b : h .i < n = ltb-true (h .i) n (sym on-here ∙ on) in
-        omega (arith, at-is)
+    going on = omega (arith, at-is, inside on)
 
-    pub done : turn .on ≡ false → room ≡ numbers w I (terms w) ++ drop (terms w) begin
-    done off =
+    pub ended : turn .on ≡ false → room ≡ roomAt n
+    ended off =
         let past : n ≤ h .i = ltb-false (h .i) n (sym on-here ∙ off) in
-        let e : h .i ≡ terms w = let b : h .i ≤ n = h .within in omega arith in
-        h .is ∙ ap (λ (k : ℕ). numbers w I k ++ drop k begin) e
+        let e : h .i ≡ n = let b : h .i ≤ n = h .within in omega arith in
+        h .is ∙ ap roomAt e
 
-    module _ (limit : ℕ) (f : WellFormed limit w) (on : turn .on ≡ true) (answer : ℕ) (answered : answer ≡ lookFrom cells (turn .count) 0 (turn .slot) (turn .index) (turn .other)) where
-      inside : h .i < n
-      inside = ltb-true (h .i) n (sym on-here ∙ on)
+    -- what is looked up is what the term asks for
+    pub answer-is : (limit : ℕ) (f : WellFormed limit w) (b : h .i < terms w) (answer : ℕ) → answer ≡ lookFrom cells (turn .count) 0 (turn .slot) (turn .index) (turn .other)
+        → reading (termAt w (h .i)) ≡ true → answer ≡ asked limit w row (λ slot j other. lookFrom cells count 0 slot j other) f (h .i) b
+    answer-is limit f b answer answered r =
+        answered ∙ ap (λ (t : Turn). lookFrom cells (t .count) 0 (t .slot) (t .index) (t .other)) (h .asks ∙ asks-is w row (numbers w I (h .i)) count n (h .i) r)
 
-      answer-is : reading (termAt w (h .i)) ≡ true → answer ≡ asked limit w row (λ slot j other. lookFrom cells count 0 slot j other) f (h .i) (omega (arith, inside))
-      answer-is r = answered ∙ ap (λ (t : Turn). lookFrom cells (t .count) 0 (t .slot) (t .index) (t .other)) (h .asks ∙ asks-is w row (numbers w I (h .i)) count n (h .i) r)
+    -- the next turn
+    pub more : turn .on ≡ true → (next : List ℕ) (after : Turn) → next ≡ roomAt (h .i + 1) → take (h .i + 1) next ≡ numbers w I (h .i + 1)
+        → after ≡ turnOf w row count n (take (turn .at + 1) next) (turn .at + 1) → Running n next after
+    more on next after is front t =
+        record {
+          i = h .i + 1;
+          within = omega (arith, inside on);
+          is = is;
+          asks = t ∙ ap (λ (k : ℕ). turnOf w row count n (take (k + 1) next) (k + 1)) at-is ∙ ap (λ (l : List ℕ). turnOf w row count n l (h .i + 1)) front;
+        }
 
-      number-here : numberOf w row (take (turn .at) room) (termAt w (turn .at)) answer ≡ valueAt w I (h .i) .num
-      number-here =
-          ap (λ (k : ℕ). numberOf w row (take k room) (termAt w k) answer) at-is
-          ∙ ap (λ (l : List ℕ). numberOf w row l (termAt w (h .i)) answer) front
-          ∙ number-is limit w row (λ slot j other. lookFrom cells count 0 slot j other) f (h .i) (omega (arith, inside)) answer answer-is
-
-      next-room : (next : List ℕ) → next ≡ set room (turn .at) (numberOf w row (take (turn .at) room) (termAt w (turn .at)) answer) → next ≡ numbers w I (h .i + 1) ++ drop (h .i + 1) begin
-      next-room next e =
-          e
-          ∙ ap (set room (turn .at)) number-here
-          ∙ ap (λ (k : ℕ). set room k (valueAt w I (h .i) .num)) at-is
-          ∙ ap (λ (l : List ℕ). set l (h .i) (valueAt w I (h .i) .num)) (h .is)
-          ∙ front-more (numbers w I (h .i)) begin (h .i) (valueAt w I (h .i) .num) (length-numbers w I (h .i)) (omega (arith, inside))
-          ∙ ap (λ (l : List ℕ). l ++ drop (h .i + 1) begin) (sym (numbers-more w I (h .i)))
-
-      pub more : (next : List ℕ) (after : Turn) → next ≡ set room (turn .at) (numberOf w row (take (turn .at) room) (termAt w (turn .at)) answer)
-          → after ≡ turnOf w row count n (take (turn .at + 1) next) (turn .at + 1) → Running n next after
-      more next after e t =
-          let is = next-room next e in
-          record {
-            i = h .i + 1;
-            within = omega (arith, inside);
-            is = is;
-            asks =
-                t
-                ∙ ap (λ (k : ℕ). turnOf w row count n (take (k + 1) next) (k + 1)) at-is
-                ∙ ap (λ (l : List ℕ). turnOf w row count n l (h .i + 1)) (ap (take (h .i + 1)) is ∙ take-at (numbers w I (h .i + 1)) (drop (h .i + 1) begin) (h .i + 1) (length-numbers w I (h .i + 1)));
-          }
-
-      -- the turns come to an end
-      pub later : (after : Turn) (next : List ℕ) → after ≡ turnOf w row count n (take (turn .at + 1) next) (turn .at + 1) → after .at ≡ turn .at + 1
-      later after next t = ap (λ (u : Turn). u .at) t ∙ place-is w row (take (turn .at + 1) next) count n (turn .at + 1)
+    -- the turns come to an end
+    pub later : (after : Turn) (next : List ℕ) → after ≡ turnOf w row count n (take (turn .at + 1) next) (turn .at + 1) → after .at ≡ turn .at + 1
+    later after next t = ap (λ (u : Turn). u .at) t ∙ place-is w row (take (turn .at + 1) next) count n (turn .at + 1)

@@ -3,5 +3,5 @@ pub mod Promises
 pub mod Chains
 pub mod Meaning
 pub mod Rooms
-pub mod Runs
+pub mod Fills
 pub mod Verdicts

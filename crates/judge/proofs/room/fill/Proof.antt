@@ -1,18 +1,22 @@
-use Prim.Native.Nat.{ℕ, _+_, _-_, _/_, _≤_}
-use mathlib.Core.Path.{_≡_, refl, sym, subst, _∙_}
+use Prim.Native.Nat.{ℕ, _+_, _-_, _*_, _/_, _≤_}
+use mathlib.Core.Path.{_≡_, refl, sym, ap, subst, _∙_}
+use mathlib.Core.List.{_++_}
+use Rattle.evaluate.specs.Values.{numbers}
+use Rattle.evaluate.proofs.Runs.{inCells}
+use Rattle.judge.specs.Conditions.{ownMarks, truths}
+use Rattle.judge.proofs.Rooms.{laid-all}
 use native.Mathlib.Omega.{arith}
-use lib.ListN.{length}
+use lib.ListN.{length, drop}
 use borrow.Author.Needs.{needs}
-use Rattle.table.specs.Terms.{terms}
 use Rattle.setting.specs.Cells.{cellAt}
-use Rattle.evaluate.specs.declared.turns.Turn.{Turn}
-use Rattle.judge.proofs.Runs.{Running, begun, count-here, going, done, more, later}
-use Rattle.judge.proofs.Runs as runs
+use Rattle.evaluate.proofs.Runs.{Running, count-here, going, ended, later}
+use Rattle.judge.proofs.Fills as fills
+use Rattle.judge.proofs.Fills.{filled, started, turned}
 use Rattle.judge.proofs.room.fill.Statement.{statement}
 use Rattle.judge.proofs.room.fill.Tie as tie
 
 abbrev Inv-loop : tie.InvT-loop
-Inv-loop table values cells work₀ terms count turn₀ work turn = Running table values (cellAt cells) count work₀ terms work turn
+Inv-loop table values cells work₀ terms count turn₀ work turn = Running table values (cellAt cells) count (filled table values (cellAt cells) count terms work₀) terms work turn
 
 abbrev μ-loop : tie.MeasureT-loop
 μ-loop table values cells work₀ terms count turn₀ work turn = terms - turn .at
@@ -26,7 +30,8 @@ turn-at-requires c κs = c .before .before .before .before .before .before .pre 
 loop-holds : tie.Need-loop-holds Inv-loop μ-loop
 loop-holds c =
     let a = c .before .before .before .before .before .before .before .args in
-    begun (a .table .now) (a .values .now) (cellAt (a .cells .now)) (length (a .cells .now) / 3) (a .work .now) (c .before .before .count .result) (c .turn-at .result) (c .turn-at .ensures)
+    let n = c .before .before .count in
+    started (a .table .now) (a .values .now) (cellAt (a .cells .now)) (length (a .cells .now) / 3) (n .result) (a .work .now) (c .turn-at .result) (c .turn-at .ensures)
 
 -- the room is long enough
 enough : (c : tie.In-loop Inv-loop μ-loop) → c .before .before .before .before .count .result + c .before .before .before .before .count .result ≤ length (c .before .before .before .before .before .before .before .before .before .args .work .now)
@@ -37,7 +42,7 @@ look-requires c κs =
     let a = c .before .before .before .before .before .before .before .before .before .args in
     let l = c .before .loop in
     let n = c .before .before .before .before .count in
-    omega (arith, count-here (a .table .now) (a .values .now) (cellAt (a .cells .now)) (length (a .cells .now) / 3) (a .work .now) (n .result) (n .ensures) (enough c) (l .work) (l .turn) (l .inv))
+    omega (arith, count-here (a .table .now) (a .values .now) (cellAt (a .cells .now)) (length (a .cells .now) / 3) (filled (a .table .now) (a .values .now) (cellAt (a .cells .now)) (length (a .cells .now) / 3) (n .result) (a .work .now)) (n .result) (l .work) (l .turn) (l .inv))
 
 step-requires : tie.Need-step-requires Inv-loop μ-loop
 step-requires c κs =
@@ -47,21 +52,19 @@ step-requires c κs =
     let n = c .before .before .before .before .before .before .count in (
       s .pre .0,
       (
-        going (a .table .now) (a .values .now) (cellAt (a .cells .now)) (length (a .cells .now) / 3) (a .work .now) (n .result) (n .ensures) (enough (c .before .before)) (l .work) (l .turn) (l .inv) (c .before .before .loop-test .taken),
-        subst (λ (k : ℕ). n .result + n .result ≤ k) (sym (runs.same-length (a .table .now) (a .values .now) (cellAt (a .cells .now)) (length (a .cells .now) / 3) (a .work .now) (n .result) (n .ensures) (enough (c .before .before)) (l .work) (l .turn) (l .inv))) (enough (c .before .before)),
+        going (a .table .now) (a .values .now) (cellAt (a .cells .now)) (length (a .cells .now) / 3) (filled (a .table .now) (a .values .now) (cellAt (a .cells .now)) (length (a .cells .now) / 3) (n .result) (a .work .now)) (n .result) (l .work) (l .turn) (l .inv) (c .before .before .loop-test .taken),
+        subst (λ (k : ℕ). n .result + n .result ≤ k) (sym (fills.same-length (a .table .now) (a .values .now) (cellAt (a .cells .now)) (length (a .cells .now) / 3) (n .result) (a .work .now) (n .ensures) (enough (c .before .before)) (l .work) (l .turn) (l .inv))) (enough (c .before .before)),
       ),
     )
 
 loop-less : tie.Need-loop-less Inv-loop μ-loop
 loop-less c =
-    let s = c .before .before .before .before .before .before .before .before .before .before .before .before .before .before in
-    let a = s .args in
+    let a = c .before .before .before .before .before .before .before .before .before .before .before .before .before .before .args in
     let l = c .before .before .before .before .before .before .loop in
     let n = c .before .before .before .before .before .before .before .before .before .count in
     let k = c .before .before .step in
-    let next = later (a .table .now) (a .values .now) (cellAt (a .cells .now)) (length (a .cells .now) / 3) (a .work .now) (n .result) (n .ensures) (enough (c .before .before .before .before .before)) (l .work) (l .turn) (l .inv)
-    80000 (s .pre .0) (c .before .before .before .before .before .loop-test .taken) (c .before .before .before .before .look .result) (c .before .before .before .before .look .ensures) (k .result) _ (k .ensures .0) in
-    let inside = going (a .table .now) (a .values .now) (cellAt (a .cells .now)) (length (a .cells .now) / 3) (a .work .now) (n .result) (n .ensures) (enough (c .before .before .before .before .before)) (l .work) (l .turn) (l .inv) (c .before .before .before .before .before .loop-test .taken) in
+    let next = later (a .table .now) (a .values .now) (cellAt (a .cells .now)) (length (a .cells .now) / 3) (filled (a .table .now) (a .values .now) (cellAt (a .cells .now)) (length (a .cells .now) / 3) (n .result) (a .work .now)) (n .result) (l .work) (l .turn) (l .inv) (k .result) _ (k .ensures .0) in
+    let inside = going (a .table .now) (a .values .now) (cellAt (a .cells .now)) (length (a .cells .now) / 3) (filled (a .table .now) (a .values .now) (cellAt (a .cells .now)) (length (a .cells .now) / 3) (n .result) (a .work .now)) (n .result) (l .work) (l .turn) (l .inv) (c .before .before .before .before .before .loop-test .taken) in
     omega (arith, next, inside)
 
 loop-again : tie.Need-loop-again Inv-loop μ-loop
@@ -71,7 +74,7 @@ loop-again c =
     let l = c .before .before .before .before .before .before .loop in
     let n = c .before .before .before .before .before .before .before .before .before .count in
     let k = c .before .before .step in
-    more (a .table .now) (a .values .now) (cellAt (a .cells .now)) (length (a .cells .now) / 3) (a .work .now) (n .result) (n .ensures) (enough (c .before .before .before .before .before)) (l .work) (l .turn) (l .inv)
+    turned (a .table .now) (a .values .now) (cellAt (a .cells .now)) (length (a .cells .now) / 3) (n .result) (a .work .now) (n .ensures) (enough (c .before .before .before .before .before)) (l .work) (l .turn) (l .inv)
     80000 (s .pre .0) (c .before .before .before .before .before .loop-test .taken) (c .before .before .before .before .look .result) (c .before .before .before .before .look .ensures) _ _ (k .ensures .1) (k .ensures .0)
 
 same-length : tie.Need-same-length Inv-loop μ-loop
@@ -79,14 +82,16 @@ same-length c =
     let a = c .before .before .before .before .before .before .before .before .before .args in
     let l = c .before .loop in
     let n = c .before .before .before .before .count in
-    runs.same-length (a .table .now) (a .values .now) (cellAt (a .cells .now)) (length (a .cells .now) / 3) (a .work .now) (n .result) (n .ensures) (omega (arith, n .ensures, c .before .before .before .before .before .before .before .before .before .pre .1)) (l .work) (l .turn) (l .inv)
+    fills.same-length (a .table .now) (a .values .now) (cellAt (a .cells .now)) (length (a .cells .now) / 3) (n .result) (a .work .now) (n .ensures) (omega (arith, n .ensures, c .before .before .before .before .before .before .before .before .before .pre .1)) (l .work) (l .turn) (l .inv)
 
 returns : tie.Need-returns Inv-loop μ-loop
 returns c =
     let a = c .before .before .before .before .before .before .before .before .before .args in
     let l = c .before .loop in
     let n = c .before .before .before .before .count in
-    done (a .table .now) (a .values .now) (cellAt (a .cells .now)) (length (a .cells .now) / 3) (a .work .now) (n .result) (n .ensures) (omega (arith, n .ensures, c .before .before .before .before .before .before .before .before .before .pre .1)) (l .work) (l .turn) (l .inv) (c .loop-test .left)
+    ended (a .table .now) (a .values .now) (cellAt (a .cells .now)) (length (a .cells .now) / 3) (filled (a .table .now) (a .values .now) (cellAt (a .cells .now)) (length (a .cells .now) / 3) (n .result) (a .work .now)) (n .result) (l .work) (l .turn) (l .inv) (c .loop-test .left)
+    ∙ laid-all (numbers (a .table .now) (inCells (a .values .now) (cellAt (a .cells .now)) (length (a .cells .now) / 3)) (n .result)) (truths (a .table .now) ownMarks (inCells (a .values .now) (cellAt (a .cells .now)) (length (a .cells .now) / 3)) (n .result)) (n .result) (a .work .now) (omega (arith, n .ensures, c .before .before .before .before .before .before .before .before .before .pre .1))
+    ∙ ap (λ (k : ℕ). numbers (a .table .now) (inCells (a .values .now) (cellAt (a .cells .now)) (length (a .cells .now) / 3)) k ++ truths (a .table .now) ownMarks (inCells (a .values .now) (cellAt (a .cells .now)) (length (a .cells .now) / 3)) k ++ drop (k * 2) (a .work .now)) (n .ensures)
 
 pub fill-spec : {M : Type 1} → statement M
 fill-spec =

@@ -47,6 +47,10 @@ pub fn passes(v: Verdict) -> bool
 }
 
 // Judges a setting: rule and condition, steps and allowance left. The front of work holds the n values, then the n truths.
+// The first two clauses say what is answered and what the room holds. The third is demand 3 of this call, where it is not refused:
+// (a) every other judgement of this table that is not refused, in a setting that agrees on the unmarked inputs, whatever its rows, its
+// allowance and its room, has this condition and these steps, and where the condition is true this rule; (b) where the setting passes,
+// the rule's value is true in every fitting interpretation that agrees with the setting on the unmarked inputs.
 pub fn judge(
     table: &[u32],
     values: &[u32],

@@ -87,7 +87,7 @@ module _ (limit : ℕ) (w row : List ℕ) (look : ℕ → ℕ → ℕ → ℕ) (
         ∙ ap (λ (v : ℕ). cond (eqb (getD (numbers w I k) (x .q) 0) j) v (valueIn (values w I a) (x .p) .cell j)) (sym (number-in w I a (x .r)) ∙ number-below a (x .r) rb ∙ sym (number-below k (x .r) (omega arith)))
         ∙ ap (λ (v : ℕ). cond (eqb (getD (numbers w I k) (x .q) 0) j) (getD (numbers w I k) (x .r) 0) v)
         (ap (λ (v : Value). v .cell j) (value-below w I a (x .p) pb) ∙ beneath pb arr ∙ ap (λ (slot : ℕ). readAt w (numbers w I k) (x .p) j (look slot j (getD row slot 0))) (sym bot))
-        ∙ sym (read-store w (store-below limit w f) (numbers w I k) a j (cellBeneath a j) stores)
+        ∙ sym (read-store w (store-below limit w f) (numbers w I k) j (cellBeneath a j) a stores)
 
     read-step : valueAt w I a .cell j ≡ readAt w (numbers w I k) a j (cellBeneath a j)
     read-step =

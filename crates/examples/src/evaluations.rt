@@ -93,13 +93,21 @@ pub fn cells() {
     );
 }
 
-// 11 to 15: the setting.
+// 11 to 13: the setting's rows and values.
 pub fn settings() {
     run(b"11, two numbers", &rule_h(), &[9, 0, 2], &[0, 2], 1);
     run(b"12, two values", &rule_h(), &[9, 0], &[], 1);
     run(b"13, an array of 256", &rule_h(), &[256, 0, 2], &[], 1);
     run(b"13, a vector of 256", &rule_h(), &[9, 0, 256], &[], 1);
     run(b"13 before 12", &rule_h(), &[9, 300], &[], 1);
+    let mut boolean = [0u32; 6];
+    put(&mut boolean, 0, 1, 0, 0, 0, 0, 0);
+    run(b"13, a Boolean of 2", &boolean, &[2], &[], 1);
+    run(b"a Boolean of 1", &boolean, &[1], &[], 1);
+}
+
+// 14 and 15: the setting's cells.
+pub fn cells_checked() {
     run(
         b"14, a cell of a vector",
         &rule_h(),
@@ -135,10 +143,6 @@ pub fn settings() {
         &[0, 2, 42, 0, 2, 256],
         1,
     );
-    let mut boolean = [0u32; 6];
-    put(&mut boolean, 0, 1, 0, 0, 0, 0, 0);
-    run(b"13, a Boolean of 2", &boolean, &[2], &[], 1);
-    run(b"a Boolean of 1", &boolean, &[1], &[], 1);
 }
 
 // 22 and 23: the room and the allowance. A read's steps are the stores of its whole chain.

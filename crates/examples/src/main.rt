@@ -15,6 +15,7 @@ fn main() {
     evaluations::bench();
     evaluations::cells();
     evaluations::settings();
+    evaluations::cells_checked();
     evaluations::rooms();
     judgements::rule_g_settings();
     judgements::rule_h_settings();

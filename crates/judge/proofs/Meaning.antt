@@ -32,7 +32,7 @@ use Rattle.evaluate.proofs.Meaning.{variable-cell, same-array, reads-select, nu
 use Rattle.evaluate.proofs.Operands.{array-op, three, four, op-at, typing, typing-as, placing-as, two-placed, three-placed}
 use Rattle.judge.specs.declared.reads.Reading.{Reading}
 use Rattle.judge.specs.Conditions.{Condition, plain, storeFree, conditionBy, conditionIn, conditionOf, conditions, conditionAt, truths, ownMarks}
-use Rattle.judge.specs.Readings.{pick, truthIn, overlaid, readingAt, settledBy, truthOf, readingOf}
+use Rattle.judge.specs.Readings.{truthIn, overlaid, readingAt, settledBy, truthOf, readingOf}
 use Rattle.judge.proofs.Alike.{condition-below}
 use Rattle.judge.proofs.Chains.{reading-end, reading-store}
 
@@ -275,7 +275,7 @@ module _ (limit : ℕ) (w row : List ℕ) (look : ℕ → ℕ → ℕ → ℕ) (
   reading-is answer h = go (reading here) refl
     where
       go : (z : Bool) → reading here ≡ z
-          → pick z (readingAt w N T (here .p) (getD N (here .q) 0) (truthIn T (here .q)) answer) (record { value = numberOf w row N here answer; free = truthOf w N T here })
+          → cond z (readingAt w N T (here .p) (getD N (here .q) 0) (truthIn T (here .q)) answer) (record { value = numberOf w row N here answer; free = truthOf w N T here })
           ≡ record { value = valueAt w In k .num; free = conditionAt w ownMarks In k .free }
       go true e = read-here answer (h e) (reads-select (opOf (here .op)) e)
       go false e =

@@ -15,10 +15,6 @@ use Rattle.evaluate.specs.Turns.{numberOf}
 use Rattle.judge.specs.declared.reads.Reading.{Reading}
 use Rattle.judge.specs.Conditions.{ownMarks}
 
-abbrev pub pick : Bool → Reading → Reading → Reading
-pick true x y = x
-pick false x y = y
-
 abbrev pub truthIn : List ℕ → ℕ → Bool
 truthIn truths k = holds (getD truths k 0)
 
@@ -36,7 +32,7 @@ readingWithin zero w front truths a j cj cell = record { value = 0; free = false
 readingWithin (suc left) w front truths a j cj cell =
     let x = termAt w a in
     let below = readingWithin left w front truths (x .p) j cj cell in
-    pick (storing x) (overlaid front truths x j cj below) (record { value = cell; free = truthIn truths a && cj })
+    cond (storing x) (overlaid front truths x j cj below) (record { value = cell; free = truthIn truths a && cj })
 
 abbrev pub readingAt : List ℕ → List ℕ → List ℕ → ℕ → ℕ → Bool → ℕ → Reading
 readingAt w front truths a j cj cell = readingWithin (suc a) w front truths a j cj cell
@@ -53,7 +49,7 @@ truthOf w front truths x = cond (constant x) true (cond (variable x) (not (ownMa
 -- value and truth of term x, where its cell has the value answer
 unfoldable pub readingOf : List ℕ → List ℕ → List ℕ → List ℕ → Term → ℕ → Reading
 readingOf w row front truths x answer =
-    pick (reading x) (readingAt w front truths (x .p) (getD front (x .q) 0) (truthIn truths (x .q)) answer)
+    cond (reading x) (readingAt w front truths (x .p) (getD front (x .q) 0) (truthIn truths (x .q)) answer)
     (record { value = numberOf w row front x answer; free = truthOf w front truths x })
 
 -- what a turn at term at reads: the numbers before it stand at the front of the room, the truths from number terms on

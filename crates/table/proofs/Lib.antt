@@ -5,4 +5,5 @@ pub mod Slots
 pub mod Scans
 pub mod TermFaults
 pub mod Admitted
+pub mod Stacks
 pub mod SoundTerms

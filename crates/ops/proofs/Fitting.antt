@@ -1,16 +1,18 @@
--- Values fit their sort.
+-- Values fit their sort; on vectors not, and, or are bit by bit.
 -- Assumes nothing.
 use mathlib.Core.Path.{_≡_, refl, sym, ap, _∙_}
 use mathlib.Core.Bool.{Bool, true, false, not, _&&_, _||_, cond}
 use Prim.Native.Nat.{ℕ, zero, suc, _-_, _%_, _^_, _<_}
+use native.Mathlib.Nat.{mod-eq-of-lt}
 use native.Mathlib.Omega.{arith}
+use lib.Bits.{and-lt, or-lt}
 use lib.Dec.{eqb, ltb, leb, eqb·suc-zero}
 use lib.Pow.{pow-pos, ones-sub-lt}
 use borrow.Author.Tests.{lt-ltb, le-leb}
 use Rattle.ops.specs.declared.Op.the-variants.{Constant, Variable, Not, And, Or, Implies, Equal, Ite, BvNot, BvAnd, BvOr, BvAdd, BvMul, BvShl, BvUlt, Select, Store, Unknown}
-use Rattle.ops.specs.Meaning.{bit, holds, apply}
+use Rattle.ops.specs.Meaning.{bit, holds, ones, apply}
 use Rattle.ops.specs.Fits.{fits}
-use Rattle.ops.specs.Laws.{Fitting}
+use Rattle.ops.specs.Laws.{Fitting, Bitwise}
 use Rattle.ops.proofs.Widths.{mod-below}
 
 -- a number below 2^n fits width n, for a Boolean too
@@ -49,3 +51,12 @@ fitting BvUlt n m x y z h = fits-bit (ltb x y)
 fitting Select n m x y z h = fits-below n 0 (pow-pos n)
 fitting Store n m x y z h = fits-below n 0 (pow-pos n)
 fitting Unknown n m x y z h = fits-below n 0 (pow-pos n)
+
+pub bitwise : Bitwise
+unfolding apply
+bitwise n x y h k =
+    record {
+      bvnot = ap (λ (v : ℕ). ones n - v) (mod-eq-of-lt h);
+      bvand = mod-eq-of-lt (and-lt n x y h k);
+      bvor = mod-eq-of-lt (or-lt n x y h k);
+    }

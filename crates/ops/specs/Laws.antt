@@ -3,11 +3,12 @@
 -- Assumes nothing.
 use mathlib.Core.Path.{_≡_}
 use mathlib.Core.Bool.{Bool, true, false, cond}
-use Prim.Native.Nat.{ℕ}
+use Prim.Native.Nat.{ℕ, _-_, _^_, _<_}
+use lib.Bits.{bitAnd, bitOr}
 use lib.Dec.{eqb}
 use Rattle.ops.specs.declared.Op.{Op}
 use Rattle.ops.specs.declared.Op.the-variants.{Constant, Variable, Not, And, Or, Implies, Equal, Ite, BvNot, BvAnd, BvOr, BvAdd, BvMul, BvShl, BvUlt, Select, Store, Unknown}
-use Rattle.ops.specs.Meaning.{Operation, operation, apply}
+use Rattle.ops.specs.Meaning.{Operation, ones, operation, apply}
 use Rattle.ops.specs.Meaning.Operation.{leaf, unary, strict, absorbing, shift, choice}
 use Rattle.ops.specs.Condition.{chosen, settles}
 use Rattle.ops.specs.Fits.{fits}
@@ -46,6 +47,15 @@ abbrev pub Fitting : Type 0
 Fitting =
     (op : Op) (n m x y z : ℕ) → (chooses (operation op) ≡ true → (fits m y ≡ true) × (fits m z ≡ true))
     → fits (resultWidth op n m) (apply op n x y z) ≡ true
+
+-- On vectors of width n the reduction of not, and, or changes nothing: they are SMT-LIB's, bit by bit.
+pub record BitByBit (n x y : ℕ) : Type 0 where
+  pub bvnot : apply BvNot n x y 0 ≡ ones n - x
+  pub bvand : apply BvAnd n x y 0 ≡ bitAnd x y
+  pub bvor : apply BvOr n x y 0 ≡ bitOr x y
+
+abbrev pub Bitwise : Type 0
+Bitwise = (n x y : ℕ) → x < 2 ^ n → y < 2 ^ n → BitByBit n x y
 
 -- the tests of an operator: which values of the first and of the second operand settle the result
 abbrev pub first : Operation → ℕ → ℕ → Bool

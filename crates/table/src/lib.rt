@@ -18,6 +18,7 @@ pub use sorts::scalar;
 pub use words::Sort;
 pub use words::Term;
 use words::WORDS;
+pub use words::put;
 pub use words::sort_at;
 pub use words::term_at;
 ghost use mathlib.Core.Path.{_≡_};

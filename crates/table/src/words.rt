@@ -1,6 +1,6 @@
 // A table's numbers as terms.
 ghost use mathlib.Core.Path.{_≡_};
-ghost use Rattle.table.specs.Terms.{wordAt, sortAt, termAt};
+ghost use Rattle.table.specs.Terms.{wordAt, sortAt, termAt, placed};
 
 // Boolean (0, 0); vector (0, n); array (m, n).
 pub struct Sort {
@@ -45,5 +45,20 @@ pub fn term_at(table: &[u32], k: u32) -> Term
         p: word(table, k, 3),
         q: word(table, k, 4),
         r: word(table, k, 5),
+    }
+}
+
+// Writes term k of a table: op, m, n, p, q, r. Past the table's end nothing is written.
+pub fn put(table: &mut [u32], k: u32, x: Term)
+    ensures { λ _. ⌜ now (table .exit) ≡ placed (now (table .entry)) k x ⌝ }
+{
+    let at = (k as usize) * WORDS;
+    if at + WORDS <= table.len() {
+        table[at] = x.op;
+        table[at + 1] = x.sort.m;
+        table[at + 2] = x.sort.n;
+        table[at + 3] = x.p;
+        table[at + 4] = x.q;
+        table[at + 5] = x.r;
     }
 }

@@ -1,0 +1,6 @@
+pub mod Added
+pub mod Groups
+pub mod Plans
+pub mod Sizes
+pub mod Finished
+pub mod Laws

@@ -1,5 +1,5 @@
-use Rattle.finish.specs.Ranks.{rankOf}
-use Rattle.finish.specs.declared.ranks.Rank.the-variants.{Literal, Other}
+use Rattle.finish.specs.Plans.{lineOf}
+use Rattle.finish.specs.declared.lines.Line.the-variants.{Literal, Write}
 use Rattle.ops.proofs.Lists.{getD-default}
 use Rattle.ops.specs.Numbers.{ops}
 use Rattle.ops.specs.declared.Op.the-variants.{Unknown}
@@ -11,10 +11,10 @@ use Rattle.finish.proofs.lines.line_of.Statement.{statement}
 use Rattle.finish.proofs.lines.line_of.Tie as tie
 
 returns : tie.Need-returns
-returns c = getD-default (map rankOf ops) (c .before .before .args .op) Literal Other (c .before .if1 .taken) ∙ List·getD-map rankOf ops (c .before .before .args .op) Unknown
+returns c = getD-default (map lineOf ops) (c .before .before .args .op) Literal Write (c .before .if1 .taken) ∙ List·getD-map lineOf ops (c .before .before .args .op) Unknown
 
 returns-2 : tie.Need-returns-2
-returns-2 c = ap rankOf (sym (List·getD-eq-default ops Unknown (c .if1 .left)))
+returns-2 c = ap lineOf (sym (List·getD-eq-default ops Unknown (c .if1 .left)))
 
 pub line-of-spec : {M : Type 1} → statement M
 line-of-spec = tie.close (tie.spec (λ c. search needs) returns returns-2)

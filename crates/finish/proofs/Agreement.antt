@@ -1,0 +1,323 @@
+-- The terms that finishing adds have the conditions' values.
+-- Assumes nothing.
+use mathlib.Core.Path.{_≡_, refl, sym, ap, ap₂, subst, _∙_}
+use mathlib.Core.Bool.{Bool, true, false, cond, not, _&&_}
+use mathlib.Core.List.{List, _++_}
+use Prim.Native.Nat.{ℕ, zero, suc, pred, _+_, _≤_, _<_}
+use native.Mathlib.Nat.{not-suc-le-zero}
+use native.Mathlib.Decide.{decLt}
+use native.Mathlib.Omega.{arith}
+use lib.Dec.{eqb, ltb}
+use lib.ListN.{length, length-append}
+use borrow.Author.Tests.{eqb-true, ltb-true}
+use Rattle.ops.specs.declared.Op.{Op}
+use Rattle.ops.specs.declared.Op.the-variants.{Constant, Variable, Not, And, Or, Implies, Equal, Ite, BvNot, BvAnd, BvOr, BvAdd, BvMul, BvShl, BvUlt, Select, Store, Unknown}
+use Rattle.ops.specs.Numbers.{opOf}
+use Rattle.ops.specs.Meaning.{bit, holds, ones, apply}
+use Rattle.ops.specs.Condition.{settles}
+use Rattle.ops.proofs.Booleans.{never, and-parts}
+use Rattle.table.specs.declared.ranks.Rank.{Rank}
+use Rattle.table.specs.declared.ranks.Rank.the-variants.{Literal, Input, BoolUnary, BoolBinary, Equality, Choice, BvUnary, BvBinary, BvCompare, Read, Write, Other}
+use Rattle.table.specs.declared.ranks.Fields.the-variants.{One, Two}
+use Rattle.table.specs.declared.words.Sort.{Sort}
+use Rattle.table.specs.declared.words.Term.{Term}
+use Rattle.table.specs.Terms.{terms, termAt, sortAt, boolean, vector, scalar, array, vectorOf, sameSort}
+use Rattle.table.specs.Ranks.{rankOf, fieldsOf, writes}
+use Rattle.table.specs.Faults.{rank, fields, storing, placedAs, typedAs}
+use Rattle.table.specs.WellFormed.{WellFormed}
+use Rattle.table.proofs.FoldLaws.{fold-below}
+use Rattle.table.proofs.SoundTerms.{past-end}
+use Rattle.setting.specs.Interpretation.{Value, Interpretation}
+use Rattle.evaluate.specs.Values.{scalarValue, arrayValue, operated, valueBy, valueIn, valueOf, values, valueAt}
+use Rattle.evaluate.proofs.Folds.{value-below}
+use Rattle.evaluate.proofs.Operands.{isKnown, not-array, same-sort, boolean-scalar, vector-scalar, three, four, op-at, typing, two-placed, three-placed}
+use Rattle.judge.specs.Conditions.{Condition, plain, storeFree, conditionBy, conditionIn, conditions, conditionAt, ownMarks}
+use Rattle.judge.proofs.Alike.{condition-below}
+use Rattle.finish.specs.Plans.{lineOf, Plan, lastOf, taken, storeRead, planBy, planIn, planOf, next, plans, planAt}
+use Rattle.finish.specs.Groups.{variableGroup, storeGroup}
+use Rattle.finish.specs.Finished.{conditionNumber}
+use Rattle.finish.proofs.Layouts.{Has, has-left, has-right, Layout, true-at, false-at, group-has, last-at}
+use Rattle.finish.proofs.GroupValues.{Known, holds-bit, and-num, constant-num, strict-group, and-group, or-group, implies-group, absorbing-group, shift-group, choice-group, store-group}
+
+-- The value of a term depends on the terms below alone
+
+-- unused fields are 0, which is below too
+one-below : (k : ℕ) (t : Term) → placedAs One k t ≡ true → (t .p < k) × (t .q < k) × (t .r < k)
+one-below k t h =
+    let parts = three (ltb (t .p) k) (eqb (t .q) 0) (eqb (t .r) 0) h in
+    let p = ltb-true (t .p) k (parts .0) in
+    let q = eqb-true (t .q) 0 (parts .1) in
+    let r = eqb-true (t .r) 0 (parts .2) in
+    (p, omega arith, omega arith)
+
+two-below : (k : ℕ) (t : Term) → placedAs Two k t ≡ true → (t .p < k) × (t .q < k) × (t .r < k)
+two-below k t h =
+    let parts = two-placed k t h in
+    let p = parts .0 in
+    let r = eqb-true (t .r) 0 (three (ltb (t .p) k) (ltb (t .q) k) (eqb (t .r) 0) h .2) in
+    (p, parts .1, omega arith)
+
+module _ (I : Interpretation) (v v′ : ℕ → Value) (n n′ k : ℕ) (t : Term) (same : (i : ℕ) → i < k → v i ≡ v′ i) (width : t .p < k → n ≡ n′) where
+  same-operated : (op : Op) → (t .p < k) × (t .q < k) × (t .r < k) → operated I v n t op ≡ operated I v′ n′ t op
+  same-operated op place =
+      let wide = width (place .0) in
+      let p = same (t .p) (place .0) in
+      let q = same (t .q) (place .1) in
+      let r = same (t .r) (place .2) in
+      λ i. scalarValue (apply op (wide i) (p i .num) (q i .num) (r i .num))
+
+  -- from two lists of values, the same below k
+  same-value : (op : Op) → placedAs (fieldsOf (rankOf op)) k t ≡ true → valueBy I v n t op ≡ valueBy I v′ n′ t op
+  unfolding valueBy
+  same-value Constant h = refl
+  same-value Variable h = refl
+  same-value Not h = same-operated Not (one-below k t h)
+  same-value And h = same-operated And (two-below k t h)
+  same-value Or h = same-operated Or (two-below k t h)
+  same-value Implies h = same-operated Implies (two-below k t h)
+  same-value Equal h = same-operated Equal (two-below k t h)
+  same-value Ite h = same-operated Ite (three-placed k t h)
+  same-value BvNot h = same-operated BvNot (one-below k t h)
+  same-value BvAnd h = same-operated BvAnd (two-below k t h)
+  same-value BvOr h = same-operated BvOr (two-below k t h)
+  same-value BvAdd h = same-operated BvAdd (two-below k t h)
+  same-value BvMul h = same-operated BvMul (two-below k t h)
+  same-value BvShl h = same-operated BvShl (two-below k t h)
+  same-value BvUlt h = same-operated BvUlt (two-below k t h)
+  same-value Select h =
+      let place = two-placed k t h in
+      let p = same (t .p) (place .0) in
+      let q = same (t .q) (place .1) in
+      λ i. scalarValue (p i .cell (q i .num))
+  same-value Store h =
+      let place = three-placed k t h in
+      let p = same (t .p) (place .0) in
+      let q = same (t .q) (place .1) in
+      let r = same (t .r) (place .2) in
+      λ i. arrayValue (λ j. cond (eqb (q i .num) j) (r i .num) (p i .cell j))
+  same-value Unknown h = refl
+
+-- past a table's end stand constants
+placed-at : (limit : ℕ) (f : List ℕ) → WellFormed limit f → (k : ℕ) → placedAs (fields (termAt f k)) k (termAt f k) ≡ true
+placed-at limit f ff k = go (decLt k (terms f))
+  where
+    go : Dec (k < terms f) → placedAs (fields (termAt f k)) k (termAt f k) ≡ true
+    go (yes b) = ff .sound k b .is-placed
+    go (no b) = let e : terms f ≤ k = omega arith in rw (past-end limit f ff k 0 e, past-end limit f ff k 4 e, past-end limit f ff k 5 e)
+
+-- a term's value is what its operator makes of its operands' values
+value-law : (limit : ℕ) (f : List ℕ) (I : Interpretation) → WellFormed limit f → (k : ℕ) → valueAt f I k ≡ valueOf f I (valueAt f I) (termAt f k)
+value-law limit f I ff k =
+    let t = termAt f k in
+    same-value I (valueIn (values f I k)) (valueAt f I) (sortAt f (t .p) .n) (sortAt f (t .p) .n) k t (value-below f I k) (λ _. refl) (opOf (t .op)) (placed-at limit f ff k)
+
+-- The terms of the table keep their values
+
+module _ (w f : List ℕ) (I : Interpretation) (wf : WellFormed 512 w) (l : Layout w f) where
+  keeps-within : (n k : ℕ) → k < n → k < terms w → valueAt f I k ≡ valueAt w I k
+  keeps-within zero k b c = absurd (not-suc-le-zero b)
+  keeps-within (suc n) k b c =
+      let t = termAt w k in
+      ap (λ (x : Term). valueOf f I (valueIn (values f I k)) x) (l .old k c)
+      ∙ same-value I (valueIn (values f I k)) (valueIn (values w I k)) (sortAt f (t .p) .n) (sortAt w (t .p) .n) k t
+      (λ i m. value-below f I k i m ∙ keeps-within n i (omega arith) (omega arith) ∙ sym (value-below w I k i m))
+      (λ m. ap (λ (x : Term). x .sort .n) (l .old (t .p) (omega arith)))
+      (opOf (t .op)) (wf .sound k c .is-placed)
+
+  pub keeps-values : (k : ℕ) → k < terms w → valueAt f I k ≡ valueAt w I k
+  keeps-values k b = keeps-within (suc k) k (omega arith) b
+
+-- Plan and condition of one term
+
+-- At a plan's number stands the condition, of all but stores; the last term of a read's group is the condition of that read.
+record Agree (f : List ℕ) (val : ℕ → Value) (stores : Bool) (plan : Plan) (c : Condition) : Type 0 where
+  own : stores ≡ false → val (plan .condition) .num ≡ bit (c .free)
+  read : (s : ℕ) {j cj x : ℕ} {d : Bool} → Known val j cj x d → Has f s (plan .readGroup s j cj) → val (lastOf s (plan .readGroup s j cj)) .num ≡ bit (c .readFree x d)
+
+-- a term of a Boolean or vector sort is no store
+no-store : (r : Rank) (x a b c : Sort) → typedAs r x a b c ≡ true → scalar x ≡ true → writes r ≡ false
+no-store Literal x a b c h s = refl
+no-store Input x a b c h s = refl
+no-store BoolUnary x a b c h s = refl
+no-store BoolBinary x a b c h s = refl
+no-store Equality x a b c h s = refl
+no-store Choice x a b c h s = refl
+no-store BvUnary x a b c h s = refl
+no-store BvBinary x a b c h s = refl
+no-store BvCompare x a b c h s = refl
+no-store Read x a b c h s = refl
+no-store Write x a b c h s = absurd (not-array x s (four (array x) (sameSort a x) (vectorOf (x .m) b) (vectorOf (x .n) c) h .0))
+no-store Other x a b c h s = refl
+
+same-scalar : (a b : Sort) → sameSort a b ≡ true → scalar b ≡ true → scalar a ≡ true
+same-scalar a b h s = ap (λ (m : ℕ). eqb m 0) (same-sort a b h .m) ∙ s
+
+scalar-same : (a b : Sort) → sameSort a b ≡ true → scalar a ≡ true → scalar b ≡ true
+scalar-same a b h s = ap (λ (m : ℕ). eqb m 0) (sym (same-sort a b h .m)) ∙ s
+
+vector-of-scalar : (n : ℕ) (s : Sort) → vectorOf n s ≡ true → scalar s ≡ true
+vector-of-scalar n s h = and-parts (eqb (s .m) 0) (eqb (s .n) n) h .0
+
+module _ (f : List ℕ) (I : Interpretation) (val : ℕ → Value) (law : (k : ℕ) → val k ≡ valueOf f I val (termAt f k)) where
+  -- no store: a read of it asks for its condition and the index's
+  plain-agrees : {stores : Bool} {group : List Term} {n : ℕ} {x : Bool} → val n .num ≡ bit x
+      → Agree f val stores (record { group = group; condition = n; readGroup = λ s j cj. variableGroup n cj }) (plain x)
+  plain-agrees {n = n} {x = x} e =
+      let itself : Known val n n (val n .num) x = record { value = refl; free = e } in
+      record { own = λ _. e; read = λ s index h. strict-group f I val law s itself index h }
+
+  -- t, of number k, with its operands' values v, conditions c, plans and sorts; yes and no are the numbers of T and F
+  module _ (yes no : ℕ) (yes-is : val yes .num ≡ 1) (no-is : val no .num ≡ 0)
+      (v : ℕ → Value) (c : ℕ → Condition) (plan : ℕ → Plan) (stores : ℕ → Bool) (sorts : ℕ → Sort) (k b : ℕ) (t : Term)
+      (same : (i : ℕ) → i < k → val i ≡ v i)
+      (before : (i : ℕ) → i < k → Agree f val (stores i) (plan i) (c i))
+      (scalars : (i : ℕ) → i < k → scalar (sorts i) ≡ true → stores i ≡ false) where
+    -- what is known of an operand that is no array
+    abbrev Operand : ℕ → Type 0
+    Operand i = Known val i (plan i .condition) (v i .num) (c i .free)
+
+    operand : (i : ℕ) → i < k → scalar (sorts i) ≡ true → Operand i
+    operand i l s = record { value = ap (λ (x : Value). x .num) (same i l); free = before i l .own (scalars i l s) }
+
+    -- C of a variable, by its mark
+    mark-is : (m : Bool) → val (cond m no yes) .num ≡ bit (not m)
+    mark-is true = no-is
+    mark-is false = yes-is
+
+    -- a read of a store: after the group of the array beneath, its own
+    store-read : t .p < k → Operand (t .q) → Operand (t .r)
+        → (s : ℕ) {j cj x : ℕ} {d : Bool} → Known val j cj x d → Has f s (storeRead ownMarks yes no plan b t s j cj)
+        → val (lastOf s (storeRead ownMarks yes no plan b t s j cj)) .num ≡ bit (storeFree ownMarks v c (sorts (t .p) .n) t x d)
+    store-read l at stored s {j} {cj} {x} {d} index h =
+        let under = plan (t .p) .readGroup s j cj in
+        let own = storeGroup (s + length under) (t .sort .n) (t .p) (t .q) (t .r) j (plan (t .q) .condition) (plan (t .r) .condition) cj (lastOf s under) in
+        let count : length (under ++ own) ≡ length under + 9 = length-append under own in
+        let last : lastOf s (under ++ own) ≡ s + length under + 8 = ap (λ (n : ℕ). s + pred n) count ∙ omega arith in
+        ap (λ (n : ℕ). val n .num) last
+        ∙ store-group f I val law (s + length under) (t .sort .n) (c (t .p) .readFree x d) (same (t .p) l) at stored index
+        (before (t .p) l .read s index (has-left f s under own h)) (has-right f s under own h)
+
+    -- two operands
+
+    abbrev Both : Type 0
+    Both = Operand (t .p) × Operand (t .q)
+
+    both : placedAs Two k t ≡ true → scalar (sorts (t .p)) ≡ true → scalar (sorts (t .q)) ≡ true → Both
+    both place sp sq = let l = two-placed k t place in (operand (t .p) (l .0) sp, operand (t .q) (l .1) sq)
+
+    truths : placedAs Two k t ≡ true → typedAs BoolBinary (t .sort) (sorts (t .p)) (sorts (t .q)) (sorts (t .r)) ≡ true → Both
+    truths place h =
+        let s = three (boolean (t .sort)) (boolean (sorts (t .p))) (boolean (sorts (t .q))) h in
+        both place (boolean-scalar (sorts (t .p)) (s .1)) (boolean-scalar (sorts (t .q)) (s .2))
+
+    vectors : placedAs Two k t ≡ true → typedAs BvBinary (t .sort) (sorts (t .p)) (sorts (t .q)) (sorts (t .r)) ≡ true → Both
+    vectors place h =
+        let s = three (vector (t .sort)) (sameSort (sorts (t .p)) (t .sort)) (sameSort (sorts (t .q)) (t .sort)) h in
+        let x = vector-scalar (t .sort) (s .0) in
+        both place (same-scalar (sorts (t .p)) (t .sort) (s .1) x) (same-scalar (sorts (t .q)) (t .sort) (s .2) x)
+
+    vector-width : typedAs BvBinary (t .sort) (sorts (t .p)) (sorts (t .q)) (sorts (t .r)) ≡ true → t .sort .n ≡ sorts (t .p) .n
+    vector-width h = sym (same-sort (sorts (t .p)) (t .sort) (three (vector (t .sort)) (sameSort (sorts (t .p)) (t .sort)) (sameSort (sorts (t .q)) (t .sort)) h .1) .n)
+
+    alikes : placedAs Two k t ≡ true → scalar (sorts (t .p)) ≡ true → sameSort (sorts (t .p)) (sorts (t .q)) ≡ true → Both
+    alikes place s e = both place s (scalar-same (sorts (t .p)) (sorts (t .q)) e s)
+
+    -- the term, by its operator
+    agree-by : (op : Op) → isKnown op ≡ true → typedAs (rankOf op) (t .sort) (sorts (t .p)) (sorts (t .q)) (sorts (t .r)) ≡ true → placedAs (fieldsOf (rankOf op)) k t ≡ true
+        → Has f b (planBy ownMarks yes no plan b t (lineOf op) .group)
+        → Agree f val (writes (rankOf op)) (planBy ownMarks yes no plan b t (lineOf op)) (conditionBy ownMarks v c (sorts (t .p) .n) t op)
+    unfolding planBy conditionBy settles isKnown
+    agree-by Constant known h place has = plain-agrees yes-is
+    agree-by Variable known h place has = plain-agrees (mark-is (ownMarks t))
+    agree-by Not known h place has =
+        plain-agrees (operand (t .p) (one-below k t place .0) (boolean-scalar (sorts (t .p)) (and-parts (boolean (t .sort)) (boolean (sorts (t .p))) h .1)) .free)
+    agree-by And known h place has = let o = truths place h in plain-agrees (and-group f I val law b (o .0) (o .1) has)
+    agree-by Or known h place has = let o = truths place h in plain-agrees (or-group f I val law b (o .0) (o .1) has)
+    agree-by Implies known h place has = let o = truths place h in plain-agrees (implies-group f I val law b (o .0) (o .1) has)
+    agree-by Equal known h place has =
+        let s = three (boolean (t .sort)) (scalar (sorts (t .p))) (sameSort (sorts (t .p)) (sorts (t .q))) h in
+        let o = alikes place (s .1) (s .2) in
+        plain-agrees (strict-group f I val law b (o .0) (o .1) has)
+    agree-by Ite known h place has =
+        let s = four (scalar (t .sort)) (boolean (sorts (t .p))) (sameSort (sorts (t .q)) (t .sort)) (sameSort (sorts (t .r)) (t .sort)) h in
+        let l = three-placed k t place in
+        plain-agrees
+        (choice-group f I val law b (operand (t .p) (l .0) (boolean-scalar (sorts (t .p)) (s .1))) (operand (t .q) (l .1) (same-scalar (sorts (t .q)) (t .sort) (s .2) (s .0)))
+        (operand (t .r) (l .2) (same-scalar (sorts (t .r)) (t .sort) (s .3) (s .0))) has)
+    agree-by BvNot known h place has =
+        let s = and-parts (vector (t .sort)) (sameSort (sorts (t .p)) (t .sort)) h in
+        plain-agrees (operand (t .p) (one-below k t place .0) (same-scalar (sorts (t .p)) (t .sort) (s .1) (vector-scalar (t .sort) (s .0))) .free)
+    agree-by BvAnd known h place has = let o = vectors place h in plain-agrees (absorbing-group f I val law b (o .0) (o .1) (t .sort .n) 0 0 refl has)
+    agree-by BvOr known h place has =
+        let o = vectors place h in
+        plain-agrees (absorbing-group f I val law b (o .0) (o .1) (t .sort .n) (ones (t .sort .n)) (ones (sorts (t .p) .n)) (ap ones (vector-width h)) has)
+    agree-by BvAdd known h place has = let o = vectors place h in plain-agrees (strict-group f I val law b (o .0) (o .1) has)
+    agree-by BvMul known h place has = let o = vectors place h in plain-agrees (absorbing-group f I val law b (o .0) (o .1) (t .sort .n) 0 0 refl has)
+    agree-by BvShl known h place has =
+        let o = vectors place h in
+        plain-agrees (shift-group f I val law b (o .0) (o .1) (t .sort .n) (sorts (t .p) .n) (vector-width h) has)
+    agree-by BvUlt known h place has =
+        let s = three (boolean (t .sort)) (vector (sorts (t .p))) (sameSort (sorts (t .p)) (sorts (t .q))) h in
+        let o = alikes place (vector-scalar (sorts (t .p)) (s .1)) (s .2) in
+        plain-agrees (strict-group f I val law b (o .0) (o .1) has)
+    agree-by Select known h place has =
+        let l = two-placed k t place in
+        let s = three (array (sorts (t .p))) (vectorOf (sorts (t .p) .m) (sorts (t .q))) (vectorOf (sorts (t .p) .n) (t .sort)) h in
+        plain-agrees (before (t .p) (l .0) .read b (operand (t .q) (l .1) (vector-of-scalar (sorts (t .p) .m) (sorts (t .q)) (s .1))) has)
+    agree-by Store known h place has =
+        let l = three-placed k t place in
+        let s = four (array (t .sort)) (sameSort (sorts (t .p)) (t .sort)) (vectorOf (t .sort .m) (sorts (t .q))) (vectorOf (t .sort .n) (sorts (t .r))) h in
+        record {
+          own = λ z. never (sym z);
+          read = store-read (l .0) (operand (t .q) (l .1) (vector-of-scalar (t .sort .m) (sorts (t .q)) (s .2))) (operand (t .r) (l .2) (vector-of-scalar (t .sort .n) (sorts (t .r)) (s .3)));
+        }
+    agree-by Unknown known h place has = never known
+
+-- The table, term by term
+
+module _ (w f : List ℕ) (I : Interpretation) (wf : WellFormed 512 w) (l : Layout w f) (ff : WellFormed 80000 f) where
+  abbrev AgreeAt : ℕ → Type 0
+  AgreeAt k = Agree f (valueAt f I) (storing (termAt w k)) (planAt w ownMarks k) (conditionAt w ownMarks I k)
+
+  -- what the lists of the first k terms say of term i
+  abbrev AgreeIn : ℕ → ℕ → Type 0
+  AgreeIn k i = Agree f (valueAt f I) (storing (termAt w i)) (planIn (plans w ownMarks k) i) (conditionIn (conditions w ownMarks I k) i)
+
+  agree-in : (k i : ℕ) → i < k → AgreeAt i → AgreeIn k i
+  agree-in k i b h =
+      subst (λ (p : Plan). Agree f (valueAt f I) (storing (termAt w i)) p (conditionIn (conditions w ownMarks I k) i)) (sym (fold-below (λ ps j. planOf w ownMarks ps (termAt w j)) (taken 0) k i b))
+      (subst (λ (c : Condition). Agree f (valueAt f I) (storing (termAt w i)) (planAt w ownMarks i) c) (sym (condition-below w ownMarks I k i b)) h)
+
+  scalar-stores : (k : ℕ) → k < terms w → scalar (sortAt w k) ≡ true → storing (termAt w k) ≡ false
+  scalar-stores k b = let t = termAt w k in no-store (rank t) (t .sort) (sortAt w (t .p)) (sortAt w (t .q)) (sortAt w (t .r)) (typing w k (wf .sound k b))
+
+  -- one term, those before it being known to agree
+  agree-step : (k : ℕ) → k < terms w → ((i : ℕ) → i < k → AgreeAt i) → AgreeAt k
+  agree-step k b before =
+      let s = wf .sound k b in
+      let law = value-law 80000 f I ff in
+      agree-by f I (valueAt f I) law (terms w) (terms w + 1) (constant-num f I (valueAt f I) law (true-at w f l)) (constant-num f I (valueAt f I) law (false-at w f l))
+      (valueIn (values w I k)) (conditionIn (conditions w ownMarks I k)) (planIn (plans w ownMarks k)) (λ i. storing (termAt w i)) (sortAt w) k (next w (plans w ownMarks k)) (termAt w k)
+      (λ i m. keeps-values w f I wf l i (omega arith) ∙ sym (value-below w I k i m))
+      (λ i m. agree-in k i m (before i m))
+      (λ i m. scalar-stores i (omega arith))
+      (opOf (termAt w k .op)) (op-at w k s) (typing w k s) (s .is-placed) (group-has w f l k b)
+
+  -- every term, by induction
+  agree-within : (n k : ℕ) → k < n → k < terms w → AgreeAt k
+  agree-within zero k b c = absurd (not-suc-le-zero b)
+  agree-within (suc n) k b c = agree-step k c (λ i m. agree-within n i (omega arith) (omega arith))
+
+  -- of every term that has a condition, the value at the condition's number is the condition
+  pub conditions-agree : (k : ℕ) → k < terms w → storing (termAt w k) ≡ false → valueAt f I (conditionNumber w k) .num ≡ bit (conditionAt w ownMarks I k .free)
+  conditions-agree k b s = agree-within (suc k) k (omega arith) b .own s
+
+  -- the last value is the conjunction of rule and condition
+  pub last-agrees : valueAt f I (next w (plans w ownMarks (terms w))) .num ≡ bit (holds (valueAt w I (pred (terms w)) .num) && conditionAt w ownMarks I (pred (terms w)) .free)
+  last-agrees =
+      let some : 0 < terms w = wf .some in
+      let rule = pred (terms w) in
+      let b : rule < terms w = omega arith in
+      let condition = conditions-agree rule b (scalar-stores rule b (boolean-scalar (sortAt w rule) (wf .rule))) in
+      and-num f I (valueAt f I) (value-law 80000 f I ff) (last-at w f l)
+      ∙ ap₂ (λ (x : Value) (y : Bool). bit (holds (x .num) && y)) (keeps-values w f I wf l rule b) (ap holds condition ∙ holds-bit (conditionAt w ownMarks I rule .free))

@@ -1,0 +1,11 @@
+use mathlib.Core.Path.{ap, _∙_}
+use Rattle.table.specs.Terms.{placed}
+use borrow.Author.Needs.{needs}
+use Rattle.finish.proofs.added.put_not.Statement.{statement}
+use Rattle.finish.proofs.added.put_not.Tie as tie
+
+returns : tie.Need-returns
+returns c = c .before .before .put .ensures ∙ ap (placed _ _) (c .before .before .before .bool-term .ensures)
+
+pub put-not-spec : {M : Type 1} → statement M
+put-not-spec = tie.close (tie.spec (λ c κs. search needs) (λ c κs. search needs) (λ c. search needs) returns)

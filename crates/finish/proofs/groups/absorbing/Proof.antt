@@ -1,0 +1,37 @@
+use native.Mathlib.Nat.{add-zero}
+use Rattle.finish.specs.Added.{laidFrom}
+use borrow.Author.Needs.{needs}
+use Rattle.finish.proofs.groups.absorbing.Statement.{statement}
+use Rattle.finish.proofs.groups.absorbing.Tie as tie
+
+returns : tie.Need-returns
+unfolding laidFrom
+returns c = rw (c .before .before .put-or2 .ensures, c .before .before .before .before .before .before .put-and3 .ensures, c .before .before .before .before .before .before .before .before .before .before .put-or .ensures, c .before .before .before .before .before .before .before .before .before .before .before .before .before .before .put-and2 .ensures, c .before .before .before .before .before .before .before .before .before .before .before .before .before .before .before .before .before .before .put-equal2 .ensures, c .before .before .before .before .before .before .before .before .before .before .before .before .before .before .before .before .before .before .before .before .before .before .put-and .ensures, c .before .before .before .before .before .before .before .before .before .before .before .before .before .before .before .before .before .before .before .before .before .before .before .before .before .before .put-equal .ensures, c .before .before .before .before .before .before .before .before .before .before .before .before .before .before .before .before .before .before .before .before .before .before .before .before .before .before .before .before .before .before .put-constant .ensures, add-zero (c .before .before .before .before .before .before .before .before .before .before .before .before .before .before .before .before .before .before .before .before .before .before .before .before .before .before .before .before .before .before .before .before .before .args .b))
+
+pub absorbing-spec : {M : Type 1} → statement M
+absorbing-spec =
+    tie.close
+    (tie.spec
+    (λ c κs. search needs)
+    (λ c. search needs)
+    (λ c κs. search needs)
+    (λ c. search needs)
+    (λ c. search needs)
+    (λ c κs. search needs)
+    (λ c. search needs)
+    (λ c κs. search needs)
+    (λ c. search needs)
+    (λ c. search needs)
+    (λ c κs. search needs)
+    (λ c. search needs)
+    (λ c. search needs)
+    (λ c. search needs)
+    (λ c κs. search needs)
+    (λ c. search needs)
+    (λ c κs. search needs)
+    (λ c. search needs)
+    (λ c. search needs)
+    (λ c. search needs)
+    (λ c κs. search needs)
+    (λ c. search needs)
+    returns)

@@ -2,6 +2,8 @@ pub mod GroupSizes
 pub mod Layouts
 pub mod AddedKinds
 pub mod Settings
+pub mod Rooms
+pub mod ReadGroups
 pub mod Good
 pub mod Admitted
 pub mod GroupValues

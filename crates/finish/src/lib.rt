@@ -2,6 +2,7 @@
 mod added; // the kinds of terms that are added
 mod groups; // writing each group
 mod lines; // which group an operator's condition has
+mod reads; // writing the group of a read
 
 use table::Refusal;
 ghost use mathlib.Core.Path.{_≡_};

@@ -6,7 +6,7 @@ use Rattle.finish.proofs.groups.shift.Tie as tie
 
 returns : tie.Need-returns
 unfolding laidFrom
-returns c = rw (c .before .before .put-or .ensures, c .before .before .before .before .before .before .put-and2 .ensures, c .before .before .before .before .before .before .before .before .before .before .put-and .ensures, c .before .before .before .before .before .before .before .before .before .before .before .before .before .before .put-not .ensures, c .before .before .before .before .before .before .before .before .before .before .before .before .before .before .before .before .before .before .put-less .ensures, c .before .before .before .before .before .before .before .before .before .before .before .before .before .before .before .before .before .before .before .before .before .before .put-constant .ensures, add-zero (c .before .before .before .before .before .before .before .before .before .before .before .before .before .before .before .before .before .before .before .before .before .before .before .before .before .args .b))
+returns c = (c .grown .ensures, rw (c .before .before .before .put-or .ensures, c .before .before .before .before .before .before .before .put-and2 .ensures, c .before .before .before .before .before .before .before .before .before .before .before .put-and .ensures, c .before .before .before .before .before .before .before .before .before .before .before .before .before .before .before .put-not .ensures, c .before .before .before .before .before .before .before .before .before .before .before .before .before .before .before .before .before .before .before .put-less .ensures, c .before .before .before .before .before .before .before .before .before .before .before .before .before .before .before .before .before .before .before .before .before .before .before .put-constant .ensures, add-zero (c .before .before .before .before .before .before .before .before .before .before .before .before .before .before .before .before .before .before .before .before .before .before .before .before .before .before .args .b)))
 
 pub shift-spec : {M : Type 1} → statement M
 shift-spec =
@@ -26,6 +26,7 @@ shift-spec =
     (λ c. search needs)
     (λ c. search needs)
     (λ c. search needs)
+    (λ c κs. search needs)
     (λ c κs. search needs)
     (λ c. search needs)
     returns)

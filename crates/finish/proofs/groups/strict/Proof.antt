@@ -6,7 +6,7 @@ use Rattle.finish.proofs.groups.strict.Tie as tie
 
 returns : tie.Need-returns
 unfolding laidFrom
-returns c = rw (c .before .before .put-and .ensures, add-zero (c .before .before .before .before .before .args .b))
+returns c = (c .grown .ensures, rw (c .before .before .before .put-and .ensures, add-zero (c .before .before .before .before .before .before .args .b)))
 
 pub strict-spec : {M : Type 1} → statement M
-strict-spec = tie.close (tie.spec (λ c κs. search needs) (λ c. search needs) returns)
+strict-spec = tie.close (tie.spec (λ c κs. search needs) (λ c κs. search needs) (λ c. search needs) returns)

@@ -11,7 +11,7 @@ use Rattle.table.specs.Terms.{termAt}
 use Rattle.table.specs.Faults.{storing, reading, chain}
 use Rattle.evaluate.specs.Steps.{stepsOf, steps}
 
-chain-most : (f : ℕ) (w : List ℕ) (k : ℕ) → chain f w k ≤ f
+pub chain-most : (f : ℕ) (w : List ℕ) (k : ℕ) → chain f w k ≤ f
 unfolding chain
 chain-most zero w k = omega arith
 chain-most (suc f) w k = go (storing (termAt w k)) (chain-most f w (termAt w k .p))

@@ -28,7 +28,8 @@ pub enum Evaluation {
     NotEvaluated(Refusal),
 }
 
-fn admits(a: Admission) -> bool
+// Whether it is no refusal.
+pub fn admits(a: Admission) -> bool
     ensures { λ r. ⌜ r ≡ admits a ⌝ }
 {
     match a {

@@ -359,9 +359,9 @@ module _ (limit : ℕ) (w f : List ℕ) (F : WellFormed limit w) (l : Layout w f
       go (yes e) before =
           let here : Fine f (start k + length (planAt w ownMarks k .group)) (sortAt w k) (planAt w ownMarks k) = planned-step k b before .fine in
           subst (λ (j : ℕ). Fine f (start (suc k)) (sortAt f j) (planAt w ownMarks j)) (sym e)
-          (subst (λ (at : ℕ). Fine f at (sortAt f k) (planAt w ownMarks k)) (sym (next-more w f l k))
+          (subst (λ (at : ℕ). Fine f at (sortAt f k) (planAt w ownMarks k)) (sym (next-more w k))
           (subst (λ (s : Sort). Fine f (start k + length (planAt w ownMarks k .group)) s (planAt w ownMarks k)) (sym (sort-same limit w f F l k b)) here))
-      go (no e) before = fine-later (start (suc k)) (omega (arith, next-more w f l k)) (before i (omega arith))
+      go (no e) before = fine-later (start (suc k)) (omega (arith, next-more w k)) (before i (omega arith))
 
   planned : (k : ℕ) → k < terms w → Planned f (start k) (sortAt w k) (planAt w ownMarks k)
   planned k b = planned-step k b (ready k (omega arith))
@@ -379,7 +379,7 @@ module _ (limit : ℕ) (w f : List ℕ) (F : WellFormed limit w) (l : Layout w f
       go (yes c) before = before c
       go (no c) before =
           let i = k - start n in
-          let inside : i < length (planAt w ownMarks n .group) = omega (arith, next-more w f l n) in
+          let inside : i < length (planAt w ownMarks n .group) = omega (arith, next-more w n) in
           let at : start n + i ≡ k = omega arith in
           subst (Sound f) at
           (good-sound f (start n + i) (getD (planAt w ownMarks n .group) i (constantT 0 0)) (group-has w f l n b i inside) (planned n b .all i inside))

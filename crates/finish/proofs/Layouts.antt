@@ -39,6 +39,10 @@ pub record Layout (w f : List ℕ) : Type 0 where
   pub count : terms f ≡ terms w + length (added w)
   pub whole : length f ≡ terms f * words
 
+-- the next group begins where this one ends
+pub next-more : (w : List ℕ) (k : ℕ) → next w (plans w ownMarks (suc k)) ≡ next w (plans w ownMarks k) + length (planAt w ownMarks k .group)
+next-more w k = ap (λ (g : List Term). terms w + 2 + length g) (groups-more w ownMarks k) ∙ rw length-append (omega arith)
+
 module _ (w f : List ℕ) (l : Layout w f) where
   pub true-at : termAt f (terms w) ≡ constantT 0 1
   true-at = has-first f (terms w) (added w) (l .has) (omega arith)
@@ -63,10 +67,6 @@ module _ (w f : List ℕ) (l : Layout w f) where
       let e : suc k + d ≡ terms w = omega arith in
       has-right f (terms w + 2) (groups (plans w ownMarks k)) (planAt w ownMarks k .group)
       (subst (Has f (terms w + 2)) (groups-more w ownMarks k) (groups-has d (suc k) e))
-
-  -- the next group begins where this one ends
-  pub next-more : (k : ℕ) → next w (plans w ownMarks (suc k)) ≡ next w (plans w ownMarks k) + length (planAt w ownMarks k .group)
-  next-more k = ap (λ (g : List Term). terms w + 2 + length g) (groups-more w ownMarks k) ∙ rw length-append (omega arith)
 
   pub count-is : terms f ≡ next w (plans w ownMarks (terms w)) + 1
   count-is = l .count ∙ rw length-append (omega arith)

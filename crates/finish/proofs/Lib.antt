@@ -4,6 +4,8 @@ pub mod AddedKinds
 pub mod Settings
 pub mod Rooms
 pub mod ReadGroups
+pub mod TermGroups
+pub mod Loops
 pub mod Good
 pub mod Admitted
 pub mod GroupValues

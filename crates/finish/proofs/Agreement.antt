@@ -288,7 +288,7 @@ module _ (w f : List ℕ) (I : Interpretation) (wf : WellFormed 512 w) (l : Layo
       subst (λ (p : Plan). Agree f (valueAt f I) (storing (termAt w i)) p (conditionIn (conditions w ownMarks I k) i)) (sym (fold-below (λ ps j. planOf w ownMarks ps (termAt w j)) (taken 0) k i b))
       (subst (λ (c : Condition). Agree f (valueAt f I) (storing (termAt w i)) (planAt w ownMarks i) c) (sym (condition-below w ownMarks I k i b)) h)
 
-  scalar-stores : (k : ℕ) → k < terms w → scalar (sortAt w k) ≡ true → storing (termAt w k) ≡ false
+  pub scalar-stores : (k : ℕ) → k < terms w → scalar (sortAt w k) ≡ true → storing (termAt w k) ≡ false
   scalar-stores k b = let t = termAt w k in no-store (rank t) (t .sort) (sortAt w (t .p)) (sortAt w (t .q)) (sortAt w (t .r)) (typing w k (wf .sound k b))
 
   -- one term, those before it being known to agree

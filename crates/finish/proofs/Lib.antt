@@ -6,6 +6,9 @@ pub mod Rooms
 pub mod ReadGroups
 pub mod TermGroups
 pub mod Loops
+pub mod Fills
+pub mod Promises
+pub mod Answers
 pub mod Good
 pub mod Admitted
 pub mod GroupValues

@@ -89,7 +89,7 @@ module _ (front begin : List ℕ) (k : ℕ) (x : Term) (full : length front ≡ 
         next-number three begin (k * words + 3) (k * words + 4) (x .p) e3 (omega arith) (omega arith),
         next-number four begin (k * words + 4) (k * words + 5) (x .q) e4 (omega arith) (omega arith),
         next-number five begin (k * words + 5) (k * words + 6) (x .r) e5 (omega arith) (omega arith),
-        next
+        next,
       )
       (simp append-assoc)
 

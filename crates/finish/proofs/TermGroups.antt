@@ -90,15 +90,15 @@ module _ (w conditions : List ℕ) (f : WellFormed 512 w) (h : Numbered w condit
   written-is l e r c n =
       let condition : r .condition ≡ planAt w ownMarks i .condition = c ∙ ap (λ (y : Plan). y .condition) (plan-is l e) in
       let next-is : r .next ≡ next w (plans w ownMarks (suc i)) =
-          n ∙ ap₂ (λ (s : ℕ) (y : Plan). s + length (y .group)) b-is (plan-is l e) ∙ sym (next-more w i) in
+      n ∙ ap₂ (λ (s : ℕ) (y : Plan). s + length (y .group)) b-is (plan-is l e) ∙ sym (next-more w i) in
       λ k. record { condition = condition k; next = next-is k }
 
   -- a group g, whose last is the condition
   pub grows : (l : Line) → line ≡ l → (g : List Term) → g ≡ planned l .group → planned l .condition ≡ lastOf b (planned l .group) → (r : Written) (room last : List ℕ)
       → (r ≡ after b g) × (last ≡ laid room b g) → (r ≡ written w i) × (last ≡ laid room b (planAt w ownMarks i .group))
   grows l e g same c r room last (answer, wrote) = (
-      written-is l e r (ap (λ (y : Written). y .condition) answer ∙ ap (lastOf b) same ∙ sym c) (ap (λ (y : Written). y .next) answer ∙ ap (λ (y : List Term). b + length y) same),
-      wrote ∙ ap (laid room b) (same ∙ ap (λ (y : Plan). y .group) (plan-is l e)),
+    written-is l e r (ap (λ (y : Written). y .condition) answer ∙ ap (lastOf b) same ∙ sym c) (ap (λ (y : Written). y .next) answer ∙ ap (λ (y : List Term). b + length y) same),
+    wrote ∙ ap (laid room b) (same ∙ ap (λ (y : Plan). y .group) (plan-is l e)),
   )
 
   -- nothing added
@@ -106,8 +106,8 @@ module _ (w conditions : List ℕ) (f : WellFormed 512 w) (h : Numbered w condit
       → r ≡ record { condition = c; next = b } → (r ≡ written w i) × (room ≡ laid room b (planAt w ownMarks i .group))
   unfolding laidFrom
   stays l e none c is r room answer = (
-      written-is l e r (ap (λ (y : Written). y .condition) answer ∙ is) (ap (λ (y : Written). y .next) answer ∙ sym (add-zero b) ∙ sym (ap (λ (y : List Term). b + length y) none)),
-      sym (ap (laid room b) (sym (ap (λ (y : Plan). y .group) (plan-is l e)) ∙ none)),
+    written-is l e r (ap (λ (y : Written). y .condition) answer ∙ is) (ap (λ (y : Written). y .next) answer ∙ sym (add-zero b) ∙ sym (ap (λ (y : List Term). b + length y) none)),
+    sym (ap (laid room b) (sym (ap (λ (y : Plan). y .group) (plan-is l e)) ∙ none)),
   )
 
   -- a read's array is an earlier term

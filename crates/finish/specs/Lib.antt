@@ -5,3 +5,4 @@ pub mod Sizes
 pub mod Writing
 pub mod Finished
 pub mod Laws
+pub mod Bench

@@ -10,7 +10,7 @@ grown-requires : tie.Need-grown-requires
 grown-requires c κs = (c .before .before .before .before .before .before .before .before .before .before .before .before .before .before .before .before .before .before .before .before .before .before .before .before .before .before .before .before .before .before .before .before .before .pre, (omega arith, omega arith))
 
 same-length : tie.Need-same-length
-same-length c = 
+same-length c =
     c .before .before .before .put-or2 .kept .0
     ∙ c .before .before .before .before .before .before .before .put-and3 .kept .0
     ∙ c .before .before .before .before .before .before .before .before .before .before .before .put-or .kept .0

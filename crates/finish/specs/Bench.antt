@@ -1,0 +1,115 @@
+-- Finished tables, by computation: rows of one list, and paper 01's rules G and H whole.
+-- Assumes nothing.
+use mathlib.Core.Path.{_≡_, refl}
+use mathlib.Core.Bool.{Bool, true, _&&_}
+use mathlib.Core.List.{List, [], _∷_}
+use Prim.Native.Nat.{ℕ, pred}
+use lib.Dec.{eqb}
+use lib.ListN.{getD}
+use Rattle.table.specs.Bench.{term, ruleG, ruleH}
+use Rattle.table.specs.Folds.{fold}
+use Rattle.table.specs.Terms.{terms, wordAt}
+use Rattle.table.specs.Faults.{typed, anyBelow, clash, chain, faultIf, fault}
+use Rattle.table.specs.Admission.{scan, admissionWithin, admission}
+use Rattle.evaluate.specs.Evaluation.{admits}
+use Rattle.finish.specs.Added.{flat}
+use Rattle.finish.specs.Plans.{planBy, groups}
+use Rattle.finish.specs.Finished.{finished, extent}
+
+-- a table, and of the finished one what the paper says: the count of terms, the number of C(rule), the last term's six numbers
+pub record Row : Type 0 where
+  pub table : List ℕ
+  pub count : ℕ
+  pub condition : ℕ
+  pub last : List ℕ
+
+-- number j of a row's last term is as the row says
+abbrev ends : Row → ℕ → Bool
+ends x j = eqb (wordAt (finished (x .table)) (pred (x .count)) j) (getD (x .last) j 0)
+
+-- a row is right: its table is admitted, and finished it is as the row says
+pub right : Row → Bool
+right x =
+    admits (admission (x .table))
+    && eqb (terms (finished (x .table))) (x .count)
+    && eqb (extent (x .table) .condition) (x .condition)
+    && ends x 0 && ends x 1 && ends x 2 && ends x 3 && ends x 4 && ends x 5
+
+-- every row is right
+pub all : List Row → Bool
+all [] = true
+all (x ∷ xs) = right x && all xs
+
+-- "and" of an unmarked and a marked Boolean (slots 0, 1), which the rule leaves aside: not of the unmarked one
+abbrev unmarkedRule : List ℕ
+unmarkedRule = term 1 0 0 0 0 0 (term 1 0 0 1 1 0 (term 3 0 0 0 1 0 (term 2 0 0 0 0 0 [])))
+
+-- rule G; rule H; a rule whose condition is T
+pub rows : List Row
+rows =
+    record { table = ruleG; count = 20; condition = 18; last = term 3 0 0 6 18 0 [] }
+    ∷ record { table = ruleH; count = 21; condition = 19; last = term 3 0 0 6 19 0 [] }
+    ∷ record { table = unmarkedRule; count = 14; condition = 4; last = term 3 0 0 3 4 0 [] }
+    ∷ []
+
+-- by computation
+pub examples : all rows ≡ true
+unfolding all rows right admissionWithin scan fault faultIf typed anyBelow clash chain fold finished flat planBy groups
+examples = refl
+
+-- Rule G: T is 7 and F is 8; the product's group is 9 to 16, the sum's 17, the comparison's 18
+abbrev pub finishedG : List ℕ
+finishedG =
+    term 1 0 8 0 0 0
+    (term 1 0 8 1 1 0
+    (term 1 0 8 2 0 0
+    (term 12 0 8 0 1 0
+    (term 11 0 8 3 2 0
+    (term 0 0 8 0 0 0
+    (term 14 0 0 5 4 0
+    (term 0 0 0 1 0 0
+    (term 0 0 0 0 0 0
+    (term 0 0 8 0 0 0
+    (term 6 0 0 0 9 0
+    (term 3 0 0 7 10 0
+    (term 6 0 0 1 9 0
+    (term 3 0 0 8 12 0
+    (term 4 0 0 11 13 0
+    (term 3 0 0 7 8 0
+    (term 4 0 0 14 15 0
+    (term 3 0 0 16 7 0
+    (term 3 0 0 7 17 0
+    (term 3 0 0 6 18 0 [])))))))))))))))))))
+
+pub finished-G : finished ruleG ≡ finishedG
+unfolding finished flat fold planBy groups
+finished-G = refl
+
+-- Rule H: T is 7 and F is 8; the read's group is 9 to 18, of which 9 is the variable's and the rest the store's; the equality's is 19
+abbrev pub finishedH : List ℕ
+finishedH =
+    term 1 8 8 0 1 0
+    (term 1 0 8 1 0 0
+    (term 1 0 8 2 0 0
+    (term 0 0 8 42 0 0
+    (term 16 8 8 0 1 3
+    (term 15 0 8 4 2 0
+    (term 6 0 0 5 3 0
+    (term 0 0 0 1 0 0
+    (term 0 0 0 0 0 0
+    (term 3 0 0 8 7 0
+    (term 15 0 8 0 2 0
+    (term 6 0 0 1 2 0
+    (term 7 0 0 11 7 9
+    (term 3 0 0 7 7 0
+    (term 3 0 0 13 12 0
+    (term 6 0 0 3 10 0
+    (term 3 0 0 7 9 0
+    (term 3 0 0 16 15 0
+    (term 4 0 0 14 17 0
+    (term 3 0 0 18 7 0
+    (term 3 0 0 6 19 0 []))))))))))))))))))))
+
+pub finished-H : finished ruleH ≡ finishedH
+unfolding finished flat fold planBy groups
+finished-H = refl

@@ -1,0 +1,44 @@
+-- What the C interface answers: 0, or the refusal's number; and four numbers. A refusal's place stands first, the rest is 0.
+-- Assumes nothing.
+use mathlib.Core.List.{List, [], _∷_}
+use Prim.Native.Nat.{ℕ}
+use Rattle.ops.specs.Meaning.{bit}
+use Rattle.table.specs.declared.Refusal.{Refusal}
+use Rattle.table.specs.declared.Admission.{Admission}
+use Rattle.table.specs.declared.Admission.the-variants.{Admitted, Refused}
+use Rattle.evaluate.specs.declared.Evaluation.{Evaluation}
+use Rattle.evaluate.specs.declared.Evaluation.the-variants.{Evaluated, NotEvaluated}
+use Rattle.judge.specs.declared.Judgement.{Judgement}
+use Rattle.judge.specs.declared.Judgement.the-variants.{Judged, NotJudged}
+use Rattle.finish.specs.declared.Finishing.{Finishing}
+use Rattle.finish.specs.declared.Finishing.the-variants.{Finished, NotFinished}
+use Rattle.hiranthok.specs.declared.replies.Reply.{Reply}
+
+abbrev pub results : ℕ → ℕ → ℕ → ℕ → Reply
+results a b c d = record { number = 0; first = a; second = b; third = c; fourth = d }
+
+abbrev pub refusal : Refusal → Reply
+refusal r = record { number = r .number; first = r .place; second = 0; third = 0; fourth = 0 }
+
+-- the four numbers
+abbrev pub row : Reply → List ℕ
+row r = r .first ∷ r .second ∷ r .third ∷ r .fourth ∷ []
+
+abbrev pub admitted : Admission → Reply
+admitted Admitted = results 0 0 0 0
+admitted (Refused r) = refusal r
+
+-- terms, number of C(rule), last
+abbrev pub finished : Finishing → Reply
+finished (Finished e) = results (e .terms) (e .condition) (e .last) 0
+finished (NotFinished r) = refusal r
+
+-- steps, left
+abbrev pub evaluated : Evaluation → Reply
+evaluated (Evaluated s) = results (s .steps) (s .left) 0 0
+evaluated (NotEvaluated r) = refusal r
+
+-- rule, condition, steps, left
+abbrev pub judged : Judgement → Reply
+judged (Judged v) = results (bit (v .rule)) (bit (v .condition)) (v .steps) (v .left)
+judged (NotJudged r) = refusal r

@@ -1,0 +1,77 @@
+// The C interface: each function answers 0, or the refusal's number with its place in answer[0] and the rest of answer 0.
+// include/hiranthok.h declares them.
+mod replies; // the library's answers as C's
+
+use replies::deliver;
+ghost use mathlib.Core.Path.{_≡_};
+ghost use lib.ListN.{length};
+ghost use Rattle.table.specs.Admission.{admission};
+ghost use Rattle.finish.specs.Finished.{finishing};
+ghost use Rattle.finish.specs.Finished as finishes;
+ghost use Rattle.finish.specs.Laws as finishes-laws;
+ghost use Rattle.evaluate.specs.Evaluation.{evaluation};
+ghost use Rattle.evaluate.specs.Evaluation as evaluates;
+ghost use Rattle.judge.specs.Judgement.{judgement};
+ghost use Rattle.judge.specs.Judgement as judges;
+ghost use Rattle.judge.specs.Demand3 as judges-laws;
+ghost use Rattle.hiranthok.specs.Replies.{row, admitted, finished, evaluated, judged};
+
+#[no_mangle]
+pub extern "C" fn hiranthok_admit(table: &[u32], answer: &mut [u64; 4]) -> u32
+    ensures { λ r. ⌜ r ≡ admitted (admission (now (table .entry))) .number ⌝ }
+    ensures { λ r. ⌜ now (answer .exit) ≡ row (admitted (admission (now (table .entry)))) ⌝ }
+{
+    deliver(replies::admitted(table::admit(table)), answer)
+}
+
+// terms, number of C(rule), last
+#[no_mangle]
+pub extern "C" fn hiranthok_finish(table: &[u32], room: &mut [u32], answer: &mut [u64; 4]) -> u32
+    ensures { λ r. ⌜ r ≡ finished (finishing (now (table .entry)) (length (now (room .entry)))) .number ⌝ }
+    ensures { λ r. ⌜ now (answer .exit) ≡ row (finished (finishing (now (table .entry)) (length (now (room .entry))))) ⌝ }
+    ensures { λ r. ⌜ now (room .exit) ≡ finishes.roomAfter (finishing (now (table .entry)) (length (now (room .entry)))) (now (table .entry)) (now (room .entry)) ⌝ }
+    ensures { λ r. ⌜ finishes-laws.Promise (now (table .entry)) (now (room .exit)) (finishing (now (table .entry)) (length (now (room .entry)))) ⌝ }
+{
+    deliver(replies::finished(finish::finish(table, room)), answer)
+}
+
+// steps, left
+#[no_mangle]
+pub extern "C" fn hiranthok_evaluate(
+    table: &[u32],
+    values: &[u32],
+    cells: &[u32],
+    allowance: u64,
+    work: &mut [u32],
+    answer: &mut [u64; 4],
+) -> u32
+    ensures { λ r. ⌜ r ≡ evaluated (evaluation (now (table .entry)) (now (values .entry)) (now (cells .entry)) allowance (length (now (work .entry)))) .number ⌝ }
+    ensures { λ r. ⌜ now (answer .exit) ≡ row (evaluated (evaluation (now (table .entry)) (now (values .entry)) (now (cells .entry)) allowance (length (now (work .entry))))) ⌝ }
+    ensures { λ r. ⌜ now (work .exit) ≡ evaluates.roomAfter (evaluation (now (table .entry)) (now (values .entry)) (now (cells .entry)) allowance (length (now (work .entry)))) (now (table .entry)) (now (values .entry)) (now (cells .entry)) (now (work .entry)) ⌝ }
+{
+    deliver(
+        replies::evaluated(evaluate::evaluate(table, values, cells, allowance, work)),
+        answer,
+    )
+}
+
+// rule, condition, steps, left
+#[no_mangle]
+pub extern "C" fn hiranthok_judge(
+    table: &[u32],
+    values: &[u32],
+    cells: &[u32],
+    allowance: u64,
+    work: &mut [u32],
+    answer: &mut [u64; 4],
+) -> u32
+    ensures { λ r. ⌜ r ≡ judged (judgement (now (table .entry)) (now (values .entry)) (now (cells .entry)) allowance (length (now (work .entry)))) .number ⌝ }
+    ensures { λ r. ⌜ now (answer .exit) ≡ row (judged (judgement (now (table .entry)) (now (values .entry)) (now (cells .entry)) allowance (length (now (work .entry))))) ⌝ }
+    ensures { λ r. ⌜ now (work .exit) ≡ judges.roomAfter (judgement (now (table .entry)) (now (values .entry)) (now (cells .entry)) allowance (length (now (work .entry)))) (now (table .entry)) (now (values .entry)) (now (cells .entry)) (now (work .entry)) ⌝ }
+    ensures { λ r. ⌜ judges-laws.Promise (now (table .entry)) (now (values .entry)) (now (cells .entry)) (judgement (now (table .entry)) (now (values .entry)) (now (cells .entry)) allowance (length (now (work .entry)))) ⌝ }
+{
+    deliver(
+        replies::judged(judge::judge(table, values, cells, allowance, work)),
+        answer,
+    )
+}

@@ -1,22 +1,19 @@
 -- Terms placed one after the other.
 -- Assumes nothing.
 use mathlib.Core.Path.{_≡_, refl, ap, _∙_}
-use mathlib.Core.Bool.{Bool, true, false, cond}
 use mathlib.Core.List.{List}
-use Prim.Native.Nat.{ℕ, _+_, _*_, _≤_, _<_}
+use Prim.Native.Nat.{ℕ, _+_, _≤_, _<_}
 use native.Mathlib.Numerals.{add-one}
 use native.Mathlib.Omega.{arith}
-use lib.Dec.{leb}
-use lib.ListN.{length, set, length-set}
-use Rattle.examples.specs.Tables.{placed, stacked}
+use lib.ListN.{length}
+use Rattle.table.specs.declared.words.Term.{Term}
+use Rattle.table.specs.Terms.{placed}
+use Rattle.table.proofs.Places.{length-placed}
+use Rattle.examples.specs.Tables.{termOf, stacked}
 
-length-cond : (b : Bool) (s t : List ℕ) → length s ≡ length t → length (cond b s t) ≡ length t
-length-cond true s t e = e
-length-cond false s t e = refl
-
-pub length-placed : (t : List ℕ) (k op m n p q r : ℕ) → length (placed t k op m n p q r) ≡ length t
-unfolding placed
-length-placed t k op m n p q r = length-cond (leb (k * 6 + 6) (length t)) _ t (simp length-set)
+-- a term placed on what is known
+pub then : {s t u : List ℕ} (k : ℕ) (x : Term) → s ≡ placed t k x → t ≡ u → s ≡ placed u k x
+then k x e f = e ∙ ap (λ (l : List ℕ). placed l k x) f
 
 -- k stores stand on what was there where they began
 pub record Stacked (t : List ℕ) (count : ℕ) (now : List ℕ) (k : ℕ) : Type 0 where
@@ -30,13 +27,13 @@ module _ (t : List ℕ) (count : ℕ) where
   begun = record { within = omega arith; size = refl; is = refl }
 
   module _ (now : List ℕ) (k : ℕ) (h : Stacked t count now k) where
-    pub more : k < count → (next : List ℕ) → next ≡ placed now (k + 2) 16 8 8 (k + 1) 0 0 → Stacked t count next (k + 1)
+    pub more : k < count → (next : List ℕ) → next ≡ placed now (k + 2) (termOf 16 8 8 (k + 1) 0 0) → Stacked t count next (k + 1)
     unfolding stacked
     more inside next e =
         record {
           within = omega arith;
-          size = ap length e ∙ length-placed now (k + 2) 16 8 8 (k + 1) 0 0 ∙ h .size;
-          is = rw add-one (e ∙ ap (λ (l : List ℕ). placed l (k + 2) 16 8 8 (k + 1) 0 0) (h .is));
+          size = ap length e ∙ length-placed now (k + 2) (termOf 16 8 8 (k + 1) 0 0) ∙ h .size;
+          is = rw add-one (e ∙ ap (λ (l : List ℕ). placed l (k + 2) (termOf 16 8 8 (k + 1) 0 0)) (h .is));
         }
 
     pub done : count ≤ k → now ≡ stacked t count

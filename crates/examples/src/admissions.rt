@@ -1,8 +1,12 @@
 // What admit answers.
+use crate::rules::as_first;
+use crate::rules::as_fourth;
+use crate::rules::between;
 use crate::rules::put;
 use crate::rules::put_stores;
 use crate::rules::rule_g;
 use crate::rules::rule_h;
+use crate::shows::show_refusal;
 use libc::STDOUT_FILENO;
 use table::Admission;
 
@@ -11,33 +15,23 @@ fn show(name: &[u8], answer: Admission) {
     io::write_all(STDOUT_FILENO, name);
     match answer {
         Admission::Admitted => {
-            io::write_all(STDOUT_FILENO, b": admitted\n");
+            io::write_all(STDOUT_FILENO, b": admitted");
         }
         Admission::Refused(refusal) => {
-            io::write_all(STDOUT_FILENO, b": refused ");
-            io::print_decimal(STDOUT_FILENO, refusal.number as u64);
-            io::write_all(STDOUT_FILENO, b" at ");
-            io::print_decimal(STDOUT_FILENO, refusal.place);
-            io::write_all(STDOUT_FILENO, b"\n");
+            show_refusal(refusal);
         }
     }
+    io::write_all(STDOUT_FILENO, b"\n");
 }
 
 // A table of two terms, the second a Boolean constant.
 fn first_term(name: &[u8], op: u32, m: u32, n: u32, p: u32, q: u32, r: u32) {
-    let mut table = [0u32; 12];
-    put(&mut table, 0, op, m, n, p, q, r);
-    show(name, table::admit(&table));
+    show(name, table::admit(&as_first(op, m, n, p, q, r)));
 }
 
 // A table of four: a Boolean, a vector of width 8 and an array (8, 8), all unmarked, then the term given.
 fn fourth_term(name: &[u8], op: u32, m: u32, n: u32, p: u32, q: u32, r: u32) {
-    let mut table = [0u32; 24];
-    put(&mut table, 0, 1, 0, 0, 0, 0, 0);
-    put(&mut table, 1, 1, 0, 8, 1, 0, 0);
-    put(&mut table, 2, 1, 8, 8, 2, 0, 0);
-    put(&mut table, 3, op, m, n, p, q, r);
-    show(name, table::admit(&table));
+    show(name, table::admit(&as_fourth(op, m, n, p, q, r)));
 }
 
 // Rules G and H; 16 stores and a 17th; one slot both marked and unmarked.
@@ -118,22 +112,18 @@ pub fn values() {
 }
 
 // A Boolean variable of slot 3, then a term, then a Boolean variable of slot 3.
-fn between(name: &[u8], op: u32, n: u32, q: u32, mark: u32) {
-    let mut table = [0u32; 18];
-    put(&mut table, 0, 1, 0, 0, 3, 0, 0);
-    put(&mut table, 1, op, 0, n, 3, q, 0);
-    put(&mut table, 2, 1, 0, 0, 3, mark, 0);
-    show(name, table::admit(&table));
+fn middle_term(name: &[u8], op: u32, n: u32, q: u32, mark: u32) {
+    show(name, table::admit(&between(op, n, q, mark)));
 }
 
 // 8: one slot, another sort or mark. It is merged with the other refusals by place.
 pub fn clashes() {
-    between(b"one slot three times", 1, 0, 0, 0);
-    between(b"one slot with two sorts", 1, 8, 0, 0);
-    between(b"one slot with two marks", 1, 0, 0, 1);
-    between(b"a clash, then a wrong mark", 1, 0, 1, 2);
-    between(b"a wrong mark, then a clash", 1, 0, 2, 1);
-    between(b"op 17, then a clash", 17, 0, 0, 1);
+    middle_term(b"one slot three times", 1, 0, 0, 0);
+    middle_term(b"one slot with two sorts", 1, 8, 0, 0);
+    middle_term(b"one slot with two marks", 1, 0, 0, 1);
+    middle_term(b"a clash, then a wrong mark", 1, 0, 1, 2);
+    middle_term(b"a wrong mark, then a clash", 1, 0, 2, 1);
+    middle_term(b"op 17, then a clash", 17, 0, 0, 1);
     let mut table = [0u32; 18];
     put(&mut table, 0, 1, 0, 0, 3, 0, 0);
     put(&mut table, 1, 1, 0, 0, 3, 1, 0);

@@ -1,45 +1,27 @@
 // What evaluate answers, and what it leaves in the work room.
 use crate::rules::put;
-use crate::rules::put_stores;
 use crate::rules::rule_g;
 use crate::rules::rule_h;
+use crate::rules::three_stores;
+use crate::shows::show_count;
+use crate::shows::show_refusal;
+use crate::shows::show_room;
 use evaluate::Evaluation;
 use libc::STDOUT_FILENO;
 
-fn show_number(n: u32) {
-    io::write_all(STDOUT_FILENO, b" ");
-    io::print_decimal(STDOUT_FILENO, n as u64);
-}
-
-// The numbers of a room, one after the other.
-pub fn show_room(room: &[u32]) {
-    let mut i = 0;
-    while i < room.len() {
-        show_number(room[i]);
-        i += 1;
-    }
-}
-
 // A name, what was answered, and the room.
-fn show(name: &[u8], answer: Evaluation, room: &[u32]) {
+pub fn show(name: &[u8], answer: Evaluation, room: &[u32]) {
     io::write_all(STDOUT_FILENO, name);
     match answer {
         Evaluation::Evaluated(spent) => {
-            io::write_all(STDOUT_FILENO, b": steps ");
-            io::print_decimal(STDOUT_FILENO, spent.steps);
-            io::write_all(STDOUT_FILENO, b", left ");
-            io::print_decimal(STDOUT_FILENO, spent.left);
+            show_count(b": steps ", spent.steps);
+            show_count(b", left ", spent.left);
         }
         Evaluation::NotEvaluated(refusal) => {
-            io::write_all(STDOUT_FILENO, b": refused ");
-            io::print_decimal(STDOUT_FILENO, refusal.number as u64);
-            io::write_all(STDOUT_FILENO, b" at ");
-            io::print_decimal(STDOUT_FILENO, refusal.place);
+            show_refusal(refusal);
         }
     }
-    io::write_all(STDOUT_FILENO, b"; room");
     show_room(room);
-    io::write_all(STDOUT_FILENO, b"\n");
 }
 
 // Evaluates with a room of nine numbers, each 7.
@@ -153,11 +135,7 @@ pub fn rooms() {
     let mut exact = [7u32; 7];
     let again = evaluate::evaluate(&rule_h(), &[9, 0, 0], &[], 1, &mut exact);
     show(b"a room of seven", again, &exact);
-    let mut three = [0u32; 42];
-    put_stores(&mut three, 3);
-    put(&mut three, 5, 15, 0, 8, 4, 0, 0);
-    put(&mut three, 6, 6, 0, 0, 5, 0, 0);
-    run(b"three stores, allowance 2", &three, &[9], &[], 2);
-    run(b"three stores, allowance 5", &three, &[9], &[], 5);
+    run(b"three stores, allowance 2", &three_stores(), &[9], &[], 2);
+    run(b"three stores, allowance 5", &three_stores(), &[9], &[], 5);
     run(b"an empty table, and nothing else", &[], &[], &[1], 0);
 }

@@ -1,20 +1,14 @@
 // What judge answers, and what it leaves in the work room: values, then truths.
-use crate::evaluations::show_room;
 use crate::rules::put;
-use crate::rules::put_stores;
 use crate::rules::rule_g;
 use crate::rules::rule_h;
+use crate::rules::three_stores;
+use crate::shows::show_count;
+use crate::shows::show_refusal;
+use crate::shows::show_room;
+use crate::shows::show_truth;
 use judge::Judgement;
 use libc::STDOUT_FILENO;
-
-fn show_truth(name: &[u8], truth: bool) {
-    io::write_all(STDOUT_FILENO, name);
-    if truth {
-        io::write_all(STDOUT_FILENO, b" true");
-    } else {
-        io::write_all(STDOUT_FILENO, b" false");
-    }
-}
 
 // What was answered.
 fn show_answer(answer: Judgement) {
@@ -23,16 +17,11 @@ fn show_answer(answer: Judgement) {
             show_truth(b": rule", v.rule);
             show_truth(b", condition", v.condition);
             show_truth(b", passes", judge::passes(v));
-            io::write_all(STDOUT_FILENO, b", steps ");
-            io::print_decimal(STDOUT_FILENO, v.steps);
-            io::write_all(STDOUT_FILENO, b", left ");
-            io::print_decimal(STDOUT_FILENO, v.left);
+            show_count(b", steps ", v.steps);
+            show_count(b", left ", v.left);
         }
         Judgement::NotJudged(refusal) => {
-            io::write_all(STDOUT_FILENO, b": refused ");
-            io::print_decimal(STDOUT_FILENO, refusal.number as u64);
-            io::write_all(STDOUT_FILENO, b" at ");
-            io::print_decimal(STDOUT_FILENO, refusal.place);
+            show_refusal(refusal);
         }
     }
 }
@@ -43,9 +32,7 @@ fn run(name: &[u8], table: &[u32], values: &[u32], cells: &[u32], allowance: u64
     let answer = judge::judge(table, values, cells, allowance, &mut room);
     io::write_all(STDOUT_FILENO, name);
     show_answer(answer);
-    io::write_all(STDOUT_FILENO, b"; room");
     show_room(&room);
-    io::write_all(STDOUT_FILENO, b"\n");
 }
 
 // P1 to P4.
@@ -94,11 +81,7 @@ pub fn terms() {
     put(&mut either, 4, 4, 0, 0, 2, 3, 0);
     run(b"P12, x 4", &either, &[4], &[], 0);
     run(b"P12, x 5", &either, &[5], &[], 0);
-    let mut three = [0u32; 42];
-    put_stores(&mut three, 3);
-    put(&mut three, 5, 15, 0, 8, 4, 0, 0);
-    put(&mut three, 6, 6, 0, 0, 5, 0, 0);
-    run(b"three stores", &three, &[9], &[], 5);
+    run(b"three stores", &three_stores(), &[9], &[], 5);
 }
 
 // Refusals of judge: its limit, its room of two numbers a term, and a setting that fits and is refused.

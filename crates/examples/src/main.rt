@@ -1,8 +1,10 @@
 // Paper 01's bench examples and our own, run through the library. What is printed is held to the file stdout.
 mod admissions; // what admit answers
 mod evaluations; // what evaluate answers
+mod finishings; // what finish answers
 mod judgements; // what judge answers
 mod rules; // the tables
+mod shows; // printing answers and rooms
 
 fn main() {
     admissions::bench();
@@ -21,4 +23,8 @@ fn main() {
     judgements::rule_h_settings();
     judgements::terms();
     judgements::refusals();
+    finishings::rule_g_finished();
+    finishings::rule_h_finished();
+    finishings::others();
+    finishings::refusals();
 }

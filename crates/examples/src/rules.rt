@@ -1,22 +1,31 @@
 // The tables of the examples.
 ghost use mathlib.Core.Path.{_≡_};
 ghost use Prim.Native.Nat.{_≤_};
+ghost use Rattle.table.specs.Terms.{placed};
 ghost use Rattle.table.specs.Bench.{ruleG, ruleH};
-ghost use Rattle.examples.specs.Tables.{placed, stores};
+ghost use Rattle.finish.specs.Bench.{unmarkedRule};
+ghost use Rattle.examples.specs.Tables.{termOf, stores, threeStores, asFirst, asFourth, between};
+use table::Sort;
+use table::Term;
 
-// Writes term k of a table: op, m, n, p, q, r. Past the table's end nothing is written.
-pub fn put(table: &mut [u32], k: u32, op: u32, m: u32, n: u32, p: u32, q: u32, r: u32)
-    ensures { λ _. ⌜ now (table .exit) ≡ placed (now (table .entry)) k op m n p q r ⌝ }
+// A term by its six numbers.
+fn term(op: u32, m: u32, n: u32, p: u32, q: u32, r: u32) -> Term
+    ensures { λ t. ⌜ t ≡ termOf op m n p q r ⌝ }
 {
-    let at = (k as usize) * 6;
-    if at + 6 <= table.len() {
-        table[at] = op;
-        table[at + 1] = m;
-        table[at + 2] = n;
-        table[at + 3] = p;
-        table[at + 4] = q;
-        table[at + 5] = r;
+    Term {
+        op: op,
+        sort: Sort { m: m, n: n },
+        p: p,
+        q: q,
+        r: r,
     }
+}
+
+// Writes term k of a table. Past the table's end nothing is written.
+pub fn put(table: &mut [u32], k: u32, op: u32, m: u32, n: u32, p: u32, q: u32, r: u32)
+    ensures { λ _. ⌜ now (table .exit) ≡ placed (now (table .entry)) k (termOf op m n p q r) ⌝ }
+{
+    table::put(table, k, term(op, m, n, p, q, r));
 }
 
 // Rule G, width 8, a and b unmarked, x marked: 0 < a × x + b.
@@ -59,4 +68,59 @@ pub fn put_stores(table: &mut [u32], count: u32)
     for k in 0..count {
         put(table, k + 2, 16, 8, 8, k + 1, 0, 0);
     }
+}
+
+// a unmarked and b marked: and(a, b), then the rule, not a, whose condition is T.
+pub fn unmarked_rule() -> [u32; 24]
+    ensures { λ t. ⌜ t ≡ unmarkedRule ⌝ }
+{
+    let mut table = [0u32; 24];
+    put(&mut table, 0, 1, 0, 0, 0, 0, 0);
+    put(&mut table, 1, 1, 0, 0, 1, 1, 0);
+    put(&mut table, 2, 3, 0, 0, 0, 1, 0);
+    put(&mut table, 3, 2, 0, 0, 0, 0, 0);
+    table
+}
+
+// Three such stores, read at the constant, equal to it.
+pub fn three_stores() -> [u32; 42]
+    ensures { λ t. ⌜ t ≡ threeStores ⌝ }
+{
+    let mut table = [0u32; 42];
+    put_stores(&mut table, 3);
+    put(&mut table, 5, 15, 0, 8, 4, 0, 0);
+    put(&mut table, 6, 6, 0, 0, 5, 0, 0);
+    table
+}
+
+// A term, then a Boolean constant.
+pub fn as_first(op: u32, m: u32, n: u32, p: u32, q: u32, r: u32) -> [u32; 12]
+    ensures { λ t. ⌜ t ≡ asFirst op m n p q r ⌝ }
+{
+    let mut table = [0u32; 12];
+    put(&mut table, 0, op, m, n, p, q, r);
+    table
+}
+
+// A Boolean, a vector of width 8 and an array (8, 8), all unmarked, then a term.
+pub fn as_fourth(op: u32, m: u32, n: u32, p: u32, q: u32, r: u32) -> [u32; 24]
+    ensures { λ t. ⌜ t ≡ asFourth op m n p q r ⌝ }
+{
+    let mut table = [0u32; 24];
+    put(&mut table, 0, 1, 0, 0, 0, 0, 0);
+    put(&mut table, 1, 1, 0, 8, 1, 0, 0);
+    put(&mut table, 2, 1, 8, 8, 2, 0, 0);
+    put(&mut table, 3, op, m, n, p, q, r);
+    table
+}
+
+// A Boolean variable of slot 3, then a term, then a Boolean variable of slot 3.
+pub fn between(op: u32, n: u32, q: u32, mark: u32) -> [u32; 18]
+    ensures { λ t. ⌜ t ≡ between op n q mark ⌝ }
+{
+    let mut table = [0u32; 18];
+    put(&mut table, 0, 1, 0, 0, 3, 0, 0);
+    put(&mut table, 1, op, 0, n, 3, q, 0);
+    put(&mut table, 2, 1, 0, 0, 3, mark, 0);
+    table
 }

@@ -1,26 +1,17 @@
 -- Terms written into a room one after the other.
 -- Assumes nothing.
 use mathlib.Core.Path.{_≡_, refl, sym, ap, _∙_}
-use mathlib.Core.Bool.{Bool, true, false, cond}
 use mathlib.Core.List.{List, [], _∷_, _++_, append-nil, append-assoc}
 use Prim.Native.Nat.{ℕ, zero, suc, _+_, _*_, _≤_, _<_}
 use native.Mathlib.Nat.{add-zero}
 use native.Mathlib.Omega.{arith}
-use lib.Dec.{leb}
-use lib.ListN.{length, drop, set, length-append, length-set}
+use lib.ListN.{length, drop, set, length-append}
 use borrow.Author.Tests.{le-leb}
 use Rattle.table.specs.declared.words.Term.{Term}
 use Rattle.table.specs.Terms.{words, placed}
+use Rattle.table.proofs.Places.{length-placed}
 use Rattle.evaluate.proofs.Fronts.{front-more, front-length}
 use Rattle.finish.specs.Added.{wordsOf, flat, laidFrom, laid}
-
-length-cond : (b : Bool) (s t : List ℕ) → length s ≡ length t → length (cond b s t) ≡ length t
-length-cond true s t e = e
-length-cond false s t e = refl
-
-length-placed : (t : List ℕ) (k : ℕ) (x : Term) → length (placed t k x) ≡ length t
-unfolding placed
-length-placed t k x = length-cond (leb (k * words + words) (length t)) _ t (simp length-set)
 
 pub length-laid : (xs : List Term) (room : List ℕ) (b i : ℕ) → length (laidFrom room b i xs) ≡ length room
 unfolding laidFrom

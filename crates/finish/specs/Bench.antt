@@ -41,7 +41,7 @@ all [] = true
 all (x ∷ xs) = right x && all xs
 
 -- "and" of an unmarked and a marked Boolean (slots 0, 1), which the rule leaves aside: not of the unmarked one
-abbrev unmarkedRule : List ℕ
+abbrev pub unmarkedRule : List ℕ
 unmarkedRule = term 1 0 0 0 0 0 (term 1 0 0 1 1 0 (term 3 0 0 0 1 0 (term 2 0 0 0 0 0 [])))
 
 -- rule G; rule H; a rule whose condition is T

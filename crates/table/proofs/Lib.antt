@@ -7,3 +7,4 @@ pub mod TermFaults
 pub mod Admitted
 pub mod Stacks
 pub mod SoundTerms
+pub mod Places

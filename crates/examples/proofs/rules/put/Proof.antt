@@ -1,57 +1,11 @@
-use Rattle.examples.specs.Tables.{placed}
-use borrow.Author.Tests.{le-leb, lt-leb}
-use lib.ListN.{length-set}
-use native.Mathlib.Omega.{arith}
+use mathlib.Core.Path.{ap, _∙_}
+use Rattle.table.specs.Terms.{placed}
 use borrow.Author.Needs.{needs}
 use Rattle.examples.proofs.rules.put.Statement.{statement}
 use Rattle.examples.proofs.rules.put.Tie as tie
 
-slice-write-table-2 : tie.Need-slice-write-table-2
-slice-write-table-2 c = simp length-set (omega arith)
-
-slice-write-table-3 : tie.Need-slice-write-table-3
-slice-write-table-3 c = simp length-set (omega arith)
-
-slice-write-table-4 : tie.Need-slice-write-table-4
-slice-write-table-4 c = simp length-set (omega arith)
-
-slice-write-table-5 : tie.Need-slice-write-table-5
-slice-write-table-5 c = simp length-set (omega arith)
-
-slice-write-table-6 : tie.Need-slice-write-table-6
-slice-write-table-6 c = simp length-set (omega arith)
-
 returns : tie.Need-returns
-unfolding placed
-returns c = rw (le-leb _ _ (c .if1 .taken))
-
-returns-2 : tie.Need-returns-2
-unfolding placed
-returns-2 c = rw (lt-leb _ _ (c .if1 .left))
+returns c = c .before .before .put .ensures ∙ ap (placed _ _) (c .before .before .before .term .ensures)
 
 pub put-spec : {M : Type 1} → statement M
-put-spec =
-    tie.close
-    (tie.spec
-    (λ c. search needs)
-    (λ c. search needs)
-    (λ c. search needs)
-    (λ c. search needs)
-    (λ c. search needs)
-    (λ c. search needs)
-    slice-write-table-2
-    (λ c. search needs)
-    (λ c. search needs)
-    slice-write-table-3
-    (λ c. search needs)
-    (λ c. search needs)
-    slice-write-table-4
-    (λ c. search needs)
-    (λ c. search needs)
-    slice-write-table-5
-    (λ c. search needs)
-    (λ c. search needs)
-    slice-write-table-6
-    (λ c. search needs)
-    returns
-    returns-2)
+put-spec = tie.close (tie.spec (λ c κs. search needs) (λ c κs. search needs) (λ c. search needs) returns)

@@ -4,8 +4,10 @@ use Prim.Native.Nat.{ℕ, _-_}
 use lib.ListN.{length}
 use native.Mathlib.Omega.{arith}
 use borrow.Author.Needs.{needs}
-use Rattle.examples.specs.Tables.{placed, stacked}
-use Rattle.examples.proofs.Placing.{length-placed, Stacked, begun, more, done}
+use Rattle.table.specs.Terms.{placed}
+use Rattle.table.proofs.Places.{length-placed}
+use Rattle.examples.specs.Tables.{termOf, stacked}
+use Rattle.examples.proofs.Placing.{Stacked, begun, more, done}
 use Rattle.examples.proofs.rules.put_stores.Statement.{statement}
 use Rattle.examples.proofs.rules.put_stores.Tie as tie
 
@@ -37,11 +39,11 @@ loop-again c =
 
 -- what stands where the stores begin
 laid : (c : tie.After-slice-known3 Inv-loop μ-loop) →
-    c .before .before .put2 .last .0 ≡ placed (placed (c .before .before .before .before .before .before .before .before .before .args .table .now) 0 0 0 8 7 0 0) 1 1 8 8 0 1 0
-laid c = c .before .before .put2 .ensures ∙ ap (λ (t : List ℕ). placed t 1 1 8 8 0 1 0) (c .before .before .before .before .before .before .put .ensures)
+    c .before .before .put2 .last .0 ≡ placed (placed (c .before .before .before .before .before .before .before .before .before .args .table .now) 0 (termOf 0 0 8 7 0 0)) 1 (termOf 1 8 8 0 1 0)
+laid c = c .before .before .put2 .ensures ∙ ap (λ (t : List ℕ). placed t 1 (termOf 1 8 8 0 1 0)) (c .before .before .before .before .before .before .put .ensures)
 
 same-length : tie.Need-same-length Inv-loop μ-loop
-same-length c = c .before .loop .inv .size ∙ ap length (laid (c .before .before)) ∙ length-placed _ 1 1 8 8 0 1 0 ∙ length-placed _ 0 0 0 8 7 0 0
+same-length c = c .before .loop .inv .size ∙ ap length (laid (c .before .before)) ∙ length-placed _ 1 (termOf 1 8 8 0 1 0) ∙ length-placed _ 0 (termOf 0 0 8 7 0 0)
 
 returns : tie.Need-returns Inv-loop μ-loop
 returns c =

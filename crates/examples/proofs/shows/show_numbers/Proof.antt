@@ -2,17 +2,17 @@ use Prim.Native.Nat.{_-_, _≤_}
 use native.Mathlib.Omega.{arith}
 use lib.ListN.{length}
 use borrow.Author.Needs.{needs}
-use Rattle.examples.proofs.evaluations.show_room.Statement.{statement}
-use Rattle.examples.proofs.evaluations.show_room.Tie as tie
+use Rattle.examples.proofs.shows.show_numbers.Statement.{statement}
+use Rattle.examples.proofs.shows.show_numbers.Tie as tie
 
 abbrev Inv-loop : tie.InvT-loop
-Inv-loop room i₀ i = i ≤ length room
+Inv-loop numbers i₀ i = i ≤ length numbers
 
 abbrev μ-loop : tie.MeasureT-loop
-μ-loop room i₀ i = length room - i
+μ-loop numbers i₀ i = length numbers - i
 
-pub show-room-spec : {M : Type 1} → statement M
-show-room-spec =
+pub show-numbers-spec : {M : Type 1} → statement M
+show-numbers-spec =
     tie.close
     (tie.spec
     Inv-loop

@@ -1,0 +1,120 @@
+//! The comparison, round by round.
+
+use crate::case::{Answer, Case, Checker, Routine};
+use crate::counts::Counts;
+use crate::generate;
+use crate::random::Random;
+use crate::{finished, pairs};
+
+/// What is checked of a call.
+#[derive(Clone, Copy, Debug)]
+pub enum Check {
+    /// Answer and room equal the reference's.
+    Answers,
+    /// Demand 3 for the setting and the partner with this seed.
+    Pair(u64),
+    /// The finished table agrees with judging.
+    Finished,
+}
+
+/// A check that failed, and the call.
+#[derive(Debug)]
+pub struct Difference {
+    pub check: Check,
+    pub case: Case,
+}
+
+pub struct Comparison<'a> {
+    pub subject: &'a dyn Checker,
+    pub reference: &'a dyn Checker,
+    pub counts: Counts,
+}
+
+impl Check {
+    /// What is wrong with the call, if anything.
+    pub fn fault(&self, subject: &dyn Checker, reference: &dyn Checker, case: &Case) -> Option<String> {
+        match *self {
+            Check::Answers => {
+                let (one, other) = (subject.call(case), reference.call(case));
+                (one != other).then(|| format!("library:   {one}\nreference: {other}"))
+            }
+            Check::Pair(seed) => pairs::fault(subject, case, seed),
+            Check::Finished => finished::fault(subject, case),
+        }
+    }
+}
+
+impl<'a> Comparison<'a> {
+    pub fn new(subject: &'a dyn Checker, reference: &'a dyn Checker) -> Comparison<'a> {
+        Comparison { subject, reference, counts: Counts::new() }
+    }
+
+    /// Runs the round with this number; the same seed and number give the same round.
+    pub fn round(&mut self, seed: u64, number: u64) -> Result<(), Difference> {
+        let mut random = Random::new(seed ^ Random::new(number).next());
+        for case in &generate::round(&mut random, number) {
+            let answer = self.compare(case)?;
+            if case.routine == Routine::Judge && answer.number == 0 {
+                if random.chance(40) || case.terms() > 100 {
+                    self.pair(case, &answer, random.next())?;
+                }
+                if random.chance(25) || case.terms() > 100 {
+                    self.finished(case)?;
+                }
+            }
+        }
+        Ok(())
+    }
+
+    fn compare(&mut self, case: &Case) -> Result<Answer, Difference> {
+        let answer = self.reference.call(case);
+        self.counts.observe(case, &answer);
+        if self.subject.call(case) == answer {
+            return Ok(answer);
+        }
+        Err(Difference { check: Check::Answers, case: case.clone() })
+    }
+
+    /// Fails where the check does.
+    fn hold(&self, check: Check, case: &Case) -> Result<(), Difference> {
+        match check.fault(self.subject, self.reference, case) {
+            None => Ok(()),
+            Some(_) => Err(Difference { check, case: case.clone() }),
+        }
+    }
+
+    fn pair(&mut self, case: &Case, answer: &Answer, seed: u64) -> Result<(), Difference> {
+        self.counts.pairs += 1;
+        self.counts.calls += 2;
+        let partner = pairs::partner(case, seed);
+        let other = self.compare(&partner)?;
+        self.hold(Check::Pair(seed), case)?;
+        let [rule, condition, ..] = answer.numbers;
+        let marked = |t: &&[u32]| t[0] == 1 && t[4] == 1;
+        let differ = case.table.chunks(6).filter(marked).any(|t| case.values[t[3] as usize] != partner.values[t[3] as usize]);
+        if condition == 1 && differ {
+            self.counts.count(("pair: condition true, marked values differ", 0, 0));
+        }
+        if condition == 0 && rule != other.numbers[0] {
+            self.counts.count(("pair: condition false, rules differ", 0, 0));
+        }
+        if case.cells != partner.cells && !case.cells.is_empty() {
+            self.counts.count(("pair: cells relisted", 0, 0));
+        }
+        Ok(())
+    }
+
+    fn finished(&mut self, case: &Case) -> Result<(), Difference> {
+        self.counts.finished += 1;
+        self.counts.calls += 5;
+        let calls = finished::calls(self.reference, case).expect("a judged table");
+        self.compare(&calls.finish)?;
+        self.compare(&calls.evaluate)?;
+        self.hold(Check::Finished, case)?;
+        self.counts.count(("finished table evaluated", 0, 0));
+        if calls.evaluate.terms() > 10_000 {
+            self.counts.count(("finished table over 10,000 terms", 0, 0));
+        }
+        Ok(())
+    }
+}

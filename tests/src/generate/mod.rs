@@ -1,0 +1,107 @@
+//! Random rounds. A round is one table in one setting, handed to all four routines; rooms and allowances are each call's own.
+
+pub mod damage;
+pub mod draft;
+pub mod setting;
+pub mod table;
+
+use crate::case::{Case, Routine, ROUTINES};
+use crate::random::Random;
+use draft::Draft;
+
+/// Every so many rounds comes a large table.
+const LARGE_EVERY: u64 = 1500;
+
+/// The calls of a round. The number sees to it that every kind of table and of damage has its turn.
+pub fn round(random: &mut Random, number: u64) -> Vec<Case> {
+    if number % LARGE_EVERY == 7 {
+        return large(random, number / LARGE_EVERY);
+    }
+    let draft = small(random, number);
+    let mut table = draft.numbers();
+    let mut setting = setting::whole(random, &draft);
+    if number % 4 == 1 {
+        damage::table(random, &mut table, (number / 4) as usize % 14 + 1);
+        while random.chance(25) && table.len() % 6 == 0 && !table.is_empty() {
+            let aim = random.between(1, 14);
+            damage::table(random, &mut table, aim);
+        }
+    }
+    if number % 4 == 2 || random.chance(5) {
+        damage::setting(random, &mut setting, &draft, (number / 4) as usize % 5 + 11);
+        while random.chance(30) {
+            let aim = random.between(11, 15);
+            damage::setting(random, &mut setting, &draft, aim);
+        }
+    }
+    cases(random, &draft, table, setting)
+}
+
+/// The operators; twice those that one operand can settle.
+const OPERATORS: [u32; 23] = [0, 1, 2, 3, 4, 5, 6, 7, 7, 8, 9, 9, 10, 10, 11, 12, 12, 13, 13, 14, 15, 15, 16];
+
+fn small(random: &mut Random, number: u64) -> Draft {
+    match random.below(20) {
+        0..=6 => table::single(random, OPERATORS[number as usize % 23], (number / 23 % 32) as u32 + 1),
+        7..=14 => {
+            let size = random.between(1, 14);
+            table::mixed(random, size)
+        }
+        15..=17 => {
+            let size = random.between(15, 50);
+            table::mixed(random, size)
+        }
+        _ => table::chain(random, (number % 17) as usize),
+    }
+}
+
+/// Tables at the limits. What is too long for one routine is handed to all the same.
+fn large(random: &mut Random, turn: u64) -> Vec<Case> {
+    let size = match turn % 9 {
+        0 => 512,
+        1 => 80_000,
+        2 => 513,
+        3 => 80_001,
+        4 => random.between(514, 5_000),
+        5 => random.between(10_000, 79_999),
+        6 => random.between(300, 512),
+        _ => random.between(100, 512),
+    };
+    let draft = if turn % 9 == 6 { table::deep(random, size) } else { table::exactly(random, size) };
+    let setting = setting::whole(random, &draft);
+    let mut table = draft.numbers();
+    if turn >= 9 && random.chance(30) {
+        let aim = random.between(1, 14);
+        damage::table(random, &mut table, aim);
+    }
+    let mut cases = cases(random, &draft, table, setting);
+    if turn < 9 || random.chance(50) {
+        for case in &mut cases {
+            case.room = case.room.max(needed(&draft, case.routine));
+            case.allowance = case.allowance.max(draft.steps());
+        }
+    }
+    cases
+}
+
+/// The numbers that the room of a call needs.
+fn needed(draft: &Draft, routine: Routine) -> usize {
+    match routine {
+        Routine::Admit => 0,
+        Routine::Finish => 6 * draft.finished(),
+        Routine::Evaluate => draft.terms.len(),
+        Routine::Judge => 2 * draft.terms.len(),
+    }
+}
+
+fn cases(random: &mut Random, draft: &Draft, table: Vec<u32>, setting: setting::Setting) -> Vec<Case> {
+    let case = |routine: Routine| Case {
+        routine,
+        table: table.clone(),
+        values: setting.values.clone(),
+        cells: setting.cells.clone(),
+        allowance: setting::allowance(random, draft.steps()),
+        room: setting::room(random, needed(draft, routine)),
+    };
+    ROUTINES.map(case).to_vec()
+}

@@ -1,0 +1,80 @@
+//! The condition of each term, straight from its definition: no terms are added here.
+
+use super::admission::Table;
+use super::flaw::Flaw;
+use super::term::*;
+use super::values::Values;
+
+/// The truths of the terms' conditions; false for a store, which has none.
+pub fn conditions(table: &Table, values: &Values, flaw: Flaw) -> Vec<bool> {
+    let mut conditions = Conditions { table, values, c: Vec::new(), flaw };
+    for term in &table.terms {
+        let truth = conditions.condition(term);
+        conditions.c.push(truth);
+    }
+    conditions.c
+}
+
+struct Conditions<'a> {
+    table: &'a Table,
+    values: &'a Values<'a>,
+    c: Vec<bool>,
+    flaw: Flaw,
+}
+
+impl Conditions<'_> {
+    fn of(&self, term: u32) -> bool {
+        self.c[term as usize]
+    }
+
+    fn condition(&self, t: &Term) -> bool {
+        let (p, q, r) = (t.p, t.q, t.r);
+        let value = |term| self.values.number(term);
+        let holds = |term| self.values.holds(term);
+        let ones = (1u64 << t.n) - 1;
+        match t.op {
+            CONSTANT => true,
+            VARIABLE => t.q == 0,
+            STORE => false,
+            NOT | VECTOR_NOT => self.of(p),
+            EQUAL | SUM | LESS => self.of(p) && self.of(q),
+            AND => self.settled(t, !holds(p), !holds(q)),
+            OR => self.settled(t, holds(p), holds(q)),
+            IMPLIES => self.settled(t, !holds(p), holds(q)),
+            PRODUCT if self.flaw == Flaw::FactorAlone => value(p) == 0 || value(q) == 0 || (self.of(p) && self.of(q)),
+            VECTOR_AND | PRODUCT => self.settled(t, value(p) == 0, value(q) == 0),
+            VECTOR_OR => self.settled(t, value(p) == ones, value(q) == ones),
+            SHIFT => (self.of(q) && value(q) >= t.n.into()) || (self.of(p) && self.of(q)),
+            CHOICE => {
+                let picked = if holds(p) { self.of(q) } else { self.of(r) };
+                let tested = self.of(p) || self.flaw == Flaw::PickedBranch;
+                (tested && picked) || (self.of(q) && self.of(r) && value(q) == value(r))
+            }
+            READ => self.read(p, q),
+            _ => unreachable!("no other operator"),
+        }
+    }
+
+    /// An operand whose condition holds and whose value settles the result, or the conditions of both.
+    fn settled(&self, t: &Term, by_p: bool, by_q: bool) -> bool {
+        let (c, d) = (self.of(t.p), self.of(t.q));
+        (c && by_p) || (d && by_q) || (c && d)
+    }
+
+    /// The condition of a read of an array term at the index that is term j.
+    fn read(&self, array: u32, j: u32) -> bool {
+        let a = &self.table.terms[array as usize];
+        if a.op == VARIABLE {
+            return self.of(array) && (self.of(j) || self.flaw == Flaw::IndexUnasked);
+        }
+        let (beneath, i, e) = (a.p, a.q, a.r);
+        let below = self.read(beneath, j);
+        let same_index = self.values.number(i) == self.values.number(j);
+        let picked = if same_index { self.of(e) } else { below };
+        let mut same_value = self.values.number(e) == self.values.read(beneath, self.values.number(j));
+        if self.flaw == Flaw::JoinsIndexes {
+            same_value = same_index;
+        }
+        (self.of(i) && self.of(j) && picked) || (self.of(e) && below && same_value)
+    }
+}

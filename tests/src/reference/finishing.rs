@@ -1,0 +1,150 @@
+//! The finished table: the conditions as terms.
+
+use super::admission::Table;
+use super::flaw::Flaw;
+use super::term::*;
+
+pub struct Finished {
+    pub terms: Vec<[u32; 6]>,
+    /// The number of the rule's condition.
+    pub condition: u32,
+}
+
+pub fn finish(table: &Table, flaw: Flaw) -> Finished {
+    let n = table.terms.len() as u32;
+    let given = table.terms.iter().map(|t| [t.op, t.m, t.n, t.p, t.q, t.r]).collect();
+    let mut writer = Writer { table, terms: given, c: Vec::new(), yes: n, no: n + 1, flaw };
+    writer.add([CONSTANT, 0, 0, 1, 0, 0]);
+    writer.add([CONSTANT, 0, 0, 0, 0, 0]);
+    for term in &table.terms {
+        let condition = writer.group(term);
+        writer.c.push(condition);
+    }
+    let condition = writer.c[n as usize - 1].expect("the rule is no store");
+    writer.and(n - 1, condition);
+    Finished { terms: writer.terms, condition }
+}
+
+struct Writer<'a> {
+    table: &'a Table,
+    terms: Vec<[u32; 6]>,
+    /// The numbers of the conditions of the terms so far; a store has none.
+    c: Vec<Option<u32>>,
+    yes: u32,
+    no: u32,
+    flaw: Flaw,
+}
+
+impl Writer<'_> {
+    fn add(&mut self, term: [u32; 6]) -> u32 {
+        self.terms.push(term);
+        self.terms.len() as u32 - 1
+    }
+
+    fn not(&mut self, x: u32) -> u32 {
+        self.add([NOT, 0, 0, x, 0, 0])
+    }
+
+    fn and(&mut self, x: u32, y: u32) -> u32 {
+        self.add([AND, 0, 0, x, y, 0])
+    }
+
+    fn or(&mut self, x: u32, y: u32) -> u32 {
+        self.add([OR, 0, 0, x, y, 0])
+    }
+
+    fn equal(&mut self, x: u32, y: u32) -> u32 {
+        self.add([EQUAL, 0, 0, x, y, 0])
+    }
+
+    fn choice(&mut self, test: u32, x: u32, y: u32) -> u32 {
+        self.add([CHOICE, 0, 0, test, x, y])
+    }
+
+    /// The number of an operand's condition.
+    fn of(&self, operand: u32) -> u32 {
+        self.c[operand as usize].expect("no store")
+    }
+
+    /// Writes a term's group and gives the number of its condition.
+    fn group(&mut self, t: &Term) -> Option<u32> {
+        Some(match t.op {
+            CONSTANT => self.yes,
+            VARIABLE => [self.yes, self.no][t.q as usize],
+            STORE => return None,
+            NOT | VECTOR_NOT => self.of(t.p),
+            EQUAL | SUM | LESS => self.and(self.of(t.p), self.of(t.q)),
+            AND | OR | IMPLIES => self.connective(t),
+            VECTOR_AND | PRODUCT => self.absorbing(t, 0),
+            VECTOR_OR => self.absorbing(t, ((1u64 << t.n) - 1) as u32),
+            SHIFT => self.shift(t),
+            CHOICE => self.branches(t),
+            _ => self.read(t.p, t.q),
+        })
+    }
+
+    fn connective(&mut self, t: &Term) -> u32 {
+        let (p, q, cp, cq) = (t.p, t.q, self.of(t.p), self.of(t.q));
+        let by_p = if t.op == OR { p } else { self.not(p) };
+        let first = self.and(cp, by_p);
+        let by_q = if t.op == AND { self.not(q) } else { q };
+        let second = self.and(cq, by_q);
+        let either = self.or(first, second);
+        let both = self.and(cp, cq);
+        self.or(either, both)
+    }
+
+    fn absorbing(&mut self, t: &Term, zero: u32) -> u32 {
+        let (cp, cq) = (self.of(t.p), self.of(t.q));
+        let zero = self.add([CONSTANT, 0, t.n, zero, 0, 0]);
+        let p_is = self.equal(t.p, zero);
+        let first = self.and(cp, p_is);
+        let q_is = self.equal(t.q, zero);
+        let second = self.and(cq, q_is);
+        let either = self.or(first, second);
+        let both = self.and(cp, cq);
+        self.or(either, both)
+    }
+
+    fn shift(&mut self, t: &Term) -> u32 {
+        let (cp, cq) = (self.of(t.p), self.of(t.q));
+        let width = self.add([CONSTANT, 0, t.n, t.n, 0, 0]);
+        let inside = self.add([LESS, 0, 0, t.q, width, 0]);
+        let outside = self.not(inside);
+        let settled = self.and(cq, outside);
+        let both = self.and(cp, cq);
+        self.or(settled, both)
+    }
+
+    fn branches(&mut self, t: &Term) -> u32 {
+        let (cp, cq, cr) = (self.of(t.p), self.of(t.q), self.of(t.r));
+        let picked = self.choice(t.p, cq, cr);
+        let tested = self.and(cp, picked);
+        let both = self.and(cq, cr);
+        let same = self.equal(t.q, t.r);
+        let alike = self.and(both, same);
+        self.or(tested, alike)
+    }
+
+    /// Writes the group of a read of an array term at the index that is term j.
+    fn read(&mut self, array: u32, j: u32) -> u32 {
+        let a = self.table.terms[array as usize];
+        let cj = self.of(j);
+        if a.op == VARIABLE {
+            return self.and(self.of(array), cj);
+        }
+        let (beneath, i, e) = (a.p, a.q, a.r);
+        let below = self.read(beneath, j);
+        let (ci, ce) = (self.of(i), self.of(e));
+        let read = self.add([READ, 0, a.n, beneath, j, 0]);
+        let same_index = self.equal(i, j);
+        let picked = self.choice(same_index, ce, below);
+        let indexes = self.and(ci, cj);
+        let first = self.and(indexes, picked);
+        let same_value = self.equal(e, read);
+        let both = self.and(ce, below);
+        let joined = if self.flaw == Flaw::JoinsIndexes { same_index } else { same_value };
+        let second = self.and(both, joined);
+        self.or(first, second)
+    }
+}

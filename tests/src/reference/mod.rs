@@ -1,0 +1,128 @@
+//! A second evaluator, written from paper 01 alone and for plainness: admitting, finishing, evaluating and judging.
+
+pub mod admission;
+pub mod conditions;
+pub mod finishing;
+pub mod flaw;
+pub mod setting;
+pub mod term;
+pub mod values;
+
+use crate::case::{pattern, Answer, Case, Checker, Routine};
+use admission::Table;
+use flaw::Flaw;
+use term::READ;
+
+#[derive(Clone, Copy, PartialEq, Debug)]
+pub struct Refusal {
+    pub number: u32,
+    pub place: u64,
+}
+
+/// A result: the numbers of the answer, and what the room's front holds.
+struct Outcome {
+    numbers: Vec<u64>,
+    front: Vec<u32>,
+}
+
+pub struct Reference {
+    pub flaw: Flaw,
+}
+
+impl Checker for Reference {
+    fn call(&self, case: &Case) -> Answer {
+        let mut room = pattern(case.room);
+        let outcome = match case.routine {
+            Routine::Admit => self.admit(case),
+            Routine::Finish => self.finish(case),
+            Routine::Evaluate => self.evaluate(case, &mut room),
+            Routine::Judge => self.judge(case),
+        };
+        let mut numbers = [0; 4];
+        let number = match outcome {
+            Ok(outcome) => {
+                numbers[..outcome.numbers.len()].copy_from_slice(&outcome.numbers);
+                room[..outcome.front.len()].copy_from_slice(&outcome.front);
+                0
+            }
+            Err(refusal) => {
+                numbers[0] = refusal.place;
+                refusal.number
+            }
+        };
+        Answer { number, numbers, room, strayed: false }
+    }
+}
+
+impl Reference {
+    fn admit(&self, case: &Case) -> Result<Outcome, Refusal> {
+        admission::admit(&case.table, 512, self.flaw)?;
+        Ok(Outcome { numbers: vec![], front: vec![] })
+    }
+
+    fn finish(&self, case: &Case) -> Result<Outcome, Refusal> {
+        let table = admission::admit(&case.table, 512, self.flaw)?;
+        let finished = finishing::finish(&table, self.flaw);
+        let count = finished.terms.len();
+        if case.room < 6 * count {
+            return Err(Refusal { number: 21, place: count as u64 });
+        }
+        let numbers = vec![count as u64, finished.condition.into(), count as u64 - 1];
+        Ok(Outcome { numbers, front: finished.terms.concat() })
+    }
+
+    fn evaluate(&self, case: &Case, room: &mut [u32]) -> Result<Outcome, Refusal> {
+        let table = admission::admit(&case.table, 80_000, self.flaw)?;
+        setting::check(&table, &case.values, &case.cells, self.flaw)?;
+        let inputs = setting::interpret(&table, &case.values, &case.cells, self.flaw);
+        let values = values::values(&table, &inputs, self.flaw);
+        let steps = self.steps(&table, &values);
+        let front = numbers(&table, &values);
+        let afforded = self.afford(case, front.len(), steps);
+        if self.flaw == Flaw::WritesRefused && front.len() <= room.len() {
+            room[..front.len()].copy_from_slice(&front);
+        }
+        afforded?;
+        Ok(Outcome { numbers: vec![steps, case.allowance - steps], front })
+    }
+
+    fn judge(&self, case: &Case) -> Result<Outcome, Refusal> {
+        let table = admission::admit(&case.table, 512, self.flaw)?;
+        setting::check(&table, &case.values, &case.cells, self.flaw)?;
+        let inputs = setting::interpret(&table, &case.values, &case.cells, self.flaw);
+        let values = values::values(&table, &inputs, self.flaw);
+        let conditions = conditions::conditions(&table, &values, self.flaw);
+        let steps = self.steps(&table, &values);
+        let mut front = numbers(&table, &values);
+        front.extend(conditions.iter().map(|&c| u32::from(c)));
+        self.afford(case, front.len(), steps)?;
+        let last = table.terms.len() - 1;
+        let numbers = vec![values.number(last as u32), conditions[last].into(), steps, case.allowance - steps];
+        Ok(Outcome { numbers, front })
+    }
+
+    /// Refusals 22 and 23.
+    fn afford(&self, case: &Case, needed: usize, steps: u64) -> Result<(), Refusal> {
+        let short = Refusal { number: 22, place: needed as u64 };
+        let poor = Refusal { number: 23, place: steps };
+        let is_short = case.room < needed;
+        let is_poor = case.allowance < steps;
+        match self.flaw {
+            Flaw::AllowanceFirst if is_poor => Err(poor),
+            _ if is_short => Err(short),
+            _ if is_poor => Err(poor),
+            _ => Ok(()),
+        }
+    }
+
+    fn steps(&self, table: &Table, values: &values::Values) -> u64 {
+        if self.flaw == Flaw::StepsToSource {
+            return table.terms.iter().filter(|t| t.op == READ).map(|t| values.stores_asked(t)).sum();
+        }
+        table.steps()
+    }
+}
+
+fn numbers(table: &Table, values: &values::Values) -> Vec<u32> {
+    (0..table.terms.len() as u32).map(|t| values.number(t) as u32).collect()
+}

@@ -1,0 +1,114 @@
+//! The value of each term: SMT-LIB's meaning.
+
+use super::admission::Table;
+use super::flaw::Flaw;
+use super::setting::Interpretation;
+use super::term::*;
+
+/// A Boolean (0 or 1) or vector is a number; an array is a variable's slot under stores, counted from the inside.
+#[derive(Clone, Debug)]
+pub enum Value {
+    Number(u64),
+    Array { slot: u32, stores: Vec<(u64, u64)> },
+}
+
+pub struct Values<'a> {
+    inputs: &'a Interpretation,
+    of: Vec<Value>,
+    flaw: Flaw,
+}
+
+pub fn values<'a>(table: &Table, inputs: &'a Interpretation, flaw: Flaw) -> Values<'a> {
+    let mut values = Values { inputs, of: Vec::new(), flaw };
+    for term in &table.terms {
+        let value = values.value(term);
+        values.of.push(value);
+    }
+    values
+}
+
+impl Values<'_> {
+    /// The number that is a term's value; 0 for an array.
+    pub fn number(&self, term: u32) -> u64 {
+        match self.of[term as usize] {
+            Value::Number(x) => x,
+            Value::Array { .. } => 0,
+        }
+    }
+
+    pub fn holds(&self, term: u32) -> bool {
+        self.number(term) == 1
+    }
+
+    /// What an array term holds at an index: its chain is asked from the outermost store inward, then the variable.
+    pub fn read(&self, array: u32, index: u64) -> u64 {
+        let Value::Array { slot, stores } = &self.of[array as usize] else { panic!("an array term") };
+        let mut chain: Vec<(u64, u64)> = stores.clone();
+        if self.flaw != Flaw::InnermostFirst {
+            chain.reverse();
+        }
+        for (at, stored) in chain {
+            if at == index {
+                return stored;
+            }
+        }
+        let content = &self.inputs[slot];
+        *content.cells.get(&index).unwrap_or(&content.value)
+    }
+
+    fn value(&self, term: &Term) -> Value {
+        match term.op {
+            VARIABLE if term.m != 0 => Value::Array { slot: term.p, stores: Vec::new() },
+            VARIABLE => Value::Number(self.inputs[&term.p].value),
+            STORE => {
+                let Value::Array { slot, mut stores } = self.of[term.p as usize].clone() else { panic!("an array term") };
+                stores.push((self.number(term.q), self.number(term.r)));
+                Value::Array { slot, stores }
+            }
+            READ => Value::Number(self.read(term.p, self.number(term.q))),
+            _ => Value::Number(self.number_of(term)),
+        }
+    }
+
+    /// The value of a term whose operands are no arrays.
+    fn number_of(&self, term: &Term) -> u64 {
+        if term.op == CONSTANT {
+            return term.p.into();
+        }
+        let values = |o: usize| if o < term.operands() { self.number(term.fields()[o]) } else { 0 };
+        let (x, y, z) = (values(0), values(1), values(2));
+        let count = 1u64 << term.n;
+        match term.op {
+            NOT => 1 - x,
+            AND => u64::from(x == 1 && y == 1),
+            OR => u64::from(x == 1 || y == 1),
+            IMPLIES => u64::from(x == 0 || y == 1),
+            EQUAL => u64::from(x == y),
+            CHOICE => {
+                if x == 1 {
+                    y
+                } else {
+                    z
+                }
+            }
+            VECTOR_NOT => count - 1 - x,
+            VECTOR_AND => x & y,
+            VECTOR_OR => x | y,
+            SUM => (x + y) % count,
+            PRODUCT => (x * y) % count,
+            SHIFT if self.flaw == Flaw::ShiftsModulo => (x << (y % u64::from(term.n))) % count,
+            SHIFT if y >= term.n.into() => 0,
+            SHIFT => (x << y) % count,
+            LESS => u64::from(x < y),
+            _ => unreachable!("no other operator"),
+        }
+    }
+
+    /// The stores that a read asks until one supplies the value (an error of `Flaw::StepsToSource`).
+    pub fn stores_asked(&self, read: &Term) -> u64 {
+        let Value::Array { stores, .. } = &self.of[read.p as usize] else { panic!("an array term") };
+        let index = self.number(read.q);
+        let asked = stores.iter().rev().position(|&(at, _)| at == index).map_or(stores.len(), |i| i + 1);
+        asked as u64
+    }
+}

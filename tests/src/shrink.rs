@@ -1,0 +1,130 @@
+//! Makes a call that fails smaller, as long as it still fails.
+
+use crate::case::Case;
+use crate::reference::term::Term;
+use std::time::{Duration, Instant};
+
+/// The smallest call found for which `fails` still holds, within the time.
+pub fn shrink(case: &Case, time: Duration, fails: &dyn Fn(&Case) -> bool) -> Case {
+    let mut shrinker = Shrinker { best: case.clone(), fails, end: Instant::now() + time };
+    loop {
+        let before = shrinker.best.clone();
+        shrinker.drop_terms();
+        shrinker.drop_numbers();
+        shrinker.drop_cells();
+        shrinker.narrow();
+        shrinker.lower_numbers();
+        shrinker.lower_limits();
+        if shrinker.best == before || Instant::now() > shrinker.end {
+            return shrinker.best;
+        }
+    }
+}
+
+struct Shrinker<'a> {
+    best: Case,
+    fails: &'a dyn Fn(&Case) -> bool,
+    end: Instant,
+}
+
+impl Shrinker<'_> {
+    /// Takes the changed call if it is another one and still fails.
+    fn attempt(&mut self, change: impl FnOnce(&mut Case)) -> bool {
+        let mut case = self.best.clone();
+        change(&mut case);
+        let better = case != self.best && Instant::now() < self.end && (self.fails)(&case);
+        if better {
+            self.best = case;
+        }
+        better
+    }
+
+    /// Drops runs of terms, long runs first, from the end.
+    fn drop_terms(&mut self) {
+        let mut run = self.best.terms().next_power_of_two();
+        while run > 0 {
+            let mut from = self.best.terms();
+            while from > 0 && Instant::now() < self.end {
+                from = from.saturating_sub(run);
+                let count = run.min(self.best.terms().saturating_sub(from));
+                let _ = self.attempt(|c| c.table = without(&c.table, from, count, false))
+                    || self.attempt(|c| c.table = without(&c.table, from, count, true));
+            }
+            run /= 2;
+        }
+    }
+
+    /// Shortens the rows number by number, and the table to a length that is no multiple of six.
+    fn drop_numbers(&mut self) {
+        while self.attempt(|c| c.values.truncate(c.values.len() / 2)) {}
+        while self.attempt(|c| c.values.truncate(c.values.len().saturating_sub(1))) {}
+        while self.attempt(|c| c.cells.truncate(c.cells.len().saturating_sub(1))) {}
+    }
+
+    fn drop_cells(&mut self) {
+        for cell in (0..self.best.cells.len() / 3).rev() {
+            self.attempt(|c| drop(c.cells.drain(3 * cell..3 * cell + 3)));
+        }
+    }
+
+    /// Replaces a width everywhere by a smaller one.
+    fn narrow(&mut self) {
+        for width in (2..=32).rev() {
+            for smaller in [1, 2, 8, width - 1] {
+                let narrower = |x: &mut u32| {
+                    if *x == width && smaller < width {
+                        *x = smaller
+                    }
+                };
+                self.attempt(|c| c.table.chunks_mut(6).for_each(|t| t.iter_mut().take(3).skip(1).for_each(narrower)));
+            }
+        }
+    }
+
+    /// Lowers each number of the rows: to 0, to 1, to its half, by one.
+    fn lower_numbers(&mut self) {
+        fn rows(c: &mut Case) -> [&mut Vec<u32>; 3] {
+            [&mut c.table, &mut c.values, &mut c.cells]
+        }
+        for row in 0..3 {
+            for at in 0..rows(&mut self.best)[row].len() {
+                let now = rows(&mut self.best)[row][at];
+                for lower in [0, 1.min(now), now / 2, now.saturating_sub(1)] {
+                    if Instant::now() > self.end || self.attempt(|c| rows(c)[row][at] = lower) {
+                        break;
+                    }
+                }
+            }
+        }
+    }
+
+    fn lower_limits(&mut self) {
+        let _ = self.attempt(|c| c.allowance = 0) || self.attempt(|c| c.allowance = c.allowance.min(100));
+        while self.attempt(|c| c.allowance /= 2) || self.attempt(|c| c.allowance = c.allowance.saturating_sub(1)) {}
+        let _ = self.attempt(|c| c.room = 0);
+        while self.attempt(|c| c.room /= 2) || self.attempt(|c| c.room = c.room.saturating_sub(1)) {}
+    }
+}
+
+/// A table without some of its terms. Operands after them move up; an operand among them becomes the
+/// first operand of the first one dropped, or the term before it.
+fn without(table: &[u32], from: usize, count: usize, by_operand: bool) -> Vec<u32> {
+    let (start, end) = (6 * from, (6 * (from + count)).min(table.len()));
+    let first = table[start..end].chunks_exact(6).map(Term::of).next();
+    let stand_in = match first {
+        Some(term) if by_operand && term.operands() > 0 && (term.p as usize) < from => term.p,
+        _ => from.saturating_sub(1) as u32,
+    };
+    let mut kept = [&table[..start], &table[end..]].concat();
+    for numbers in kept.chunks_exact_mut(6) {
+        let operands = Term::of(numbers).operands();
+        for field in &mut numbers[3..3 + operands] {
+            match *field as usize {
+                x if x >= from + count => *field -= count as u32,
+                x if x >= from => *field = stand_in,
+                _ => {}
+            }
+        }
+    }
+    kept
+}

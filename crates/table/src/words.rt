@@ -27,18 +27,40 @@ fn word(table: &[u32], k: u32, j: u32) -> u32
     if at < table.len() { table[at] } else { 0 }
 }
 
+// The sort of term k. A term that the table has whole is read with one look at the length.
 pub fn sort_at(table: &[u32], k: u32) -> Sort
     ensures { λ r. ⌜ r ≡ sortAt (now (table .entry)) k ⌝ }
 {
+    let at = (k as usize) * WORDS;
+    if at + 2 < table.len() {
+        return Sort {
+            m: table[at + 1],
+            n: table[at + 2],
+        };
+    }
     Sort {
         m: word(table, k, 1),
         n: word(table, k, 2),
     }
 }
 
+// Term k, likewise.
 pub fn term_at(table: &[u32], k: u32) -> Term
     ensures { λ r. ⌜ r ≡ termAt (now (table .entry)) k ⌝ }
 {
+    let at = (k as usize) * WORDS;
+    if at + 5 < table.len() {
+        return Term {
+            op: table[at],
+            sort: Sort {
+                m: table[at + 1],
+                n: table[at + 2],
+            },
+            p: table[at + 3],
+            q: table[at + 4],
+            r: table[at + 5],
+        };
+    }
     Term {
         op: word(table, k, 0),
         sort: sort_at(table, k),

@@ -1,0 +1,95 @@
+//! The value of every term.
+
+use super::admission::{Known, admitted};
+use super::setting::{afforded, checked, held};
+use super::{Cell, FINISHED, Refusal, TERMS, Term, answered, ones};
+
+#[inline(never)]
+pub fn evaluate(
+    table: &[u32],
+    values: &[u32],
+    cells: &[u32],
+    allowance: u64,
+    work: &mut [u32],
+    answer: &mut [u64; 4],
+) -> u32 {
+    // The local arrays are cleared at each call: a small table gets small ones.
+    let result = match table.len() / 6 {
+        0..=TERMS => evaluated::<TERMS>(table, values, cells, allowance, work),
+        0..=8192 => evaluated::<8192>(table, values, cells, allowance, work),
+        _ => evaluated::<FINISHED>(table, values, cells, allowance, work),
+    };
+    answered(result, answer)
+}
+
+#[inline(never)]
+fn evaluated<const N: usize>(
+    table: &[u32],
+    values: &[u32],
+    cells: &[u32],
+    allowance: u64,
+    work: &mut [u32],
+) -> Result<[u64; 4], Refusal> {
+    let mut known = Known::<N>::new();
+    let terms = admitted(table, FINISHED, &mut known)?;
+    let cells = checked(terms, &known, values, cells)?;
+    afforded(terms.len(), work.len(), known.steps, allowance)?;
+    let work = &mut work[..terms.len()];
+    for (t, term) in terms.iter().enumerate() {
+        work[t] = match term[0] {
+            1 => variable(term, values),
+            15 => read(terms, cells, values, work, term),
+            _ => operation(term, work),
+        };
+    }
+    Ok([known.steps, allowance - known.steps, 0, 0])
+}
+
+/// A variable's value; 0 for an array.
+#[inline(always)]
+pub fn variable(term: &Term, values: &[u32]) -> u32 {
+    if term[1] == 0 { values[term[3] as usize] } else { 0 }
+}
+
+/// The value of any term but a variable or a read, from the values before it.
+#[inline(always)]
+pub fn operation(term: &Term, work: &[u32]) -> u32 {
+    let &[op, _, n, p, q, r] = term;
+    let at = |k: u32| work[k as usize];
+    match op {
+        0 => p,
+        2 => at(p) ^ 1,
+        3 | 9 => at(p) & at(q),
+        4 | 10 => at(p) | at(q),
+        5 => (at(p) ^ 1) | at(q),
+        6 => u32::from(at(p) == at(q)),
+        7 => at(if at(p) == 1 { q } else { r }),
+        8 => !at(p) & ones(n),
+        11 => at(p).wrapping_add(at(q)) & ones(n),
+        12 => at(p).wrapping_mul(at(q)) & ones(n),
+        13 => shifted(at(p), at(q), n),
+        14 => u32::from(at(p) < at(q)),
+        _ => 0,
+    }
+}
+
+#[inline(always)]
+fn shifted(value: u32, by: u32, n: u32) -> u32 {
+    if by >= n { 0 } else { value << by & ones(n) }
+}
+
+#[inline(always)]
+fn read(terms: &[Term], cells: &[Cell], values: &[u32], work: &[u32], term: &Term) -> u32 {
+    let index = work[term[4] as usize];
+    let mut array = term[3];
+    loop {
+        let [op, _, _, p, q, r] = terms[array as usize];
+        if op == 1 {
+            return held(cells, values, p, index);
+        }
+        if work[q as usize] == index {
+            return work[r as usize];
+        }
+        array = p;
+    }
+}

@@ -1,0 +1,141 @@
+//! Paper 01's bench examples, and those of docs/DECISIONS.md, on the Rust side.
+
+use super::{admit, evaluate, finish, judge};
+
+const G: [u32; 42] = [
+    1, 0, 8, 0, 0, 0, 1, 0, 8, 1, 1, 0, 1, 0, 8, 2, 0, 0, 12, 0, 8, 0, 1, 0, 11, 0, 8, 3, 2, 0, 0, 0, 8, 0, 0, 0, 14,
+    0, 0, 5, 4, 0,
+];
+
+/// t, a, c in slots 0, 1, 2 with these marks; 42 stored at a, read at c, equal to 42.
+fn h(t: u32, a: u32) -> Vec<u32> {
+    [
+        [1, 8, 8, 0, t, 0],
+        [1, 0, 8, 1, a, 0],
+        [1, 0, 8, 2, 0, 0],
+        [0, 0, 8, 42, 0, 0],
+        [16, 8, 8, 0, 1, 3],
+        [15, 0, 8, 4, 2, 0],
+        [6, 0, 0, 5, 3, 0],
+    ]
+    .concat()
+}
+
+/// Judges with room and allowance enough, and holds the finished table to the same.
+fn verdict(table: &[u32], values: &[u32]) -> (u64, u64) {
+    let (mut answer, mut work) = ([0; 4], vec![7; table.len()]);
+    assert_eq!(judge(table, values, &[], 99, &mut work, &mut answer), 0);
+    let (rule, condition) = (answer[0], answer[1]);
+    let mut room = vec![7; 6 * 80_000];
+    assert_eq!(finish(table, &mut room, &mut answer), 0);
+    let [terms, number, last, _] = answer;
+    assert_eq!(room[6 * terms as usize], 7);
+    let mut work = vec![0; terms as usize];
+    assert_eq!(evaluate(&room[..6 * terms as usize], values, &[], 9999, &mut work, &mut answer), 0);
+    assert_eq!(u64::from(work[table.len() / 6 - 1]), rule);
+    assert_eq!(u64::from(work[number as usize]), condition);
+    assert_eq!(u64::from(work[last as usize]), rule & condition);
+    (rule, condition)
+}
+
+#[test]
+fn rule_g() {
+    assert_eq!(verdict(&G, &[0, 5, 1]), (1, 1));
+    assert_eq!(verdict(&G, &[1, 1, 0]), (1, 0));
+    assert_eq!(verdict(&G, &[0, 5, 0]), (0, 1));
+    assert_eq!(verdict(&G, &[1, 0, 1]), (1, 0));
+    let (mut room, mut answer) = (vec![9; 121], [0; 4]);
+    assert_eq!(finish(&G, &mut room, &mut answer), 0);
+    assert_eq!(answer, [20, 18, 19, 0]);
+    assert_eq!(room[114..], [3, 0, 0, 6, 18, 0, 9]);
+    assert_eq!((finish(&G, &mut room[..119], &mut answer), answer), (21, [20, 0, 0, 0]));
+}
+
+#[test]
+fn rule_h() {
+    assert_eq!(verdict(&h(1, 0), &[9, 0, 0]), (1, 1));
+    assert_eq!(verdict(&h(1, 0), &[42, 0, 2]), (1, 0));
+    // The stored value must equal the one beneath, not the indexes.
+    assert_eq!(verdict(&h(0, 1), &[9, 0, 0]), (1, 0));
+    assert_eq!(verdict(&h(0, 1), &[42, 0, 0]), (1, 1));
+    let (mut work, mut answer) = ([5; 15], [0; 4]);
+    assert_eq!(judge(&h(1, 0), &[9, 0, 0], &[], 0, &mut work, &mut answer), 23);
+    assert_eq!((answer, work), ([1, 0, 0, 0], [5; 15]));
+    assert_eq!(judge(&h(1, 0), &[9, 0, 0], &[], 1, &mut work, &mut answer), 0);
+    assert_eq!((answer, work), ([1, 1, 1, 0], [0, 0, 0, 42, 0, 42, 1, 0, 1, 1, 1, 0, 1, 1, 5]));
+    assert_eq!(finish(&h(1, 0), &mut [0; 200], &mut answer), 0);
+    assert_eq!(answer, [21, 19, 20, 0]);
+}
+
+/// Two vectors (or a test and two), an operator, and an equality with a constant.
+fn binary(op: u32, marks: [u32; 2], constant: u32) -> Vec<u32> {
+    [
+        [1, 0, 8, 0, marks[0], 0],
+        [1, 0, 8, 1, marks[1], 0],
+        [op, 0, 8, 0, 1, 0],
+        [0, 0, 8, constant, 0, 0],
+        [6, 0, 0, 2, 3, 0],
+    ]
+    .concat()
+}
+
+#[test]
+fn operators() {
+    assert_eq!(verdict(&binary(11, [0, 0], 44), &[200, 100]), (1, 1));
+    assert_eq!(verdict(&binary(12, [0, 0], 0), &[16, 16]), (1, 1));
+    assert_eq!(verdict(&binary(13, [1, 0], 0), &[200, 8]), (1, 1));
+    assert_eq!(verdict(&binary(13, [1, 0], 0), &[200, 7]), (1, 0));
+    assert_eq!(verdict(&binary(10, [1, 0], 255), &[3, 255]), (1, 1));
+    assert_eq!(verdict(&binary(10, [1, 0], 255), &[255, 3]), (1, 0));
+    let choice = [[1, 0, 0, 0, 1, 0], [1, 0, 8, 1, 0, 0], [1, 0, 8, 2, 0, 0], [7, 0, 8, 0, 1, 2], [6, 0, 0, 3, 1, 0]];
+    assert_eq!(verdict(&choice.concat(), &[1, 3, 3]), (1, 1));
+    assert_eq!(verdict(&choice.concat(), &[1, 3, 4]), (1, 0));
+    let p12 = [[1, 0, 8, 0, 1, 0], [0, 0, 8, 5, 0, 0], [14, 0, 0, 0, 1, 0], [2, 0, 0, 2, 0, 0], [4, 0, 0, 2, 3, 0]];
+    assert_eq!(verdict(&p12.concat(), &[3]), (1, 0));
+    assert_eq!(verdict(&p12.concat(), &[9]), (1, 0));
+}
+
+fn chain(stores: u32) -> Vec<u32> {
+    let mut table = vec![1, 8, 8, 0, 1, 0, 1, 0, 8, 1, 0, 0];
+    table.extend((0..stores).flat_map(|k| [16, 8, 8, if k == 0 { 0 } else { k + 1 }, 1, 1]));
+    table.extend([6, 0, 0, 1, 1, 0]);
+    table
+}
+
+#[test]
+fn refusals() {
+    let refused = |table: &[u32]| {
+        let mut answer = [9; 4];
+        (admit(table, &mut answer), answer[0])
+    };
+    assert_eq!(refused(&[]), (1, 0));
+    assert_eq!(refused(&G[..41]), (1, 0));
+    assert_eq!(refused(&G.repeat(74)[..6 * 513]), (2, 0));
+    assert_eq!(refused(&chain(16)), (0, 0));
+    assert_eq!(refused(&chain(17)), (9, 18));
+    assert_eq!(refused(&[1, 0, 8, 3, 0, 0, 1, 0, 8, 3, 1, 0, 17, 0, 0, 0, 0, 0]), (8, 1));
+    assert_eq!(refused(&[1, 0, 8, 3, 0, 0, 1, 0, 8, 3, 2, 0]), (7, 1));
+    assert_eq!(refused(&[1, 0, 33, 0, 0, 0]), (4, 0));
+    assert_eq!(refused(&[1, 8, 0, 0, 0, 0]), (4, 0));
+    assert_eq!(refused(&[2, 0, 8, 0, 0, 0]), (5, 0));
+    assert_eq!(refused(&[0, 8, 8, 0, 0, 0]), (6, 0));
+    assert_eq!(refused(&[0, 0, 8, 256, 0, 0]), (7, 0));
+    assert_eq!(refused(&[0, 0, 8, 255, 0, 0]), (10, 0));
+}
+
+#[test]
+fn settings() {
+    let table = [[1, 0, 8, 0, 0, 0], [1, 8, 8, 5, 0, 0], [6, 0, 0, 0, 0, 0]].concat();
+    let refused = |values: &[u32], cells: &[u32], room: usize| {
+        let mut answer = [9; 4];
+        (evaluate(&table, values, cells, 0, &mut vec![0; room], &mut answer), answer[0])
+    };
+    assert_eq!(refused(&[300], &[5], 0), (11, 0));
+    assert_eq!(refused(&[300], &[], 0), (13, 0));
+    assert_eq!(refused(&[30], &[], 0), (12, 1));
+    assert_eq!(refused(&[3, 0, 0, 0, 0, 9], &[5, 1, 1, 0, 0, 0], 0), (14, 1));
+    assert_eq!(refused(&[3, 0, 0, 0, 0, 9], &[5, 1, 1, 5, 1, 256], 0), (15, 1));
+    assert_eq!(refused(&[3, 0, 0, 0, 0, 9], &[5, 256, 1, 256, 0, 0], 0), (15, 0));
+    assert_eq!(refused(&[3, 0, 0, 0, 0, 9], &[], 2), (22, 3));
+    assert_eq!(refused(&[3, 0, 0, 0, 0, 9], &[5, 1, 1], 3), (0, 0));
+}

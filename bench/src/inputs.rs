@@ -1,0 +1,189 @@
+//! The tables and settings that are measured. The same at each run.
+
+/// A table with a setting.
+#[derive(Clone)]
+pub struct Input {
+    pub table: Vec<u32>,
+    pub values: Vec<u32>,
+    pub cells: Vec<u32>,
+}
+
+impl Input {
+    pub fn terms(&self) -> usize {
+        self.table.len() / 6
+    }
+}
+
+/// SplitMix64.
+pub struct Random(pub u64);
+
+impl Random {
+    pub fn below(&mut self, limit: usize) -> usize {
+        self.0 = self.0.wrapping_add(0x9e37_79b9_7f4a_7c15);
+        let mut z = self.0;
+        z = (z ^ z >> 30).wrapping_mul(0xbf58_476d_1ce4_e5b9);
+        z = (z ^ z >> 27).wrapping_mul(0x94d0_49bb_1331_11eb);
+        ((z ^ z >> 31) % limit as u64) as usize
+    }
+}
+
+/// What follows the first variables, over and over. Between them the two have every operator.
+const PLAIN: [u32; 20] = [12, 11, 14, 3, 8, 6, 7, 9, 4, 10, 13, 1, 2, 11, 5, 0, 14, 9, 3, 12];
+const WITH_ARRAYS: [u32; 20] = [16, 15, 16, 14, 11, 15, 3, 16, 12, 15, 6, 16, 4, 7, 15, 0, 16, 1, 13, 15];
+
+/// A table being written. Vectors are 8 bits wide, arrays 8 bits from 8 bits.
+struct Writer {
+    random: Random,
+    table: Vec<u32>,
+    values: Vec<u32>,
+    array_slots: Vec<u32>,
+    /// Term numbers by sort; an array with its count of stores.
+    booleans: Vec<u32>,
+    vectors: Vec<u32>,
+    arrays: Vec<(u32, u32)>,
+}
+
+impl Writer {
+    fn new(seed: u64) -> Self {
+        Writer {
+            random: Random(seed),
+            table: vec![],
+            values: vec![],
+            array_slots: vec![],
+            booleans: vec![],
+            vectors: vec![],
+            arrays: vec![],
+        }
+    }
+
+    fn push(&mut self, term: [u32; 6]) -> u32 {
+        self.table.extend(term);
+        self.table.len() as u32 / 6 - 1
+    }
+
+    /// A variable in a slot of its own; every other slot is marked.
+    fn variable(&mut self, m: u32, n: u32) {
+        let slot = self.values.len() as u32;
+        let value = self.random.below(if n == 0 { 2 } else { 20 }) as u32;
+        self.values.push(value);
+        let t = self.push([1, m, n, slot, slot & 1, 0]);
+        match (m, n) {
+            (0, 0) => self.booleans.push(t),
+            (0, _) => self.vectors.push(t),
+            _ => {
+                self.array_slots.push(slot);
+                self.arrays.push((t, 0));
+            }
+        }
+    }
+
+    fn boolean(&mut self) -> u32 {
+        self.booleans[self.random.below(self.booleans.len())]
+    }
+
+    fn vector(&mut self) -> u32 {
+        self.vectors[self.random.below(self.vectors.len())]
+    }
+
+    fn operator(&mut self, op: u32) {
+        let (p, q, c) = (self.vector(), self.vector(), self.boolean());
+        match op {
+            0 => {
+                let value = self.random.below(20) as u32;
+                self.number([0, 0, 8, value, 0, 0]);
+            }
+            1 => self.variable(0, 8),
+            2 => self.truth([2, 0, 0, c, 0, 0]),
+            3..=5 => {
+                let d = self.boolean();
+                self.truth([op, 0, 0, c, d, 0]);
+            }
+            6 | 14 => self.truth([op, 0, 0, p, q, 0]),
+            15 | 16 => self.array_operator(op, p, q),
+            7 => self.number([7, 0, 8, c, p, q]),
+            8 => self.number([8, 0, 8, p, 0, 0]),
+            _ => self.number([op, 0, 8, p, q, 0]),
+        }
+    }
+
+    fn number(&mut self, term: [u32; 6]) {
+        let t = self.push(term);
+        self.vectors.push(t);
+    }
+
+    fn truth(&mut self, term: [u32; 6]) {
+        let t = self.push(term);
+        self.booleans.push(t);
+    }
+
+    /// A read anywhere, or a store upon the newest array; after 16 stores upon the first.
+    fn array_operator(&mut self, op: u32, p: u32, q: u32) {
+        if op == 15 {
+            let (array, _) = self.arrays[self.random.below(self.arrays.len())];
+            self.number([15, 0, 8, array, p, 0]);
+        } else {
+            let newest = self.arrays[self.arrays.len() - 1];
+            let (array, stores) = if newest.1 < 16 { newest } else { self.arrays[0] };
+            let t = self.push([16, 8, 8, array, p, q]);
+            self.arrays.push((t, stores + 1));
+        }
+    }
+
+    fn input(mut self, cells: usize) -> Input {
+        let mut row = vec![];
+        for _ in 0..cells {
+            let slot = self.array_slots[self.random.below(self.array_slots.len())];
+            row.extend([slot, self.random.below(32) as u32, self.random.below(20) as u32]);
+        }
+        Input { table: self.table, values: self.values, cells: row }
+    }
+}
+
+/// Operators in turn, with or without arrays and 16 cells.
+pub fn mixed(terms: usize, arrays: bool) -> Input {
+    let mut writer = Writer::new(terms as u64);
+    if arrays {
+        writer.variable(8, 8);
+    }
+    writer.variable(0, 8);
+    writer.variable(0, 8);
+    writer.variable(0, 0);
+    let cycle = if arrays { WITH_ARRAYS } else { PLAIN };
+    for op in cycle.into_iter().cycle().take(terms - 1 - writer.table.len() / 6) {
+        writer.operator(op);
+    }
+    let (p, q) = (writer.vector(), writer.vectors[writer.vectors.len() - 1]);
+    writer.truth([14, 0, 0, p, q, 0]);
+    writer.input(if arrays { 16 } else { 0 })
+}
+
+/// 16 reads of an array variable among so many cells: 8 find theirs, evenly spread, and 8 do not.
+pub fn reads_among(cells: u32) -> Input {
+    let mut table = vec![1, 16, 32, 0, 0, 0];
+    for k in 0..16 {
+        let index = if k < 8 { k * cells / 8 } else { 10_000 + k };
+        table.extend([0, 0, 16, index, 0, 0]);
+    }
+    for k in 0..16 {
+        table.extend([15, 0, 32, 0, 1 + k, 0]);
+    }
+    for k in 0..15 {
+        table.extend([11, 0, 32, 17 + k, if k == 0 { 32 } else { 32 + k }, 0]);
+    }
+    table.extend([14, 0, 0, 17, 47, 0]);
+    let cells = (0..cells).flat_map(|k| [0, k, k * 7]).collect();
+    Input { table, values: vec![5], cells }
+}
+
+/// So many variables, each in a slot of its own, and as many sums of them.
+pub fn variables(slots: u32) -> Input {
+    let mut table = vec![];
+    for slot in 0..slots {
+        table.extend([1, 0, 32, slot, slot & 1, 0]);
+    }
+    for k in 0..slots - 1 {
+        table.extend([11, 0, 32, k, if k == 0 { 1 } else { slots + k - 1 }, 0]);
+    }
+    table.extend([14, 0, 0, 0, 2 * slots - 2, 0]);
+    Input { table, values: (0..slots).map(|slot| slot * 3).collect(), cells: vec![] }
+}

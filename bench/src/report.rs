@@ -1,0 +1,137 @@
+//! The whole table: ratios, then growth.
+
+use crate::compare::{compare, compare_altered};
+use crate::finished;
+use crate::inputs::{Input, Random, mixed, reads_among, variables};
+use crate::measure::improve;
+use crate::sides::{Library, ROUTINES, Routine, Rust, Side};
+use std::hint::black_box;
+
+/// All lines are measured so many times, one after the other: what slows a machine down for a while
+/// then spoils no line.
+const SWEEPS: usize = 4;
+
+/// Altered copies of an input on which the sides are compared.
+const ALTERED: usize = 2000;
+
+/// One line: a routine on an input, and nanoseconds for a call of the library and of the Rust side.
+struct Line {
+    routine: Routine,
+    input: Input,
+    units: usize,
+    best: [f64; 2],
+}
+
+impl Line {
+    /// Compares the results first.
+    fn new(routine: Routine, input: Input, units: usize) -> Line {
+        compare(routine, &input);
+        Line { routine, input, units, best: [f64::INFINITY; 2] }
+    }
+
+    fn measure(&mut self) {
+        let Line { routine, input, best, .. } = self;
+        let mut rooms = [(); 2].map(|_| (vec![0; routine.room(input.terms())], [0; 4]));
+        let [(room, answer), (other_room, other_answer)] = &mut rooms;
+        improve(
+            best,
+            || {
+                black_box(Library::call(*routine, black_box(input), u64::MAX, room, answer));
+            },
+            || {
+                black_box(Rust::call(*routine, black_box(input), u64::MAX, other_room, other_answer));
+            },
+        );
+    }
+}
+
+/// Lines under one heading, and the unit by which they grow.
+struct Section {
+    heading: &'static str,
+    unit: &'static str,
+    lines: Vec<Line>,
+}
+
+fn section(heading: &'static str, unit: &'static str, routines: &[Routine], inputs: &[(usize, Input)]) -> Section {
+    let line = |routine| inputs.iter().map(move |(units, input)| Line::new(routine, input.clone(), *units));
+    Section { heading, unit, lines: routines.iter().flat_map(|&routine| line(routine)).collect() }
+}
+
+/// Tables without and with arrays: each routine, and evaluating the finished table.
+fn ratio_sections() -> [Section; 2] {
+    [("No arrays", false), ("With arrays", true)].map(|(heading, arrays)| {
+        let mut lines = vec![];
+        for terms in [8, 64, 512] {
+            let input = mixed(terms, arrays);
+            lines.extend(ROUTINES.map(|routine| Line::new(routine, input.clone(), terms)));
+            lines.push(Line::new(Routine::Evaluate, finished(&input), terms));
+        }
+        Section { heading, unit: "term", lines }
+    })
+}
+
+fn growth_sections() -> [Section; 4] {
+    let terms = |arrays| [64, 128, 256, 512].map(|terms| (terms, mixed(terms, arrays)));
+    let cells = [0, 16, 64, 256, 1024].map(|cells| (cells as usize, reads_among(cells)));
+    let slots = [8, 64, 200].map(|slots| (slots as usize, variables(slots)));
+    [
+        section("Terms, no arrays", "term", &ROUTINES, &terms(false)),
+        section("Terms, with arrays", "term", &ROUTINES, &terms(true)),
+        section(
+            "Cells, a table of 49 terms with 16 reads; the time beyond that of no cells",
+            "cell",
+            &[Routine::Evaluate, Routine::Judge],
+            &cells,
+        ),
+        section("Variables, each in its slot, and as many sums", "variable", &ROUTINES, &slots),
+    ]
+}
+
+fn print_ratios(section: &Section) {
+    println!("\n{}:\n", section.heading);
+    println!("| routine | terms | library, ns | Rust, ns | library / Rust |");
+    println!("|---|---:|---:|---:|---:|");
+    for Line { routine, input, units, best: [library, rust] } in &section.lines {
+        let finished = if input.terms() == *units { "" } else { ", finished" };
+        let (name, terms) = (routine.name(), input.terms());
+        println!("| {name}{finished} | {terms} | {library:.0} | {rust:.0} | {:.2} |", library / rust);
+    }
+}
+
+/// Time for a call, and for each unit. An input of no units is subtracted from those after it.
+fn print_growth(Section { heading, unit, lines }: &Section) {
+    println!("\n{heading}:\n");
+    println!("| routine | {unit}s | library, ns | Rust, ns | library, ns a {unit} | Rust, ns a {unit} |");
+    println!("|---|---:|---:|---:|---:|---:|");
+    let mut start = [0.0; 2];
+    for Line { routine, units, best: [library, rust], .. } in lines {
+        let name = routine.name();
+        if *units == 0 {
+            start = [*library, *rust];
+            println!("| {name} | 0 | {library:.0} | {rust:.0} | | |");
+            continue;
+        }
+        let each = [library - start[0], rust - start[1]].map(|ns| ns / *units as f64);
+        println!("| {name} | {units} | {library:.0} | {rust:.0} | {:.2} | {:.2} |", each[0], each[1]);
+    }
+}
+
+fn print_altered(random: &mut Random) {
+    let inputs = [false, true].map(|arrays| [8, 64, 512].map(|terms| mixed(terms, arrays))).concat();
+    let refused: usize = inputs.iter().map(|input| compare_altered(input, ALTERED, random)).sum();
+    let calls = inputs.len() * ALTERED * ROUTINES.len();
+    println!("Both sides gave equal results on each input below before it was timed, and on {calls} calls with one");
+    println!("number altered, of which {refused} were refused.");
+}
+
+pub fn print(random: &mut Random) {
+    let (mut ratios, mut growth) = (ratio_sections(), growth_sections());
+    print_altered(random);
+    for _ in 0..SWEEPS {
+        ratios.iter_mut().chain(&mut growth).flat_map(|section| &mut section.lines).for_each(Line::measure);
+    }
+    println!("\n## Beside Rust");
+    ratios.iter().for_each(print_ratios);
+    println!("\n## Growth");
+    growth.iter().for_each(print_growth);
+}

@@ -1,0 +1,64 @@
+/* Calls the library for a program at the other end of a pipe.
+ *
+ * A request is a letter and rows of numbers, each row with its length before it:
+ *   e table values cells    evaluate
+ *   j table values cells    judge
+ *   f table                 finish
+ * The answer is one line: the number that the function answers, its four answers, and the room's front. */
+#include <inttypes.h>
+#include <stdint.h>
+#include <stdio.h>
+#include <stdlib.h>
+
+uint32_t hiranthok_finish(const uint32_t *table, size_t table_len, uint32_t *room, size_t room_len, uint64_t answer[4]);
+uint32_t hiranthok_evaluate(const uint32_t *table, size_t table_len, const uint32_t *values, size_t values_len,
+                            const uint32_t *cells, size_t cells_len, uint64_t allowance, uint32_t *work,
+                            size_t work_len, uint64_t answer[4]);
+uint32_t hiranthok_judge(const uint32_t *table, size_t table_len, const uint32_t *values, size_t values_len,
+                         const uint32_t *cells, size_t cells_len, uint64_t allowance, uint32_t *work, size_t work_len,
+                         uint64_t answer[4]);
+
+enum { LONGEST = 480000 };
+
+struct row {
+    uint32_t numbers[LONGEST];
+    size_t len;
+};
+
+static struct row table, values, cells, room;
+
+static void take(struct row *row) {
+    if (scanf("%zu", &row->len) != 1 || row->len > LONGEST) exit(2);
+    for (size_t k = 0; k < row->len; k++)
+        if (scanf("%" SCNu32, &row->numbers[k]) != 1) exit(2);
+}
+
+static void give(uint32_t number, const uint64_t answer[4], size_t front) {
+    printf("%" PRIu32, number);
+    for (int k = 0; k < 4; k++) printf(" %" PRIu64, answer[k]);
+    for (size_t k = 0; number == 0 && k < front; k++) printf(" %" PRIu32, room.numbers[k]);
+    printf("\n");
+    fflush(stdout);
+}
+
+int main(void) {
+    char request;
+    while (scanf(" %c", &request) == 1) {
+        uint64_t answer[4] = {0};
+        uint32_t number;
+        take(&table);
+        if (request == 'f') {
+            number = hiranthok_finish(table.numbers, table.len, room.numbers, LONGEST, answer);
+            give(number, answer, 6 * answer[0]);
+            continue;
+        }
+        take(&values);
+        take(&cells);
+        size_t front = (request == 'j' ? 2 : 1) * (table.len / 6);
+        number = (request == 'j' ? hiranthok_judge : hiranthok_evaluate)(
+            table.numbers, table.len, values.numbers, values.len, cells.numbers, cells.len, UINT64_MAX, room.numbers,
+            front, answer);
+        give(number, answer, front);
+    }
+    return 0;
+}

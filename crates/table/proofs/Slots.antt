@@ -112,8 +112,8 @@ module _ (t : List ℕ) (i : ℕ) (l : List ℕ) (top : ℕ) (h : Latest t i l t
     low : slotOf t i ≤ 255
     low = leb-true (slotOf t i) 255 (and-parts (variable (termAt t i)) (leb (slotOf t i) 255) claim .1)
 
-    -- no entry conflicts with term i: no earlier variable does
-    unlike-none : ((s : ℕ) → s < top → recalls t (getD l s 0) (termAt t i) ≡ false) → (k : ℕ) → k < i → variable (termAt t k) && conflicts (termAt t k) (termAt t i) ≡ false
+    -- no entry of its slot conflicts with term i: no earlier variable does
+    unlike-none : ((s : ℕ) → s < top → s ≡ slotOf t i → recalls t (getD l s 0) (termAt t i) ≡ false) → (k : ℕ) → k < i → variable (termAt t k) && conflicts (termAt t k) (termAt t i) ≡ false
     unlike-none none k b = go (variable (termAt t k) && conflicts (termAt t k) (termAt t i)) refl
       where
         go : (d : Bool) → variable (termAt t k) && conflicts (termAt t k) (termAt t i) ≡ d → d ≡ false
@@ -125,7 +125,7 @@ module _ (t : List ℕ) (i : ℕ) (l : List ℕ) (top : ℕ) (h : Latest t i l t
             let held = h .complete k b (rw (parts .0, le-leb (slotOf t k) 255 small)) in
             sym (held .alike (termAt t i) ∙ parts .1)
             ∙ sym (ap (λ (n : ℕ). recalls t n (termAt t i)) (held .entry))
-            ∙ none (slotOf t k) (held .covered)
+            ∙ none (slotOf t k) (held .covered) slot
 
     -- an entry conflicts with term i: there is a clash
     clash-found : (s : ℕ) → recalls t (getD l s 0) (termAt t i) ≡ true → slotClash t i ≡ true
@@ -231,9 +231,10 @@ module _ (t : List ℕ) (n : ℕ) (l : List ℕ) (top i : ℕ) (h : Searched t n
       claim-here : claims (termAt t i) ≡ true
       claim-here = ap claims (sym here) ∙ claim
 
-      pub one-noted : ((s : ℕ) → s < top → recalls t (getD l s 0) x ≡ false) → Searched t n (set l (x .p) (i + 1)) (max top (x .p + 1)) (i + 1)
+      pub one-noted : ((s : ℕ) → s < top → s ≡ x .p → recalls t (getD l s 0) x ≡ false) → Searched t n (set l (x .p) (i + 1)) (max top (x .p + 1)) (i + 1)
       one-noted none =
-          let none-here : (s : ℕ) → s < top → recalls t (getD l s 0) (termAt t i) ≡ false = λ s b. ap (recalls t (getD l s 0)) (sym here) ∙ none s b in
+          let none-here : (s : ℕ) → s < top → s ≡ slotOf t i → recalls t (getD l s 0) (termAt t i) ≡ false =
+          λ s b e. ap (recalls t (getD l s 0)) (sym here) ∙ none s b (e ∙ ap (λ (y : Term). y .p) (sym here)) in
           let unlike = unlike-none t i l top (h .held) claim-here none-here in
           record {
             within = omega arith;

@@ -39,7 +39,8 @@ fn most(a: usize, b: usize) -> usize
 }
 
 // The first variable that clashes with an earlier one, else the count of terms. The earlier variables stand by slot:
-// earlier holds, for each slot below top, the number of its latest variable and one. Those before it are no different.
+// earlier holds, for each slot below top, the number of its latest variable and one. Those before it are no different. Only one of the
+// variable's own slot is asked.
 pub fn first_clash(table: &[u32], terms: u32) -> u32
     ensures { λ r. ⌜ r ≡ firstClash (now (table .entry)) terms ⌝ }
 {
@@ -51,13 +52,16 @@ pub fn first_clash(table: &[u32], terms: u32) -> u32
         if !claims(x) {
             continue;
         }
+        let slot = x.p as usize;
         for s in 0..top {
+            if s != slot {
+                continue;
+            }
             if recalls(table, earlier[s], x) {
                 at = i;
                 break 'variables;
             }
         }
-        let slot = x.p as usize;
         earlier[slot] = i + 1;
         top = most(top, slot + 1);
     }

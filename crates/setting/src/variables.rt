@@ -21,10 +21,12 @@ pub fn number_at(row: &[u32], k: u32) -> u32
 fn variable_fault(values: &[u32], x: Term) -> u32
     ensures { λ r. ⌜ r ≡ variableFault (now (values .entry)) x ⌝ }
 {
-    let other = !table::variable(x);
+    if !table::variable(x) {
+        return 0;
+    }
     let inside = (x.p as usize) < values.len();
     let fitting = ops::fits(x.sort.n, number_at(values, x.p));
-    refuse(12, other | inside, refuse(13, other | fitting, 0))
+    refuse(12, inside, refuse(13, fitting, 0))
 }
 
 // The variables in order, then the rest.

@@ -39,9 +39,10 @@ pub fn fault(table: &[u32], i: u32, clashing: bool) -> u32
     ensures { λ r. ⌜ r ≡ faultIf (now (table .entry)) i clashing ⌝ }
 {
     let x = term_at(table, i);
-    let fields = fields_of(rank_of(x.op));
+    let rank = rank_of(x.op);
+    let fields = fields_of(rank);
     let late = refuse(8, !clashing, refuse(9, chain(table, i) <= 16, 0));
-    let sorts = refuse(6, typed(table, x), refuse(7, valued(fields, x), late));
+    let sorts = refuse(6, typed(table, rank, x), refuse(7, valued(fields, x), late));
     let early = refuse(5, placed(fields, i, x), sorts);
     refuse(3, x.op <= 16, refuse(4, sorted(x.sort), early))
 }

@@ -1,8 +1,10 @@
 // What each operator asks of its fields and sorts.
 ghost use mathlib.Core.Path.{_≡_};
 ghost use Rattle.ops.specs.Numbers.{opOf};
+ghost use Rattle.table.specs.Terms.{sortAt};
+ghost use Rattle.table.specs.declared.ranks.Rank.the-variants.{Read, Write};
 ghost use Rattle.table.specs.Ranks.{rankOf, fieldsOf, slotted, immediate, reads, writes};
-ghost use Rattle.table.specs.Faults.{placedAs, typedAs, typed, valuedAs, variable, constant, reading, storing};
+ghost use Rattle.table.specs.Faults.{placedAs, typedAs, valuedAs, variable, constant, reading, storing};
 use crate::sorts::array;
 use crate::sorts::boolean;
 use crate::sorts::same_sort;
@@ -101,33 +103,58 @@ pub fn placed(fields: Fields, i: u32, x: Term) -> bool
     }
 }
 
-// 6: the sorts of a term x and of its operands a, b, c.
-fn typed_as(rank: Rank, x: Sort, a: Sort, b: Sort, c: Sort) -> bool
-    ensures { λ r. ⌜ r ≡ typedAs rank x a b c ⌝ }
+// 6 of a read x at b of a.
+fn read_typed(x: Sort, a: Sort, b: Sort) -> bool
+    ensures { λ r. ⌜ r ≡ typedAs Read x a b (record { m = 0; n = 0 }) ⌝ }
 {
-    match rank {
-        Rank::Literal => scalar(x),
-        Rank::Input => true,
-        Rank::BoolUnary => boolean(x) & boolean(a),
-        Rank::BoolBinary => boolean(x) & boolean(a) & boolean(b),
-        Rank::Equality => boolean(x) & scalar(a) & same_sort(a, b),
-        Rank::Choice => scalar(x) & boolean(a) & same_sort(b, x) & same_sort(c, x),
-        Rank::BvUnary => vector(x) & same_sort(a, x),
-        Rank::BvBinary => vector(x) & same_sort(a, x) & same_sort(b, x),
-        Rank::BvCompare => boolean(x) & vector(a) & same_sort(a, b),
-        Rank::Read => array(a) & vector_of(a.m, b) & vector_of(a.n, x),
-        Rank::Write => array(x) & same_sort(a, x) & vector_of(x.m, b) & vector_of(x.n, c),
-        Rank::Other => true,
-    }
+    array(a) & vector_of(a.m, b) & vector_of(a.n, x)
 }
 
-pub fn typed(table: &[u32], x: Term) -> bool
-    ensures { λ r. ⌜ r ≡ typed (now (table .entry)) x ⌝ }
+// 6 of a store x of c at b onto a.
+fn write_typed(x: Sort, a: Sort, b: Sort, c: Sort) -> bool
+    ensures { λ r. ⌜ r ≡ typedAs Write x a b c ⌝ }
 {
-    let a = sort_at(table, x.p);
-    let b = sort_at(table, x.q);
-    let c = sort_at(table, x.r);
-    typed_as(rank_of(x.op), x.sort, a, b, c)
+    array(x) & same_sort(a, x) & vector_of(x.m, b) & vector_of(x.n, c)
+}
+
+// 6: the sorts of a term x of this rank and of its operands. A sort that the rank does not ask is not read.
+pub fn typed(table: &[u32], rank: Rank, x: Term) -> bool
+    ensures { λ r. ⌜ r ≡ typedAs rank (x .sort) (sortAt (now (table .entry)) (x .p)) (sortAt (now (table .entry)) (x .q)) (sortAt (now (table .entry)) (x .r)) ⌝ }
+{
+    let s = x.sort;
+    match rank {
+        Rank::Literal => scalar(s),
+        Rank::Input => true,
+        Rank::BoolUnary => boolean(s) & boolean(sort_at(table, x.p)),
+        Rank::BoolBinary => {
+            boolean(s) & boolean(sort_at(table, x.p)) & boolean(sort_at(table, x.q))
+        }
+        Rank::Equality => {
+            let a = sort_at(table, x.p);
+            boolean(s) & scalar(a) & same_sort(a, sort_at(table, x.q))
+        }
+        Rank::Choice => {
+            let a = sort_at(table, x.p);
+            let b = sort_at(table, x.q);
+            scalar(s) & boolean(a) & same_sort(b, s) & same_sort(sort_at(table, x.r), s)
+        }
+        Rank::BvUnary => vector(s) & same_sort(sort_at(table, x.p), s),
+        Rank::BvBinary => {
+            let a = sort_at(table, x.p);
+            vector(s) & same_sort(a, s) & same_sort(sort_at(table, x.q), s)
+        }
+        Rank::BvCompare => {
+            let a = sort_at(table, x.p);
+            boolean(s) & vector(a) & same_sort(a, sort_at(table, x.q))
+        }
+        Rank::Read => read_typed(s, sort_at(table, x.p), sort_at(table, x.q)),
+        Rank::Write => {
+            let a = sort_at(table, x.p);
+            let b = sort_at(table, x.q);
+            write_typed(s, a, b, sort_at(table, x.r))
+        }
+        Rank::Other => true,
+    }
 }
 
 // 7: a constant that fits; a slot up to 255 and a mark up to 1.

@@ -1,9 +1,11 @@
+use mathlib.Core.Path.{sym, _∙_}
+use borrow.Author.Tests.{not-false}
 use borrow.Author.Needs.{needs}
 use Rattle.setting.proofs.variables.variable_fault.Statement.{statement}
 use Rattle.setting.proofs.variables.variable_fault.Tie as tie
 
-returns : tie.Need-returns
-returns c = rw (c .refuse2 .ensures, c .before .refuse .ensures, c .before .before .fits2 .ensures, c .before .before .before .number-at .ensures, c .before .before .before .before .before .variable .ensures)
+returns-2 : tie.Need-returns-2
+returns-2 c = rw (c .refuse2 .ensures, c .before .refuse .ensures, c .before .before .fits2 .ensures, c .before .before .before .number-at .ensures, sym (c .before .before .before .before .before .before .variable .ensures) ∙ not-false _ (c .before .before .before .before .before .if1 .left))
 
 pub variable-fault-spec : {M : Type 1} → statement M
 variable-fault-spec =
@@ -11,8 +13,9 @@ variable-fault-spec =
     (tie.spec
     (λ c κs. search needs)
     (λ c. search needs)
+    (λ c. search needs)
     (λ c κs. search needs)
     (λ c κs. search needs)
     (λ c κs. search needs)
     (λ c κs. search needs)
-    returns)
+    returns-2)

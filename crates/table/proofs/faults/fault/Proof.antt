@@ -1,10 +1,10 @@
-use Rattle.table.specs.Faults.{faultIf}
+use Rattle.table.specs.Faults.{typed, faultIf}
 use borrow.Author.Needs.{needs}
 use Rattle.table.proofs.faults.fault.Statement.{statement}
 use Rattle.table.proofs.faults.fault.Tie as tie
 
 returns : tie.Need-returns
-unfolding faultIf
+unfolding faultIf typed
 returns c =
     rw (
       c .refuse7 .ensures,

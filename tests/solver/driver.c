@@ -10,13 +10,7 @@
 #include <stdio.h>
 #include <stdlib.h>
 
-uint32_t hiranthok_finish(const uint32_t *table, size_t table_len, uint32_t *room, size_t room_len, uint64_t answer[4]);
-uint32_t hiranthok_evaluate(const uint32_t *table, size_t table_len, const uint32_t *values, size_t values_len,
-                            const uint32_t *cells, size_t cells_len, uint64_t allowance, uint32_t *work,
-                            size_t work_len, uint64_t answer[4]);
-uint32_t hiranthok_judge(const uint32_t *table, size_t table_len, const uint32_t *values, size_t values_len,
-                         const uint32_t *cells, size_t cells_len, uint64_t allowance, uint32_t *work, size_t work_len,
-                         uint64_t answer[4]);
+#include "hiranthok.h"
 
 enum { LONGEST = 480000 };
 

@@ -5,6 +5,7 @@ use mathlib.Core.Bool.{true, false}
 use mathlib.Core.List.{List}
 use Prim.Native.Nat.{ℕ, suc, _+_, _-_, _≤_, _<_}
 use native.Mathlib.Omega.{arith}
+use lib.Dec.{leb}
 use Rattle.table.specs.Terms.{termAt}
 use Rattle.table.specs.Faults.{storing, chain}
 
@@ -25,3 +26,8 @@ unfolding chain
 chain-full t k count h =
     let none : 17 - count ≡ 0 = omega arith in
     rw none
+
+-- a term that is no store has none
+pub chain-short : (t : List ℕ) (k : ℕ) → storing (termAt t k) ≡ false → leb (chain 17 t k) 16 ≡ true
+unfolding chain
+chain-short t k h = rw h

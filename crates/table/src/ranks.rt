@@ -234,7 +234,8 @@ pub fn reading(x: Term) -> bool
     reads(rank_of(x.op))
 }
 
-fn writes(rank: Rank) -> bool
+// A store's rank.
+pub fn writes(rank: Rank) -> bool
     ensures { λ r. ⌜ r ≡ writes rank ⌝ }
 {
     match rank {

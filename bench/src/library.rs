@@ -1,39 +1,6 @@
 //! The library through its C interface, with the signatures that `fast` has.
 
-unsafe extern "C" {
-    fn hiranthok_admit(table: *const u32, table_len: usize, answer: *mut [u64; 4]) -> u32;
-    fn hiranthok_finish(
-        table: *const u32,
-        table_len: usize,
-        room: *mut u32,
-        room_len: usize,
-        answer: *mut [u64; 4],
-    ) -> u32;
-    fn hiranthok_evaluate(
-        table: *const u32,
-        table_len: usize,
-        values: *const u32,
-        values_len: usize,
-        cells: *const u32,
-        cells_len: usize,
-        allowance: u64,
-        work: *mut u32,
-        work_len: usize,
-        answer: *mut [u64; 4],
-    ) -> u32;
-    fn hiranthok_judge(
-        table: *const u32,
-        table_len: usize,
-        values: *const u32,
-        values_len: usize,
-        cells: *const u32,
-        cells_len: usize,
-        allowance: u64,
-        work: *mut u32,
-        work_len: usize,
-        answer: *mut [u64; 4],
-    ) -> u32;
-}
+include!(concat!(env!("CARGO_MANIFEST_DIR"), "/../include/hiranthok.rs"));
 
 // Each pointer below comes from a slice that lives through the call, with that slice's length.
 
@@ -45,6 +12,14 @@ pub fn finish(table: &[u32], room: &mut [u32], answer: &mut [u64; 4]) -> u32 {
     unsafe { hiranthok_finish(table.as_ptr(), table.len(), room.as_mut_ptr(), room.len(), answer) }
 }
 
+/// Evaluate or judge.
+fn in_setting(call: InSetting, rows: [&[u32]; 3], allowance: u64, work: &mut [u32], answer: &mut [u64; 4]) -> u32 {
+    let [table, values, cells] = rows;
+    let (t, v, c) = (table.as_ptr(), values.as_ptr(), cells.as_ptr());
+    let (tn, vn, cn, room) = (table.len(), values.len(), cells.len(), work.len());
+    unsafe { call(t, tn, v, vn, c, cn, allowance, work.as_mut_ptr(), room, answer) }
+}
+
 pub fn evaluate(
     table: &[u32],
     values: &[u32],
@@ -53,20 +28,7 @@ pub fn evaluate(
     work: &mut [u32],
     answer: &mut [u64; 4],
 ) -> u32 {
-    unsafe {
-        hiranthok_evaluate(
-            table.as_ptr(),
-            table.len(),
-            values.as_ptr(),
-            values.len(),
-            cells.as_ptr(),
-            cells.len(),
-            allowance,
-            work.as_mut_ptr(),
-            work.len(),
-            answer,
-        )
-    }
+    in_setting(hiranthok_evaluate, [table, values, cells], allowance, work, answer)
 }
 
 pub fn judge(
@@ -77,18 +39,5 @@ pub fn judge(
     work: &mut [u32],
     answer: &mut [u64; 4],
 ) -> u32 {
-    unsafe {
-        hiranthok_judge(
-            table.as_ptr(),
-            table.len(),
-            values.as_ptr(),
-            values.len(),
-            cells.as_ptr(),
-            cells.len(),
-            allowance,
-            work.as_mut_ptr(),
-            work.len(),
-            answer,
-        )
-    }
+    in_setting(hiranthok_judge, [table, values, cells], allowance, work, answer)
 }

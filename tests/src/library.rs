@@ -2,34 +2,7 @@
 
 use crate::case::{pattern, Answer, Case, Checker, Routine};
 
-extern "C" {
-    fn hiranthok_admit(table: *const u32, table_len: usize, answer: *mut u64) -> u32;
-    fn hiranthok_finish(table: *const u32, table_len: usize, room: *mut u32, room_len: usize, answer: *mut u64) -> u32;
-    fn hiranthok_evaluate(
-        table: *const u32,
-        table_len: usize,
-        values: *const u32,
-        values_len: usize,
-        cells: *const u32,
-        cells_len: usize,
-        allowance: u64,
-        work: *mut u32,
-        work_len: usize,
-        answer: *mut u64,
-    ) -> u32;
-    fn hiranthok_judge(
-        table: *const u32,
-        table_len: usize,
-        values: *const u32,
-        values_len: usize,
-        cells: *const u32,
-        cells_len: usize,
-        allowance: u64,
-        work: *mut u32,
-        work_len: usize,
-        answer: *mut u64,
-    ) -> u32;
-}
+include!(concat!(env!("CARGO_MANIFEST_DIR"), "/../include/hiranthok.rs"));
 
 pub struct Library;
 
@@ -45,8 +18,8 @@ impl Checker for Library {
         lent.extend([FENCE; GUARD]);
         let (room, length) = (lent[GUARD..].as_mut_ptr(), case.room);
         let mut numbers = [0xDEAD_BEEF_DEAD_BEEF; 4];
-        let out = numbers.as_mut_ptr();
-        let in_setting = if case.routine == Routine::Judge { hiranthok_judge } else { hiranthok_evaluate };
+        let out = &mut numbers;
+        let in_setting: InSetting = if case.routine == Routine::Judge { hiranthok_judge } else { hiranthok_evaluate };
         // SAFETY: every pointer comes with the length of what it points at, and the room and the answer are borrowed once.
         let number = unsafe {
             match case.routine {

@@ -17,6 +17,7 @@ use Rattle.ops.proofs.Booleans.{never, and-parts}
 use Rattle.table.specs.declared.words.Sort.{Sort}
 use Rattle.table.specs.declared.words.Term.{Term}
 use Rattle.table.specs.Terms.{termAt, sortAt, boolean, vector, scalar, array, vectorOf, sameSort}
+use Rattle.table.specs.Bench.{every}
 use Rattle.table.specs.Ranks.{rankOf, fieldsOf}
 use Rattle.table.specs.Faults.{known, placedAs, typedAs, typed}
 use Rattle.table.specs.WellFormed.{Sound}
@@ -43,18 +44,14 @@ isKnown Select = true
 isKnown Store = true
 isKnown Unknown = false
 
-all : (Op → Bool) → List Op → Bool
-all f [] = true
-all f (x ∷ l) = f x && all f l
-
-all-at : (f : Op → Bool) (l : List Op) (d : Op) → all f l ≡ true → (i : ℕ) → i < length l → f (getD l i d) ≡ true
-unfolding all
+all-at : (f : Op → Bool) (l : List Op) (d : Op) → every f l ≡ true → (i : ℕ) → i < length l → f (getD l i d) ≡ true
+unfolding every
 all-at f [] d h i b = absurd (not-suc-le-zero b)
-all-at f (x ∷ l) d h zero b = and-parts (f x) (all f l) h .0
-all-at f (x ∷ l) d h (suc i) b = all-at f l d (and-parts (f x) (all f l) h .1) i (le-of-suc-le-suc b)
+all-at f (x ∷ l) d h zero b = and-parts (f x) (every f l) h .0
+all-at f (x ∷ l) d h (suc i) b = all-at f l d (and-parts (f x) (every f l) h .1) i (le-of-suc-le-suc b)
 
 pub op-known : (x : Term) → known x ≡ true → isKnown (opOf (x .op)) ≡ true
-unfolding all isKnown
+unfolding every isKnown
 op-known x h = all-at isKnown ops Unknown refl (x .op) (let b : x .op ≤ 16 = leb-true (x .op) 16 h in omega arith)
 
 -- sorts

@@ -37,7 +37,8 @@ use Rattle.finish.specs.Plans.{lineOf, Plan, lastOf, taken, storeRead, p
 use Rattle.finish.specs.Groups.{variableGroup, storeGroup}
 use Rattle.finish.specs.Finished.{conditionNumber}
 use Rattle.finish.proofs.Layouts.{Has, has-left, has-right, Layout, true-at, false-at, group-has, last-at}
-use Rattle.finish.proofs.GroupValues.{Known, holds-bit, and-num, constant-num, strict-group, and-group, or-group, implies-group, absorbing-group, shift-group, choice-group, store-group}
+use Rattle.judge.proofs.Meaning.{holds-bit}
+use Rattle.finish.proofs.GroupValues.{Known, and-num, constant-num, strict-group, and-group, or-group, implies-group, absorbing-group, shift-group, choice-group, store-group}
 
 -- The value of a term depends on the terms below alone
 

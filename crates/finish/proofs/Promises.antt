@@ -42,7 +42,7 @@ use Rattle.finish.specs.declared.Finishing.the-variants.{Finished}
 use Rattle.finish.specs.Added.{andT}
 use Rattle.finish.specs.Plans.{next, plans}
 use Rattle.finish.specs.Finished.{conditionNumber, added, finished, extent, roomAfter}
-use Rattle.finish.specs.Laws.{FinishedAdmitted, KeepsValues, ConditionsAgree, SettingsAgree, SameAnswers, Faithful, Promise}
+use Rattle.finish.specs.Laws.{FinishedAdmitted, KeepsValues, ConditionsAgree, LastIsConjunction, SettingsAgree, SameAnswers, Faithful, Promise}
 use Rattle.finish.proofs.Layouts.{Layout, count-is, last-at, finished-layout}
 use Rattle.finish.proofs.GroupSizes.{added-few}
 use Rattle.finish.proofs.Settings.{check-same}
@@ -65,6 +65,12 @@ values-kept w I F k b = keeps-values w (finished w) I F (finished-layout w F) k 
 
 pub conditions-are : ConditionsAgree
 conditions-are w I F k b s = conditions-agree w (finished w) I F (finished-layout w F) (finished-admitted w F) k b s
+
+pub last-is-conjunction : LastIsConjunction
+last-is-conjunction w I F =
+    let l = finished-layout w F in
+    let e : pred (terms (finished w)) ≡ next w (plans w ownMarks (terms w)) = omega (arith, count-is w (finished w) l) in
+    ap (λ (k : ℕ). valueAt (finished w) I k .num) e ∙ last-agrees w (finished w) I F l (finished-admitted w F)
 
 pub settings-agree : SettingsAgree
 settings-agree w values cells F = check-same w (finished w) values cells F (finished-layout w F)
@@ -143,8 +149,7 @@ module _ (w : List ℕ) (F : WellFormed 512 w) where
           condition = number-read f I rest (conditionNumber w rule) (omega (arith, inside, below .1)) ∙ conditions-are w I F rule rule-in no-store ∙ ap bit (sym c);
           conjunction =
               number-read f I rest (pred (terms f)) inside
-              ∙ ap (λ (k : ℕ). valueAt f I k .num) last-is
-              ∙ last-agrees w f I F layout (finished-admitted w F)
+              ∙ last-is-conjunction w I F
               ∙ ap₂ (λ (a b : Bool). bit (a && b)) (sym r) (sym c);
         }
 

@@ -26,12 +26,15 @@ use Rattle.finish.specs.Writing.{conditionNumbers, Numbered, after}
 use Rattle.finish.proofs.GroupSizes.{plan-below, read-most}
 use Rattle.finish.proofs.Rooms.{laid-append}
 
--- conditions has the number of each term before this one
-pub number-is : (w conditions : List ℕ) → Numbered w conditions → (i : ℕ) → i < length conditions → getD conditions i 0 ≡ planAt w ownMarks i .condition
-number-is w conditions h i b =
+-- conditions has the numbers that the plans so far have
+pub recorded : (w conditions : List ℕ) → Numbered w conditions → (i : ℕ) → getD conditions i 0 ≡ planIn (plans w ownMarks (length conditions)) i .condition
+recorded w conditions h i =
     ap (λ (l : List ℕ). getD l i 0) (h .is)
     ∙ map-fold-in (λ ps k. planOf w ownMarks ps (termAt w k)) (λ x. x .condition) (taken 0) (length conditions) i
-    ∙ ap (λ (x : Plan). x .condition) (plan-below w ownMarks (length conditions) i b)
+
+-- that of each term before this one
+number-is : (w conditions : List ℕ) → Numbered w conditions → (i : ℕ) → i < length conditions → getD conditions i 0 ≡ planAt w ownMarks i .condition
+number-is w conditions h i b = recorded w conditions h i ∙ ap (λ (x : Plan). x .condition) (plan-below w ownMarks (length conditions) i b)
 
 -- any other term's read is and(C(v), C(j))
 module _ (marked : Term → Bool) (yes no : ℕ) (plan : ℕ → Plan) (b : ℕ) (t : Term) (s j cj : ℕ) where

@@ -16,7 +16,6 @@ use Rattle.table.specs.Terms.{terms, termAt}
 use Rattle.table.specs.Ranks.{rankOf, fieldsOf}
 use Rattle.table.specs.Faults.{placedAs}
 use Rattle.table.specs.WellFormed.{WellFormed}
-use Rattle.table.proofs.FoldLaws.{map-fold-in}
 use Rattle.table.proofs.SoundTerms.{n-most-at}
 use Rattle.evaluate.proofs.Operands.{two-placed}
 use Rattle.judge.specs.Conditions.{ownMarks}
@@ -24,10 +23,11 @@ use Rattle.finish.specs.declared.groups.Written.{Written}
 use Rattle.finish.specs.declared.lines.Line.{Line}
 use Rattle.finish.specs.declared.lines.Line.the-variants.{Literal, Input, Unary, Strict, Conjunction, Disjunction, Implication, Zero, Ones, Shift, Choice, Read, Write}
 use Rattle.finish.specs.Added.{laid, laidFrom}
-use Rattle.finish.specs.Plans.{Plan, lineOf, lastOf, taken, planBy, planIn, planOf, next, plans, planAt}
+use Rattle.finish.specs.Plans.{Plan, lineOf, lastOf, planBy, planIn, next, plans, planAt}
 use Rattle.finish.specs.Writing.{Numbered, after, written}
 use Rattle.finish.proofs.GroupSizes.{plan-below}
 use Rattle.finish.proofs.Layouts.{next-more}
+use Rattle.finish.proofs.ReadGroups.{recorded}
 
 isRead : Line → Bool
 isRead Literal = false
@@ -75,10 +75,7 @@ module _ (w conditions : List ℕ) (f : WellFormed 512 w) (h : Numbered w condit
 
   -- the number that conditions has of an operand
   pub number-in : (k : ℕ) → getD conditions k 0 ≡ before k .condition
-  number-in k =
-      ap (λ (l : List ℕ). getD l k 0) (h .is)
-      ∙ map-fold-in (λ ps n. planOf w ownMarks ps (termAt w n)) (λ y. y .condition) (taken 0) (length conditions) k
-      ∙ ap (λ (n : ℕ). planIn (plans w ownMarks n) k .condition) (sym all)
+  number-in k = recorded w conditions h k ∙ ap (λ (n : ℕ). planIn (plans w ownMarks n) k .condition) (sym all)
 
   plan-is : (l : Line) → line ≡ l → planned l ≡ planAt w ownMarks i
   plan-is l e =

@@ -6,7 +6,7 @@ use mathlib.Core.List.{List, [], _∷_}
 use Prim.Native.Nat.{ℕ, pred}
 use lib.Dec.{eqb}
 use lib.ListN.{getD}
-use Rattle.table.specs.Bench.{term, ruleG, ruleH}
+use Rattle.table.specs.Bench.{term, ruleG, ruleH, every}
 use Rattle.table.specs.Folds.{fold}
 use Rattle.table.specs.Terms.{terms, wordAt}
 use Rattle.table.specs.Faults.{typed, anyBelow, clash, chain, faultIf, fault}
@@ -35,11 +35,6 @@ right x =
     && eqb (extent (x .table) .condition) (x .condition)
     && ends x 0 && ends x 1 && ends x 2 && ends x 3 && ends x 4 && ends x 5
 
--- every row is right
-pub all : List Row → Bool
-all [] = true
-all (x ∷ xs) = right x && all xs
-
 -- "and" of an unmarked and a marked Boolean (slots 0, 1), which the rule leaves aside: not of the unmarked one
 abbrev pub unmarkedRule : List ℕ
 unmarkedRule = term 1 0 0 0 0 0 (term 1 0 0 1 1 0 (term 3 0 0 0 1 0 (term 2 0 0 0 0 0 [])))
@@ -53,8 +48,8 @@ rows =
     ∷ []
 
 -- by computation
-pub examples : all rows ≡ true
-unfolding all rows right admissionWithin scan fault faultIf typed anyBelow clash chain fold finished flat planBy groups
+pub examples : every right rows ≡ true
+unfolding every rows right admissionWithin scan fault faultIf typed anyBelow clash chain fold finished flat planBy groups
 examples = refl
 
 -- Rule G: T is 7 and F is 8; the product's group is 9 to 16, the sum's 17, the comparison's 18

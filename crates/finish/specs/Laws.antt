@@ -1,7 +1,7 @@
 -- What is proved of finished tables, as named statements. The proofs are in proofs/.
 -- Assumes nothing.
 use mathlib.Core.Path.{_≡_}
-use mathlib.Core.Bool.{Bool, true, false}
+use mathlib.Core.Bool.{Bool, true, false, _&&_}
 use mathlib.Core.List.{List}
 use Prim.Native.Nat.{ℕ, pred, _+_, _*_, _≤_, _<_}
 use lib.ListN.{length, getD, take}
@@ -21,11 +21,11 @@ use Rattle.evaluate.specs.Evaluation as evaluating
 use Rattle.judge.specs.declared.Verdict.{Verdict}
 use Rattle.judge.specs.declared.Judgement.the-variants.{Judged}
 use Rattle.judge.specs.Conditions.{ownMarks, conditionAt}
-use Rattle.judge.specs.Judgement.{judgement, passes}
+use Rattle.judge.specs.Judgement.{ruleIn, ruleCondition, judgement, passes}
 use Rattle.finish.specs.declared.Extent.{Extent}
 use Rattle.finish.specs.declared.Finishing.{Finishing}
 use Rattle.finish.specs.declared.Finishing.the-variants.{Finished, NotFinished}
-use Rattle.finish.specs.Finished.{conditionNumber, added, finished, finishing}
+use Rattle.finish.specs.Finished.{conditionNumber, added, finished, extent}
 
 -- With S the table's steps, at most 3 + 8 times n + 9 times S terms are added, and never over 3 + 145 times n.
 pub record Few (w : List ℕ) (count : ℕ) : Type 0 where
@@ -40,7 +40,7 @@ abbrev pub FinishedAdmitted : Type 0
 FinishedAdmitted = (w : List ℕ) → WellFormed 512 w → WellFormed 80000 (finished w)
 
 -- In every interpretation: the terms of the table keep their values; of every term that has a condition, the value at the
--- condition's number is the condition; the last value is the conjunction of rule and condition.
+-- condition's number is the condition; the last value is the conjunction of rule and C(rule).
 abbrev pub KeepsValues : Type 0
 KeepsValues = (w : List ℕ) (I : Interpretation) → WellFormed 512 w → (k : ℕ) → k < terms w → valueAt (finished w) I k ≡ valueAt w I k
 
@@ -48,6 +48,10 @@ abbrev pub ConditionsAgree : Type 0
 ConditionsAgree =
     (w : List ℕ) (I : Interpretation) → WellFormed 512 w → (k : ℕ) → k < terms w → storing (termAt w k) ≡ false
     → valueAt (finished w) I (conditionNumber w k) .num ≡ bit (conditionAt w ownMarks I k .free)
+
+abbrev pub LastIsConjunction : Type 0
+LastIsConjunction =
+    (w : List ℕ) (I : Interpretation) → WellFormed 512 w → valueAt (finished w) I (extent w .last) .num ≡ bit (ruleIn w I && ruleCondition w I)
 
 -- A setting is refused for the finished table as it is for the table, by number and place.
 abbrev pub SettingsAgree : Type 0
@@ -69,7 +73,7 @@ pub record Faithful (w f : List ℕ) (e : Extent) : Type 0 where
   -- none but the refusals of the setting, 22 and 23
   pub evaluated : (values cells : List ℕ) (allowance room : ℕ)
       → evaluating.evaluation f values cells allowance room ≡ evaluating.andThen (check w values cells) (evaluating.afford f 1 allowance room)
-  pub agrees : (values cells : List ℕ) (allowance length-of-room : ℕ) (v : Verdict) → judgement w values cells allowance length-of-room ≡ Judged v
+  pub agrees : (values cells : List ℕ) (allowance room : ℕ) (v : Verdict) → judgement w values cells allowance room ≡ Judged v
       → (allowance′ : ℕ) (work : List ℕ) (s : Spent) → evaluating.evaluation f values cells allowance′ (length work) ≡ Evaluated s
       → SameAnswers w e v (evaluating.roomAfter (Evaluated s) f values cells work)
 

@@ -4,19 +4,19 @@ ghost use Rattle.ops.specs.Numbers.{opOf};
 ghost use Rattle.finish.specs.Plans.{lineOf};
 
 pub enum Line {
-    Literal,
-    Input,
-    Unary,
-    Strict,
-    Conjunction,
-    Disjunction,
-    Implication,
-    Zero,
-    Ones,
+    Literal, // constant
+    Input, // variable
+    Unary, // not, vector not
+    Strict, // equal, sum, less
+    Conjunction, // and
+    Disjunction, // or
+    Implication, // implies
+    Zero, // vector and, product: settled by 0
+    Ones, // vector or: settled by 2^n - 1
     Shift,
     Choice,
     Read,
-    Write,
+    Write, // store
 }
 
 // The operators' lines, in the order of their numbers.

@@ -36,7 +36,7 @@ use Rattle.judge.specs.Readings.{truthIn, overlaid, readingAt, settledBy
 use Rattle.judge.proofs.Alike.{condition-below}
 use Rattle.judge.proofs.Chains.{reading-end, reading-store}
 
-holds-bit : (b : Bool) → holds (bit b) ≡ b
+pub holds-bit : (b : Bool) → holds (bit b) ≡ b
 holds-bit true = refl
 holds-bit false = refl
 

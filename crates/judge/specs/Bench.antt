@@ -7,7 +7,7 @@ use Prim.Native.Nat.{ℕ}
 use lib.Dec.{eqb}
 use Rattle.ops.specs.Meaning.{apply}
 use Rattle.ops.specs.Condition.{settles}
-use Rattle.table.specs.Bench.{term, ruleG, ruleH}
+use Rattle.table.specs.Bench.{term, ruleG, ruleH, every}
 use Rattle.table.specs.Folds.{fold}
 use Rattle.table.specs.Terms.{terms}
 use Rattle.table.specs.Faults.{typed, anyBelow, clash, chain, faultIf, fault}
@@ -36,11 +36,6 @@ right x =
     && eqb (valueAt (x .table) (interpret (x .values) (look (x .cells))) (x .at) .num) (x .value)
     && Bool·beq (conditionAt (x .table) ownMarks (interpret (x .values) (look (x .cells))) (x .at) .free) (x .condition)
     && eqb (steps (x .table) (terms (x .table))) (x .spent)
-
--- every row is right
-pub all : List Row → Bool
-all [] = true
-all (x ∷ xs) = right x && all xs
 
 -- two constants, an operator on them, and whether that is the third constant: all of width 8
 abbrev ofConstants : ℕ → ℕ → ℕ → ℕ → List ℕ
@@ -106,6 +101,6 @@ rows =
     ∷ []
 
 -- by computation
-pub examples : all rows ≡ true
-unfolding all rows right admissionWithin scan fault faultIf typed anyBelow clash chain steps fold valueBy conditionBy apply settles lookFrom
+pub examples : every right rows ≡ true
+unfolding every rows right admissionWithin scan fault faultIf typed anyBelow clash chain steps fold valueBy conditionBy apply settles lookFrom
 examples = refl

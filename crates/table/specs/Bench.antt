@@ -1,5 +1,6 @@
--- Paper 01's rules G and H ("Bench examples").
+-- Paper 01's rules G and H ("Bench examples"); and what it is that every row of a list is right.
 -- Assumes nothing.
+use mathlib.Core.Bool.{Bool, true, _&&_}
 use mathlib.Core.List.{List, [], _∷_}
 use Prim.Native.Nat.{ℕ}
 
@@ -28,3 +29,8 @@ ruleH =
     (term 16 8 8 0 1 3
     (term 15 0 8 4 2 0
     (term 6 0 0 5 3 0 []))))))
+
+-- every element of a list passes a test
+unfoldable pub every : {A : Type 0} → (A → Bool) → List A → Bool
+every test [] = true
+every test (x ∷ xs) = test x && every test xs

@@ -1,0 +1,50 @@
+// The C interface for Rust, to be included in a module. hiranthok.h says what each function does, and what it asks of its pointers.
+
+/// The signature of evaluate and of judge: table, values, cells and work each as a pointer and a length, the allowance before work.
+pub type InSetting = unsafe extern "C" fn(
+    *const u32,
+    usize,
+    *const u32,
+    usize,
+    *const u32,
+    usize,
+    u64,
+    *mut u32,
+    usize,
+    *mut [u64; 4],
+) -> u32;
+
+unsafe extern "C" {
+    pub fn hiranthok_admit(table: *const u32, table_len: usize, answer: *mut [u64; 4]) -> u32;
+    pub fn hiranthok_finish(
+        table: *const u32,
+        table_len: usize,
+        room: *mut u32,
+        room_len: usize,
+        answer: *mut [u64; 4],
+    ) -> u32;
+    pub fn hiranthok_evaluate(
+        table: *const u32,
+        table_len: usize,
+        values: *const u32,
+        values_len: usize,
+        cells: *const u32,
+        cells_len: usize,
+        allowance: u64,
+        work: *mut u32,
+        work_len: usize,
+        answer: *mut [u64; 4],
+    ) -> u32;
+    pub fn hiranthok_judge(
+        table: *const u32,
+        table_len: usize,
+        values: *const u32,
+        values_len: usize,
+        cells: *const u32,
+        cells_len: usize,
+        allowance: u64,
+        work: *mut u32,
+        work_len: usize,
+        answer: *mut [u64; 4],
+    ) -> u32;
+}

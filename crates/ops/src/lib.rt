@@ -29,35 +29,29 @@ pub enum Op {
     Unknown,
 }
 
-// The operators in the order of their numbers.
-const OPS: [Op; 17] = [
-    Op::Constant,
-    Op::Variable,
-    Op::Not,
-    Op::And,
-    Op::Or,
-    Op::Implies,
-    Op::Equal,
-    Op::Ite,
-    Op::BvNot,
-    Op::BvAnd,
-    Op::BvOr,
-    Op::BvAdd,
-    Op::BvMul,
-    Op::BvShl,
-    Op::BvUlt,
-    Op::Select,
-    Op::Store,
-];
-
 // The operator of an op number.
 pub fn op_of(number: u32) -> Op
     ensures { λ r. ⌜ r ≡ opOf number ⌝ }
 {
-    if number < 17 {
-        OPS[number as usize]
-    } else {
-        Op::Unknown
+    match number {
+        0 => Op::Constant,
+        1 => Op::Variable,
+        2 => Op::Not,
+        3 => Op::And,
+        4 => Op::Or,
+        5 => Op::Implies,
+        6 => Op::Equal,
+        7 => Op::Ite,
+        8 => Op::BvNot,
+        9 => Op::BvAnd,
+        10 => Op::BvOr,
+        11 => Op::BvAdd,
+        12 => Op::BvMul,
+        13 => Op::BvShl,
+        14 => Op::BvUlt,
+        15 => Op::Select,
+        16 => Op::Store,
+        _ => Op::Unknown,
     }
 }
 

@@ -12,7 +12,7 @@ use Rattle.table.specs.Terms.{terms}
 use Rattle.table.specs.Admission.{admissionWithin}
 use Rattle.setting.specs.Cells.{look}
 use Rattle.setting.specs.Check.{check}
-use Rattle.setting.specs.Interpretation.{interpret}
+use Rattle.setting.specs.Interpretation.{Interpretation, interpret}
 use Rattle.evaluate.specs.declared.Spent.{Spent}
 use Rattle.evaluate.specs.declared.Evaluation.{Evaluation}
 use Rattle.evaluate.specs.declared.Evaluation.the-variants.{Evaluated, NotEvaluated}
@@ -45,15 +45,21 @@ afford w each allowance room =
     (cond (ltb allowance spent) (notEvaluated 23 spent)
     (Evaluated (record { steps = spent; left = allowance - spent })))
 
--- 1 to 10, by a limit on the terms; then 11 to 15; then 22 and 23
+-- 1 to 10, by a limit on the terms; then what the check of the setting says, 11 to 15; then 22 and 23
+abbrev pub readyBy : ℕ → List ℕ → Admission → ℕ → ℕ → ℕ → Evaluation
+readyBy limit w checked each allowance room = andThen (admissionWithin limit w) (andThen checked (afford w each allowance room))
+
 abbrev pub ready : ℕ → List ℕ → List ℕ → List ℕ → ℕ → ℕ → ℕ → Evaluation
-ready limit w values cells each allowance room = andThen (admissionWithin limit w) (andThen (check w values cells) (afford w each allowance room))
+ready limit w values cells each allowance room = readyBy limit w (check w values cells) each allowance room
 
 -- evaluating: at most 80,000 terms, one number a term
 abbrev pub evaluation : List ℕ → List ℕ → List ℕ → ℕ → ℕ → Evaluation
 evaluation w values cells allowance room = ready 80000 w values cells 1 allowance room
 
--- the room: its front holds the terms' values, its rest is untouched; a refusal leaves it as it was
+-- the room: its front holds the terms' values in the setting's interpretation, its rest is untouched; a refusal leaves it as it was
+abbrev pub roomIn : Evaluation → List ℕ → Interpretation → List ℕ → List ℕ
+roomIn (Evaluated s) w I room = numbers w I (terms w) ++ drop (terms w) room
+roomIn (NotEvaluated r) w I room = room
+
 abbrev pub roomAfter : Evaluation → List ℕ → List ℕ → List ℕ → List ℕ → List ℕ
-roomAfter (Evaluated s) w values cells room = numbers w (interpret values (look cells)) (terms w) ++ drop (terms w) room
-roomAfter (NotEvaluated r) w values cells room = room
+roomAfter e w values cells room = roomIn e w (interpret values (look cells)) room

@@ -40,8 +40,10 @@ judgement w values cells allowance room = verdict (ready 512 w values cells 2 al
 abbrev pub passes : Verdict → Bool
 passes v = v .rule && v .condition
 
--- the room: the n values, then the n truths, its rest untouched; a refusal leaves it as it was
+-- the room: the n values, then the n truths, in the setting's interpretation, its rest untouched; a refusal leaves it as it was
+abbrev pub roomIn : Judgement → List ℕ → Interpretation → List ℕ → List ℕ
+roomIn (Judged v) w I room = numbers w I (terms w) ++ truths w ownMarks I (terms w) ++ drop (terms w * 2) room
+roomIn (NotJudged r) w I room = room
+
 abbrev pub roomAfter : Judgement → List ℕ → List ℕ → List ℕ → List ℕ → List ℕ
-roomAfter (Judged v) w values cells room =
-    numbers w (interpret values (look cells)) (terms w) ++ truths w ownMarks (interpret values (look cells)) (terms w) ++ drop (terms w * 2) room
-roomAfter (NotJudged r) w values cells room = room
+roomAfter j w values cells room = roomIn j w (interpret values (look cells)) room

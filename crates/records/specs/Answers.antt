@@ -1,0 +1,40 @@
+-- What the record entrance answers, and what it leaves in the work room: the flat entrance's definitions, with the records' check and
+-- the records' interpretation. 11 cannot occur here.
+-- Assumes nothing.
+use mathlib.Core.List.{List}
+use Prim.Native.Nat.{ℕ}
+use lib.ListN.{length}
+use Rattle.table.specs.declared.Admission.{Admission}
+use Rattle.setting.specs.declared.cells.Cell.{Cell}
+use Rattle.setting.specs.Check.{checkCells}
+use Rattle.setting.specs.Interpretation.{Interpretation, interpret}
+use Rattle.evaluate.specs.declared.Evaluation.{Evaluation}
+use Rattle.evaluate.specs.Evaluation as evaluates
+use Rattle.judge.specs.declared.Judgement.{Judgement}
+use Rattle.judge.specs.Judgement as judges
+use Rattle.records.specs.Rows.{recordAt, look}
+
+-- by ascending variable term 12 and 13, then by ascending cell 14 and 15
+abbrev pub check : List ℕ → List ℕ → List Cell → Admission
+check w values cells = checkCells w values (recordAt cells) (length cells)
+
+-- what the setting says of each input
+abbrev pub inRecords : List ℕ → List Cell → Interpretation
+inRecords values cells = interpret values (look cells)
+
+abbrev pub ready : ℕ → List ℕ → List ℕ → List Cell → ℕ → ℕ → ℕ → Evaluation
+ready limit w values cells each allowance room = evaluates.readyBy limit w (check w values cells) each allowance room
+
+-- evaluating, and its room
+abbrev pub evaluation : List ℕ → List ℕ → List Cell → ℕ → ℕ → Evaluation
+evaluation w values cells allowance room = ready 80000 w values cells 1 allowance room
+
+abbrev pub evaluated : Evaluation → List ℕ → List ℕ → List Cell → List ℕ → List ℕ
+evaluated e w values cells room = evaluates.roomIn e w (inRecords values cells) room
+
+-- judging, and its room
+abbrev pub judgement : List ℕ → List ℕ → List Cell → ℕ → ℕ → Judgement
+judgement w values cells allowance room = judges.verdict (ready 512 w values cells 2 allowance room) w (inRecords values cells)
+
+abbrev pub judged : Judgement → List ℕ → List ℕ → List Cell → List ℕ → List ℕ
+judged j w values cells room = judges.roomIn j w (inRecords values cells) room

@@ -1,0 +1,45 @@
+-- Demand 3 through the record entrance: that of the cells laid flat.
+-- Assumes nothing.
+use mathlib.Core.Path.{sym, subst, _∙_}
+use mathlib.Core.List.{List}
+use Prim.Native.Nat.{ℕ}
+use Prim.{tt}
+use Rattle.setting.specs.declared.cells.Cell.{Cell}
+use Rattle.setting.specs.Interpretation.{Interpretation, interpret, AgreeUnmarked}
+use Rattle.setting.specs.Cells as flat
+use Rattle.judge.specs.declared.Judgement.{Judgement}
+use Rattle.judge.specs.declared.Judgement.the-variants.{Judged, NotJudged}
+use Rattle.judge.specs.Conditions.{ownMarks}
+use Rattle.judge.specs.Judgement as judges
+use Rattle.judge.specs.Demand3 as demands
+use Rattle.judge.proofs.Promises.{demand3}
+use Rattle.records.specs.Rows.{laid}
+use Rattle.records.specs.Answers.{inRecords}
+use Rattle.records.specs.Laws.{Promise, RecordDemand3}
+use Rattle.records.proofs.Laid.{laid-interpret, equal-judgement}
+
+module _ (w values : List ℕ) (cells : List Cell) where
+  -- the records' interpretation, on either side of an agreement, is that of the cells laid flat
+  from-laid : (I : Interpretation) → AgreeUnmarked w ownMarks (inRecords values cells) I → AgreeUnmarked w ownMarks (interpret values (flat.look (laid cells))) I
+  from-laid I = subst (λ J. AgreeUnmarked w ownMarks J I) (sym (laid-interpret cells values))
+
+  to-laid : (I : Interpretation) → AgreeUnmarked w ownMarks I (inRecords values cells) → AgreeUnmarked w ownMarks I (interpret values (flat.look (laid cells)))
+  to-laid I = subst (AgreeUnmarked w ownMarks I) (sym (laid-interpret cells values))
+
+module _ (w values : List ℕ) (cells : List Cell) where
+  of-laid : (j : Judgement) → demands.Promise w values (laid cells) j → Promise w values cells j
+  of-laid (Judged v) p =
+      record {
+        same = λ values′ cells′ allowance′ room′ v′ e agree.
+            p .same values′ (laid cells′) allowance′ room′ v′ (sym (equal-judgement w values′ cells′ allowance′ room′) ∙ e)
+            (from-laid w values cells (interpret values′ (flat.look (laid cells′))) (to-laid w values′ cells′ (inRecords values cells) agree));
+        across = λ values′ cells′ allowance′ room′ v′ e agree.
+            p .same values′ cells′ allowance′ room′ v′ e (from-laid w values cells (interpret values′ (flat.look cells′)) agree);
+        sure = λ h I fit agree. p .sure h I fit (from-laid w values cells I agree);
+      }
+  of-laid (NotJudged r) p = tt
+
+pub record-demand3 : RecordDemand3
+record-demand3 w values cells allowance room =
+    subst (Promise w values cells) (sym (equal-judgement w values cells allowance room))
+    (of-laid w values cells (judges.judgement w values (laid cells) allowance room) (demand3 w values (laid cells) allowance room))

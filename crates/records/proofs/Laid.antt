@@ -1,0 +1,73 @@
+-- Both entrances give equal answers and leave equal rooms: a row of records is the cells laid flat.
+-- Assumes nothing.
+use mathlib.Core.Path.{_≡_, refl, sym, ap, ap₂}
+use mathlib.Core.List.{List, [], _∷_}
+use Prim.Native.Nat.{ℕ, zero, suc, _+_, _*_, _%_}
+use native.Mathlib.Omega.{arith}
+use lib.ListN.{length}
+use Rattle.setting.specs.declared.cells.Cell.{Cell}
+use Rattle.setting.specs.Cells as flat
+use Rattle.setting.specs.Check as checks
+use Rattle.setting.specs.Interpretation.{interpret}
+use Rattle.evaluate.specs.Evaluation as evaluates
+use Rattle.judge.specs.Judgement as judges
+use Rattle.records.specs.Rows.{recordAt, look, laid}
+use Rattle.records.specs.Answers.{check, inRecords, evaluation, judgement}
+use Rattle.records.specs.Laws.{EqualAnswers}
+
+-- Of the cells laid flat: three numbers a cell
+laid-length : (cells : List Cell) → length (laid cells) ≡ length cells * 3
+unfolding laid
+laid-length [] = refl
+laid-length (c ∷ cells) = let e : length (laid cells) ≡ length cells * 3 = laid-length cells in omega arith
+
+-- cell k is that of the records, past the end too
+laid-cell : (cells : List Cell) (k : ℕ) → flat.cellAt (laid cells) k ≡ recordAt cells k
+unfolding laid
+laid-cell [] k = refl
+laid-cell (c ∷ cells) zero = refl
+laid-cell (c ∷ cells) (suc k) =
+    let slot : suc k * 3 ≡ suc (suc (suc (k * 3))) = omega arith in
+    let index : suc k * 3 + 1 ≡ suc (suc (suc (k * 3 + 1))) = omega arith in
+    let value : suc k * 3 + 2 ≡ suc (suc (suc (k * 3 + 2))) = omega arith in
+    rw (value, index, slot) (laid-cell cells k)
+
+module _ (cells : List Cell) where
+  laid-count : flat.cellCount (laid cells) ≡ length cells
+  laid-count = let e : length (laid cells) ≡ length cells * 3 = laid-length cells in omega arith
+
+  laid-cells : flat.cellAt (laid cells) ≡ recordAt cells
+  laid-cells = λ i k. laid-cell cells k i
+
+  laid-whole : length (laid cells) % 3 ≡ 0
+  laid-whole = let e : length (laid cells) ≡ length cells * 3 = laid-length cells in omega arith
+
+  pub laid-look : flat.look (laid cells) ≡ look cells
+  laid-look = λ i. flat.lookFrom (laid-cells i) (laid-count i) 0
+
+  pub laid-interpret : (values : List ℕ) → interpret values (flat.look (laid cells)) ≡ inRecords values cells
+  laid-interpret values = ap (interpret values) laid-look
+
+  pub laid-check : (w values : List ℕ) → checks.check w values (laid cells) ≡ check w values cells
+  unfolding checks.check
+  laid-check w values = rw laid-whole (λ i. checks.checkCells w values (laid-cells i) (laid-count i))
+
+module _ (w values : List ℕ) (cells : List Cell) (allowance : ℕ) where
+  pub equal-evaluation : (room : ℕ) → evaluation w values cells allowance room ≡ evaluates.evaluation w values (laid cells) allowance room
+  equal-evaluation room = ap (λ c. evaluates.readyBy 80000 w c 1 allowance room) (sym (laid-check cells w values))
+
+  pub equal-judgement : (room : ℕ) → judgement w values cells allowance room ≡ judges.judgement w values (laid cells) allowance room
+  equal-judgement room =
+      ap₂ (λ c I. judges.verdict (evaluates.readyBy 512 w c 2 allowance room) w I) (sym (laid-check cells w values)) (sym (laid-interpret cells values))
+
+pub equal-answers : EqualAnswers
+equal-answers w values cells allowance room =
+    let answer = equal-evaluation w values cells allowance (length room) in
+    let verdict = equal-judgement w values cells allowance (length room) in
+    let setting = sym (laid-interpret cells values) in
+    record {
+      answer = answer;
+      answer-room = λ i. evaluates.roomIn (answer i) w (setting i) room;
+      verdict = verdict;
+      verdict-room = λ i. judges.roomIn (verdict i) w (setting i) room;
+    }

@@ -5,6 +5,7 @@ pub mod Answers
 pub mod Operands
 pub mod Meaning
 pub mod Fronts
+pub mod Onward
 pub mod Runs
 pub mod Fills
 pub mod Fitting

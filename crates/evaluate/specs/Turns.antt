@@ -1,15 +1,15 @@
--- A turn of evaluating: which cell a term asks for, and its number from the answer.
+-- A turn of evaluating: which cell a term asks for, its number from the answer, and how the run goes on to the next read.
 -- Assumes nothing.
 use mathlib.Core.Bool.{Bool, true, false, cond}
 use mathlib.Core.List.{List}
-use Prim.Native.Nat.{ℕ}
+use Prim.Native.Nat.{ℕ, zero, suc, _-_}
 use lib.Dec.{ltb}
-use lib.ListN.{getD}
+use lib.ListN.{getD, take, set}
 use Rattle.ops.specs.Numbers.{opOf}
 use Rattle.ops.specs.Meaning.{apply}
 use Rattle.table.specs.declared.words.Term.{Term}
 use Rattle.table.specs.Terms.{termAt, sortAt, scalar}
-use Rattle.table.specs.Faults.{variable, constant, reading}
+use Rattle.table.specs.Faults.{variable, constant, reading, firstFrom}
 use Rattle.evaluate.specs.declared.turns.Turn.{Turn}
 use Rattle.evaluate.specs.Reads.{readAt, bottomAt}
 
@@ -41,3 +41,26 @@ numberOf w values front x answer =
     (cond (constant x) (x .p)
     (cond (variable x) (variableNumber values x)
     (operatedNumber w front x)))
+
+-- Only a read asks for a cell: over other terms a run goes on.
+
+-- the room after the terms from at on, through at most left of them, up to one where it stops; write is what a term does to the room
+unfoldable pub onFrom : (ℕ → Bool) → (List ℕ → ℕ → List ℕ) → ℕ → List ℕ → ℕ → List ℕ
+onFrom stops write zero room at = room
+onFrom stops write (suc left) room at =
+    let rest = onFrom stops write left (write room at) (suc at) in
+    cond (stops at) room rest
+
+-- up to the next read, of a table of so many terms: which term that is, and the room
+abbrev pub readingAt : List ℕ → ℕ → Bool
+readingAt w k = reading (termAt w k)
+
+abbrev pub nextRead : List ℕ → ℕ → ℕ → ℕ
+nextRead w terms at = firstFrom (readingAt w) (terms - at) at
+
+abbrev pub onward : List ℕ → (List ℕ → ℕ → List ℕ) → ℕ → List ℕ → ℕ → List ℕ
+onward w write terms room at = onFrom (readingAt w) write (terms - at) room at
+
+-- term at writes its number: from the answer, which only a read asks for
+abbrev pub numbered : List ℕ → List ℕ → ℕ → List ℕ → ℕ → List ℕ
+numbered w values answer room at = set room at (numberOf w values (take at room) (termAt w at) answer)

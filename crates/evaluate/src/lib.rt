@@ -2,7 +2,7 @@
 mod reads; // a read along its chain
 mod room; // filling the work room
 mod spend; // steps, the room's length and the allowance
-mod turns; // one term: which cell it asks for, and its value
+mod turns; // the terms: which cell one asks for, and its value
 
 pub use reads::bottom;
 pub use spend::afford;
@@ -10,6 +10,7 @@ use table::Admission;
 use table::Refusal;
 pub use turns::Turn;
 pub use turns::number;
+pub use turns::on;
 pub use turns::step;
 pub use turns::turn_at;
 ghost use mathlib.Core.Path.{_≡_};

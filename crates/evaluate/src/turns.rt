@@ -1,10 +1,9 @@
 // One term of a run: which cell it asks for, and its value from the answer.
 ghost use mathlib.Core.Path.{_≡_};
 ghost use Prim.Native.Nat.{_+_, _≤_, _<_};
-ghost use lib.ListN.{length, take, set};
-ghost use Rattle.table.specs.Terms.{terms, termAt};
+ghost use lib.ListN.{length, take};
 ghost use Rattle.table.specs.WellFormed.{WellFormed};
-ghost use Rattle.evaluate.specs.Turns.{turnOf, variableNumber, operatedNumber, numberOf};
+ghost use Rattle.evaluate.specs.Turns.{turnOf, variableNumber, operatedNumber, numberOf, nextRead, onward, numbered};
 use crate::reads::bottom;
 use crate::reads::read;
 use setting::number_at;
@@ -96,7 +95,36 @@ pub fn number(table: &[u32], values: &[u32], front: &[u32], x: Term, answer: u32
     operated_number(table, front, x)
 }
 
-// Writes the value of a turn's term, and goes on to the next.
+// Writes the values of the terms from at on, up to the next read, and answers what that asks.
+pub fn on(
+    table: &[u32],
+    values: &[u32],
+    count: usize,
+    terms: u32,
+    work: &mut [u32],
+    at: u32,
+) -> Turn
+    requires { ⌜ WellFormed 80000 (now table) ⌝ }
+    requires { ⌜ (at ≤ terms) × (terms ≤ length (now work)) ⌝ }
+    ensures { λ r. ⌜ r ≡ turnOf (now (table .entry)) (now (values .entry)) count terms (take (nextRead (now (table .entry)) terms at) (now (work .exit))) (nextRead (now (table .entry)) terms at) ⌝ }
+    ensures { λ r. ⌜ now (work .exit) ≡ onward (now (table .entry)) (numbered (now (table .entry)) (now (values .entry)) 0) terms (now (work .entry)) at ⌝ }
+{
+    let mut i = at;
+    while i < terms {
+        let x = table::term_at(table, i);
+        if table::reading(x) {
+            break;
+        }
+        let k = i as usize;
+        let value = number(table, values, &work[..k], x, 0);
+        work[k] = value;
+        i += 1;
+    }
+    let end = i as usize;
+    turn_at(table, values, count, terms, &work[..end], i)
+}
+
+// Writes the value of a turn's read, and goes on.
 pub fn step(
     table: &[u32],
     values: &[u32],
@@ -108,13 +136,12 @@ pub fn step(
 ) -> Turn
     requires { ⌜ WellFormed 80000 (now table) ⌝ }
     requires { ⌜ (turn .at < terms) × (terms ≤ length (now work)) ⌝ }
-    ensures { λ r. ⌜ r ≡ turnOf (now (table .entry)) (now (values .entry)) count terms (take (turn .at + 1) (now (work .exit))) (turn .at + 1) ⌝ }
-    ensures { λ r. ⌜ now (work .exit) ≡ set (now (work .entry)) (turn .at) (numberOf (now (table .entry)) (now (values .entry)) (take (turn .at) (now (work .entry))) (termAt (now (table .entry)) (turn .at)) answer) ⌝ }
+    ensures { λ r. ⌜ r ≡ turnOf (now (table .entry)) (now (values .entry)) count terms (take (nextRead (now (table .entry)) terms (turn .at + 1)) (now (work .exit))) (nextRead (now (table .entry)) terms (turn .at + 1)) ⌝ }
+    ensures { λ r. ⌜ now (work .exit) ≡ onward (now (table .entry)) (numbered (now (table .entry)) (now (values .entry)) 0) terms (numbered (now (table .entry)) (now (values .entry)) answer (now (work .entry)) (turn .at)) (turn .at + 1) ⌝ }
 {
     let i = turn.at;
     let at = i as usize;
     let value = number(table, values, &work[..at], table::term_at(table, i), answer);
     work[at] = value;
-    let next = at + 1;
-    turn_at(table, values, count, terms, &work[..next], i + 1)
+    on(table, values, count, terms, work, i + 1)
 }

@@ -60,13 +60,13 @@ module _ (f : ℕ → Bool) where
       rw e
 
   -- where it stands, what it passed and what it found
-  record From (left at r : ℕ) : Type 0 where
-    low : at ≤ r
-    high : r ≤ at + left
-    passed : (k : ℕ) → at ≤ k → k < r → f k ≡ false
-    hit : r < at + left → f r ≡ true
+  pub record From (left at r : ℕ) : Type 0 where
+    pub low : at ≤ r
+    pub high : r ≤ at + left
+    pub passed : (k : ℕ) → at ≤ k → k < r → f k ≡ false
+    pub hit : r < at + left → f r ≡ true
 
-  from : (left at : ℕ) → From left at (firstFrom f left at)
+  pub from : (left at : ℕ) → From left at (firstFrom f left at)
   unfolding firstFrom
   from zero at = record { low = omega arith; high = omega arith; passed = λ k a b. absurd (omega arith); hit = λ b. absurd (omega arith) }
   from (suc left) at = go (f at) refl (from left (suc at))

@@ -1,28 +1,34 @@
-use Rattle.evaluate.specs.Turns.{numberOf}
-use Rattle.table.specs.declared.words.Term.{Term}
-use lib.Seq.{length-take-le}
-use lib.ListN.{length-set, set, take}
-use native.Mathlib.Omega.{arith}
 use mathlib.Core.Path.{sym, ap, _∙_}
-use Prim.Native.Nat.{_+_, ℕ}
+use mathlib.Core.List.{List}
+use Prim.Native.Nat.{ℕ, _+_}
+use native.Mathlib.Omega.{arith}
+use lib.ListN.{length-set, set, take}
+use lib.Seq.{length-take-le}
 use borrow.Author.Needs.{needs}
+use Rattle.table.specs.declared.words.Term.{Term}
+use Rattle.evaluate.specs.Turns.{numberOf, onward, numbered}
 use Rattle.evaluate.proofs.turns.step.Statement.{statement}
 use Rattle.evaluate.proofs.turns.step.Tie as tie
 
 slice-aggregate-number : tie.Need-slice-aggregate-number
 slice-aggregate-number c = sym (length-take-le (c .before .before .before .before .args .turn .at) (c .before .before .before .before .args .work .now) (omega (arith, c .before .before .before .before .pre .1)))
 
-slice-reshare-prefix-turn-at : tie.Need-slice-reshare-prefix-turn-at
-slice-reshare-prefix-turn-at c = simp length-set (omega (arith, c .before .before .before .before .before .before .pre .1))
+on-requires : tie.Need-on-requires
+on-requires c κs =
+    let s = c .before .before .before .before .before .before .before in
+    (s .pre .0, (omega (arith, s .pre .1), simp length-set (s .pre .1 .1)))
 
-slice-aggregate-turn-at : tie.Need-slice-aggregate-turn-at
-slice-aggregate-turn-at c = sym (length-take-le (c .before .before .before .before .before .before .before .args .turn .at + 1) _ (simp length-set (omega (arith, c .before .before .before .before .before .before .before .pre .1))))
+same-length : tie.Need-same-length
+same-length c =
+    let a = c .before .before .before .before .before .before .before .before .before .before .args in
+    c .before .before .on .kept .1 .1 .1 .1 .0 ∙ length-set (a .work .now) (a .turn .at) (c .before .before .before .before .number .result)
 
 returns : tie.Need-returns
 returns c =
-    let a = c .before .before .before .before .before .before .before .before .args in (
-      c .turn-at .ensures,
-      ap (set (a .work .now) (a .turn .at)) (c .before .before .number .ensures ∙ ap (λ (x : Term). numberOf (a .table .now) (a .values .now) (take (a .turn .at) (a .work .now)) x (a .answer)) (c .before .before .before .term-at .ensures)),
+    let a = c .before .before .before .before .before .before .before .before .before .before .args in
+    let value = c .before .before .before .before .number .ensures ∙ ap (λ (x : Term). numberOf (a .table .now) (a .values .now) (take (a .turn .at) (a .work .now)) x (a .answer)) (c .before .before .before .before .before .term-at .ensures) in (
+      c .before .before .on .ensures .0,
+      c .before .before .on .ensures .1 ∙ ap (λ (v : ℕ). onward (a .table .now) (numbered (a .table .now) (a .values .now) 0) (a .terms) (set (a .work .now) (a .turn .at) v) (a .turn .at + 1)) value,
     )
 
 pub step-spec : {M : Type 1} → statement M
@@ -37,9 +43,6 @@ step-spec =
     (λ c. search needs)
     (λ c. search needs)
     (λ c. search needs)
-    slice-reshare-prefix-turn-at
-    slice-aggregate-turn-at
-    (λ c. search needs)
-    (λ c κs. search needs)
-    (λ c. search needs)
+    on-requires
+    same-length
     returns)

@@ -1,14 +1,16 @@
 -- The run of judging: the room holds the values and the truths so far.
 -- Assumes nothing.
 use mathlib.Core.Path.{_≡_, sym, ap, ap₂, _∙_}
-use mathlib.Core.Bool.{true}
+use mathlib.Core.Bool.{Bool, true, false}
 use mathlib.Core.List.{List, [], _∷_, _++_}
 use Prim.Native.Nat.{ℕ, _+_, _≤_, _<_}
 use native.Mathlib.Omega.{arith}
 use lib.ListN.{length, take, drop}
 use Rattle.ops.specs.Meaning.{bit}
+use Rattle.ops.proofs.Booleans.{never}
 use Rattle.table.specs.Folds.{fold}
 use Rattle.table.specs.Terms.{terms, termAt}
+use Rattle.table.specs.Faults.{reading}
 use Rattle.table.specs.WellFormed.{WellFormed}
 use Rattle.table.proofs.FoldLaws.{map-fold-more}
 use Rattle.setting.specs.declared.cells.Cell.{Cell}
@@ -16,65 +18,102 @@ use Rattle.setting.specs.Cells.{lookFrom}
 use Rattle.setting.specs.Interpretation.{Interpretation}
 use Rattle.evaluate.specs.declared.turns.Turn.{Turn}
 use Rattle.evaluate.specs.Values.{valueIn, values, valueAt, numbers}
-use Rattle.evaluate.specs.Turns.{turnOf}
+use Rattle.evaluate.specs.Turns.{turnOf, readingAt, nextRead, onward}
 use Rattle.evaluate.proofs.Folds.{length-numbers, numbers-more}
-use Rattle.evaluate.proofs.Runs.{inCells, Running, begun, at-is, inside, answer-is, more}
+use Rattle.evaluate.proofs.Meaning.{asked}
+use Rattle.evaluate.proofs.Onward.{Arrived, arrived}
+use Rattle.evaluate.proofs.Runs.{inCells, Running, Turning, turning, at-is, inside, answer-is}
 use Rattle.judge.specs.declared.reads.Reading.{Reading}
 use Rattle.judge.specs.Conditions.{plain, conditionIn, conditionOf, conditions, conditionAt, truths, ownMarks}
-use Rattle.judge.specs.Readings.{readingOf, readingHere, written}
+use Rattle.judge.specs.Readings.{readingOf, written, noted}
 use Rattle.judge.proofs.Meaning.{length-truths, reading-is}
 use Rattle.judge.proofs.Rooms.{laid, laid-length, laid-front, laid-truths, laid-more, laid-none}
 
 truths-more : (w : List ℕ) (I : Interpretation) (k : ℕ) → truths w ownMarks I (k + 1) ≡ truths w ownMarks I k ++ (bit (conditionAt w ownMarks I k .free) ∷ [])
 truths-more w I k = map-fold-more (λ cs i. conditionOf w ownMarks (valueIn (values w I i)) (conditionIn cs) (termAt w i)) (λ c. bit (c .free)) k
 
-module _ (w row : List ℕ) (cells : ℕ → Cell) (count : ℕ) (n : ℕ) (begin : List ℕ) where
+module _ (w row : List ℕ) (cells : ℕ → Cell) (count n : ℕ) (begin : List ℕ) where
   abbrev I : Interpretation
   I = inCells row cells count
 
-  -- the room before term i of n: it began as begin
+  -- the room before term i of n, which began as begin, and what the term asks
   abbrev pub filled : ℕ → List ℕ
   filled i = laid (numbers w I i) (truths w ownMarks I i) n i begin
 
-  pub started : (turn : Turn) → turn ≡ turnOf w row count n [] 0 → Running w row cells count filled n begin turn
+  abbrev pub asking : ℕ → Turn
+  asking i = turnOf w row count n (numbers w I i) i
+
+  abbrev pub Filling : List ℕ → Turn → Type 0
+  Filling = Running n filled asking
+
+  pub asks : (i : ℕ) → Turning n count i (asking i)
+  asks i = turning w row (numbers w I i) count n i
+
+  pub started : (turn : Turn) → turn ≡ turnOf w row count n [] 0 → Filling begin turn
   unfolding fold
-  started turn e = begun w row cells count filled n begin turn (laid-none n begin) e
+  started turn e = record { i = 0; within = omega arith; is = laid-none n begin; asks = e }
 
-  module _ (all : n ≡ terms w) (enough : n + n ≤ length begin) (room : List ℕ) (turn : Turn) (h : Running w row cells count filled n room turn) where
-    front : take (h .i) room ≡ numbers w I (h .i)
-    front = ap (take (h .i)) (h .is) ∙ laid-front (numbers w I (h .i)) (truths w ownMarks I (h .i)) n (h .i) begin enough (h .within) (length-numbers w I (h .i)) (length-truths w ownMarks I (h .i))
+  module _ (limit : ℕ) (f : WellFormed limit w) (all : n ≡ terms w) (enough : n + n ≤ length begin) where
+    module _ (i : ℕ) (within : i ≤ n) where
+      front-is : take i (filled i) ≡ numbers w I i
+      front-is = laid-front (numbers w I i) (truths w ownMarks I i) n i begin enough within (length-numbers w I i) (length-truths w ownMarks I i)
 
-    after-front : take (h .i) (drop n room) ≡ truths w ownMarks I (h .i)
-    after-front = ap (λ (l : List ℕ). take (h .i) (drop n l)) (h .is) ∙ laid-truths (numbers w I (h .i)) (truths w ownMarks I (h .i)) n (h .i) begin enough (h .within) (length-numbers w I (h .i)) (length-truths w ownMarks I (h .i))
+      truths-are : take i (drop n (filled i)) ≡ truths w ownMarks I i
+      truths-are = laid-truths (numbers w I i) (truths w ownMarks I i) n i begin enough within (length-numbers w I i) (length-truths w ownMarks I i)
 
-    pub same-length : length room ≡ length begin
-    same-length = ap length (h .is) ∙ laid-length (numbers w I (h .i)) (truths w ownMarks I (h .i)) n (h .i) begin enough (h .within) (length-numbers w I (h .i)) (length-truths w ownMarks I (h .i))
+      long : length (filled i) ≡ length begin
+      long = laid-length (numbers w I i) (truths w ownMarks I i) n i begin enough within (length-numbers w I i) (length-truths w ownMarks I i)
 
-    module _ (limit : ℕ) (f : WellFormed limit w) (on : turn .on ≡ true) (answer : ℕ) (answered : answer ≡ lookFrom cells (turn .count) 0 (turn .slot) (turn .index) (turn .other)) where
-      here : h .i < n
-      here = inside w row cells count filled n room turn h on
+    -- a term notes its value and its truth
+    wrote : (i answer : ℕ) (b : i < terms w) → (reading (termAt w i) ≡ true → answer ≡ asked limit w row (λ slot j other. lookFrom cells count 0 slot j other) f i b)
+        → noted w row n answer (filled i) i ≡ filled (i + 1)
+    wrote i answer b h =
+        let meant : Reading = record { value = valueAt w I i .num; free = conditionAt w ownMarks I i .free } in
+        ap (λ (r : Reading). written r n (filled i) i)
+        (ap₂ (λ (l m : List ℕ). readingOf w row l m (termAt w i) answer) (front-is i (omega arith)) (truths-are i (omega arith))
+        ∙ reading-is limit w row (λ slot j other. lookFrom cells count 0 slot j other) f i b answer h)
+        ∙ laid-more (numbers w I i) (truths w ownMarks I i) n i begin enough (omega arith) (length-numbers w I i) (length-truths w ownMarks I i) (omega arith) (meant .value) (bit (meant .free))
+        ∙ sym (ap₂ (λ (l m : List ℕ). laid l m n (i + 1) begin) (numbers-more w I i) (truths-more w I i))
 
-      abbrev meant : Reading
-      meant = record { value = valueAt w I (h .i) .num; free = conditionAt w ownMarks I (h .i) .free }
+    -- from term i on to the next read
+    module _ (i : ℕ) (within : i ≤ n) (room next : List ℕ) (after : Turn) (is : room ≡ filled i)
+        (e : next ≡ onward w (noted w row n 0) n room i) (t : after ≡ turnOf w row count n (take (nextRead w n i) next) (nextRead w n i)) where
+      there : Arrived (readingAt w) (noted w row n 0) filled n (λ k b s. wrote k 0 (omega arith) (λ r. never (sym s ∙ r))) i room
+      there = arrived (readingAt w) (noted w row n 0) filled n (λ k b s. wrote k 0 (omega arith) (λ r. never (sym s ∙ r))) i room within is
 
-      read-here : readingHere w row n room (turn .at) answer ≡ meant
-      read-here =
-          ap (λ (k : ℕ). readingHere w row n room k answer) (at-is w row cells count filled n room turn h)
-          ∙ ap₂ (λ (a b : List ℕ). readingOf w row a b (termAt w (h .i)) answer) front after-front
-          ∙ reading-is limit w row (λ slot j other. lookFrom cells count 0 slot j other) f (h .i) (omega (arith, here)) answer (answer-is w row cells count filled n room turn h limit f (omega (arith, here)) answer answered)
+      arrive : Filling next after
+      arrive =
+          record {
+            i = nextRead w n i;
+            within = there .high;
+            is = e ∙ there .is;
+            asks = t ∙ ap (λ (l : List ℕ). turnOf w row count n l (nextRead w n i)) (ap (take (nextRead w n i)) (e ∙ there .is) ∙ front-is (nextRead w n i) (there .high));
+          }
 
-      next-room : (next : List ℕ) → next ≡ written (readingHere w row n room (turn .at) answer) n room (turn .at) → next ≡ filled (h .i + 1)
-      next-room next e =
-          e
-          ∙ ap (λ (r : Reading). written r n room (turn .at)) read-here
-          ∙ ap (written meant n room) (at-is w row cells count filled n room turn h)
-          ∙ ap (λ (l : List ℕ). written meant n l (h .i)) (h .is)
-          ∙ laid-more (numbers w I (h .i)) (truths w ownMarks I (h .i)) n (h .i) begin enough (h .within) (length-numbers w I (h .i)) (length-truths w ownMarks I (h .i)) here (valueAt w I (h .i) .num) (bit (conditionAt w ownMarks I (h .i) .free))
-          ∙ sym (ap₂ (λ (a b : List ℕ). laid a b n (h .i + 1) begin) (numbers-more w I (h .i)) (truths-more w I (h .i)))
+      later : i ≤ after .at
+      later = let b : i ≤ nextRead w n i = there .low in omega (arith, ap (λ (u : Turn). u .at) t ∙ turning w row (take (nextRead w n i) next) count n (nextRead w n i) .place)
 
-      pub turned : (next : List ℕ) (after : Turn) → next ≡ written (readingHere w row n room (turn .at) answer) n room (turn .at)
-          → after ≡ turnOf w row count n (take (turn .at + 1) next) (turn .at + 1) → Running w row cells count filled n next after
-      turned next after e t =
-          let is = next-room next e in
-          more w row cells count filled n room turn h on next after is
-          (ap (take (h .i + 1)) is ∙ laid-front (numbers w I (h .i + 1)) (truths w ownMarks I (h .i + 1)) n (h .i + 1) begin enough (omega (arith, here)) (length-numbers w I (h .i + 1)) (length-truths w ownMarks I (h .i + 1))) t
+    module _ (room : List ℕ) (turn : Turn) (h : Filling room turn) where
+      pub same-length : length room ≡ length begin
+      same-length = ap length (h .is) ∙ long (h .i) (h .within)
+
+      module _ (on : turn .on ≡ true) (answer : ℕ) (answered : answer ≡ lookFrom cells (turn .count) 0 (turn .slot) (turn .index) (turn .other)) where
+        here : h .i < n
+        here = inside n filled asking count asks room turn h on
+
+        read-is : noted w row n answer room (turn .at) ≡ filled (h .i + 1)
+        read-is =
+            ap (noted w row n answer room) (at-is n filled asking count asks room turn h)
+            ∙ ap (λ (l : List ℕ). noted w row n answer l (h .i)) (h .is)
+            ∙ wrote (h .i) answer (omega (arith, here)) (answer-is limit w row cells count n f (h .i) (omega (arith, here)) turn (h .asks) answer answered)
+
+        -- the next turn, which is of a later term
+        pub turned : (next : List ℕ) (after : Turn) → next ≡ onward w (noted w row n 0) n (noted w row n answer room (turn .at)) (turn .at + 1)
+            → after ≡ turnOf w row count n (take (nextRead w n (turn .at + 1)) next) (nextRead w n (turn .at + 1)) → Filling next after × (turn .at + 1 ≤ after .at)
+        turned next after e t =
+            let at : turn .at + 1 ≡ h .i + 1 = ap (λ (k : ℕ). k + 1) (at-is n filled asking count asks room turn h) in
+            let b : turn .at + 1 ≤ n = omega (arith, here, at) in
+            let is : noted w row n answer room (turn .at) ≡ filled (turn .at + 1) = read-is ∙ ap filled (sym at) in (
+              arrive (turn .at + 1) b (noted w row n answer room (turn .at)) next after is e t,
+              later (turn .at + 1) b (noted w row n answer room (turn .at)) next after is e t,
+            )

@@ -59,3 +59,7 @@ readingHere w row terms room at answer = readingOf w row (take at room) (take at
 -- and writes: its value, and its truth
 abbrev pub written : Reading → ℕ → List ℕ → ℕ → List ℕ
 written r terms room at = set (set room at (r .value)) (terms + at) (bit (r .free))
+
+-- term at notes its value and its truth: from the answer, which only a read asks for
+abbrev pub noted : List ℕ → List ℕ → ℕ → ℕ → List ℕ → ℕ → List ℕ
+noted w row terms answer room at = written (readingHere w row terms room at answer) terms room at

@@ -3,8 +3,8 @@ ghost use mathlib.Core.Path.{_≡_};
 ghost use Prim.Native.Nat.{_+_, _≤_, _<_};
 ghost use lib.ListN.{length, take};
 ghost use Rattle.table.specs.WellFormed.{WellFormed};
-ghost use Rattle.evaluate.specs.Turns.{turnOf};
-ghost use Rattle.judge.specs.Readings.{settledBy, truthOf, readingOf, readingHere, written};
+ghost use Rattle.evaluate.specs.Turns.{turnOf, nextRead, onward};
+ghost use Rattle.judge.specs.Readings.{settledBy, truthOf, readingOf, readingHere, written, noted};
 use crate::reads::Reading;
 use crate::reads::read;
 use crate::reads::truth_at;
@@ -87,7 +87,47 @@ fn reading_here(
     reading_of(table, values, &room[..end], &room[start..last], x, answer)
 }
 
-// Writes value and truth of a turn's term, and goes on to the next.
+// Writes value and truth of term at.
+fn note(work: &mut [u32], terms: u32, at: u32, r: Reading)
+    requires { ⌜ (at < terms) × (terms + terms ≤ length (now work)) ⌝ }
+    ensures { λ _. ⌜ now (work .exit) ≡ written r terms (now (work .entry)) at ⌝ }
+{
+    let value = r.value;
+    let truth = ops::bit(r.free);
+    let first = at as usize;
+    let middle = (terms as usize) + first;
+    work[first] = value;
+    work[middle] = truth;
+}
+
+// Writes values and truths of the terms from at on, up to the next read, and answers what that asks.
+pub fn on(
+    table: &[u32],
+    values: &[u32],
+    count: usize,
+    terms: u32,
+    work: &mut [u32],
+    at: u32,
+) -> Turn
+    requires { ⌜ WellFormed 80000 (now table) ⌝ }
+    requires { ⌜ (at ≤ terms) × (terms + terms ≤ length (now work)) ⌝ }
+    ensures { λ r. ⌜ r ≡ turnOf (now (table .entry)) (now (values .entry)) count terms (take (nextRead (now (table .entry)) terms at) (now (work .exit))) (nextRead (now (table .entry)) terms at) ⌝ }
+    ensures { λ r. ⌜ now (work .exit) ≡ onward (now (table .entry)) (noted (now (table .entry)) (now (values .entry)) terms 0) terms (now (work .entry)) at ⌝ }
+{
+    let mut i = at;
+    while i < terms {
+        if table::reading(table::term_at(table, i)) {
+            break;
+        }
+        let r = reading_here(table, values, terms, &work[..], i, 0);
+        note(work, terms, i, r);
+        i += 1;
+    }
+    let end = i as usize;
+    evaluate::turn_at(table, values, count, terms, &work[..end], i)
+}
+
+// Writes value and truth of a turn's read, and goes on.
 pub fn step(
     table: &[u32],
     values: &[u32],
@@ -99,17 +139,11 @@ pub fn step(
 ) -> Turn
     requires { ⌜ WellFormed 80000 (now table) ⌝ }
     requires { ⌜ (turn .at < terms) × (terms + terms ≤ length (now work)) ⌝ }
-    ensures { λ r. ⌜ r ≡ turnOf (now (table .entry)) (now (values .entry)) count terms (take (turn .at + 1) (now (work .exit))) (turn .at + 1) ⌝ }
-    ensures { λ r. ⌜ now (work .exit) ≡ written (readingHere (now (table .entry)) (now (values .entry)) terms (now (work .entry)) (turn .at) answer) terms (now (work .entry)) (turn .at) ⌝ }
+    ensures { λ r. ⌜ r ≡ turnOf (now (table .entry)) (now (values .entry)) count terms (take (nextRead (now (table .entry)) terms (turn .at + 1)) (now (work .exit))) (nextRead (now (table .entry)) terms (turn .at + 1)) ⌝ }
+    ensures { λ r. ⌜ now (work .exit) ≡ onward (now (table .entry)) (noted (now (table .entry)) (now (values .entry)) terms 0) terms (noted (now (table .entry)) (now (values .entry)) terms answer (now (work .entry)) (turn .at)) (turn .at + 1) ⌝ }
 {
-    let i = turn.at;
-    let at = i as usize;
-    let r = reading_here(table, values, terms, &work[..], i, answer);
-    let value = r.value;
-    let truth = ops::bit(r.free);
-    let middle = (terms as usize) + at;
-    work[at] = value;
-    work[middle] = truth;
-    let next = at + 1;
-    evaluate::turn_at(table, values, count, terms, &work[..next], i + 1)
+    let at = turn.at;
+    let r = reading_here(table, values, terms, &work[..], at, answer);
+    note(work, terms, at, r);
+    on(table, values, count, terms, work, at + 1)
 }

@@ -1,22 +1,21 @@
 use Prim.Native.Nat.{ℕ, _+_, _-_, _*_, _/_, _≤_}
 use mathlib.Core.Path.{_≡_, refl, sym, ap, subst, _∙_}
 use mathlib.Core.List.{_++_}
-use Rattle.evaluate.specs.Values.{numbers}
-use Rattle.evaluate.proofs.Runs.{inCells}
-use Rattle.judge.specs.Conditions.{ownMarks, truths}
-use Rattle.judge.proofs.Rooms.{laid-all}
 use native.Mathlib.Omega.{arith}
 use lib.ListN.{length, drop}
 use borrow.Author.Needs.{needs}
 use Rattle.setting.specs.Cells.{cellAt}
-use Rattle.evaluate.proofs.Runs.{Running, count-here, going, ended, later}
+use Rattle.evaluate.specs.Values.{numbers}
+use Rattle.evaluate.proofs.Runs.{inCells, count-here, going, ended}
+use Rattle.judge.specs.Conditions.{ownMarks, truths}
+use Rattle.judge.proofs.Rooms.{laid-all}
 use Rattle.judge.proofs.Fills as fills
-use Rattle.judge.proofs.Fills.{filled, started, turned}
+use Rattle.judge.proofs.Fills.{filled, asking, asks, Filling, started, turned}
 use Rattle.judge.proofs.room.fill.Statement.{statement}
 use Rattle.judge.proofs.room.fill.Tie as tie
 
 abbrev Inv-loop : tie.InvT-loop
-Inv-loop table values cells work₀ terms count turn₀ work turn = Running table values (cellAt cells) count (filled table values (cellAt cells) count terms work₀) terms work turn
+Inv-loop table values cells work₀ terms count turn₀ work turn = Filling table values (cellAt cells) count terms work₀ work turn
 
 abbrev μ-loop : tie.MeasureT-loop
 μ-loop table values cells work₀ terms count turn₀ work turn = terms - turn .at
@@ -42,30 +41,27 @@ look-requires c κs =
     let a = c .before .before .before .before .before .before .before .before .before .args in
     let l = c .before .loop in
     let n = c .before .before .before .before .count in
-    omega (arith, count-here (a .table .now) (a .values .now) (cellAt (a .cells .now)) (length (a .cells .now) / 3) (filled (a .table .now) (a .values .now) (cellAt (a .cells .now)) (length (a .cells .now) / 3) (n .result) (a .work .now)) (n .result) (l .work) (l .turn) (l .inv))
+    omega (arith, count-here (n .result) (filled (a .table .now) (a .values .now) (cellAt (a .cells .now)) (length (a .cells .now) / 3) (n .result) (a .work .now)) (asking (a .table .now) (a .values .now) (cellAt (a .cells .now)) (length (a .cells .now) / 3) (n .result) (a .work .now)) (length (a .cells .now) / 3) (asks (a .table .now) (a .values .now) (cellAt (a .cells .now)) (length (a .cells .now) / 3) (n .result) (a .work .now)) (l .work) (l .turn) (l .inv))
 
 step-requires : tie.Need-step-requires Inv-loop μ-loop
 step-requires c κs =
     let s = c .before .before .before .before .before .before .before .before .before .before .before in
     let a = s .args in
     let l = c .before .before .before .loop in
-    let n = c .before .before .before .before .before .before .count in (
-      s .pre .0,
-      (
-        going (a .table .now) (a .values .now) (cellAt (a .cells .now)) (length (a .cells .now) / 3) (filled (a .table .now) (a .values .now) (cellAt (a .cells .now)) (length (a .cells .now) / 3) (n .result) (a .work .now)) (n .result) (l .work) (l .turn) (l .inv) (c .before .before .loop-test .taken),
-        subst (λ (k : ℕ). n .result + n .result ≤ k) (sym (fills.same-length (a .table .now) (a .values .now) (cellAt (a .cells .now)) (length (a .cells .now) / 3) (n .result) (a .work .now) (n .ensures) (enough (c .before .before)) (l .work) (l .turn) (l .inv))) (enough (c .before .before)),
-      ),
-    )
+    let n = c .before .before .before .before .before .before .count in
+    let long = fills.same-length (a .table .now) (a .values .now) (cellAt (a .cells .now)) (length (a .cells .now) / 3) (n .result) (a .work .now) 80000 (s .pre .0) (n .ensures) (enough (c .before .before)) (l .work) (l .turn) (l .inv) in
+    (s .pre .0, (going (n .result) (filled (a .table .now) (a .values .now) (cellAt (a .cells .now)) (length (a .cells .now) / 3) (n .result) (a .work .now)) (asking (a .table .now) (a .values .now) (cellAt (a .cells .now)) (length (a .cells .now) / 3) (n .result) (a .work .now)) (length (a .cells .now) / 3) (asks (a .table .now) (a .values .now) (cellAt (a .cells .now)) (length (a .cells .now) / 3) (n .result) (a .work .now)) (l .work) (l .turn) (l .inv) (c .before .before .loop-test .taken), subst (λ (k : ℕ). n .result + n .result ≤ k) (sym long) (enough (c .before .before))))
 
 loop-less : tie.Need-loop-less Inv-loop μ-loop
 loop-less c =
-    let a = c .before .before .before .before .before .before .before .before .before .before .before .before .before .before .args in
+    let s = c .before .before .before .before .before .before .before .before .before .before .before .before .before .before in
+    let a = s .args in
     let l = c .before .before .before .before .before .before .loop in
     let n = c .before .before .before .before .before .before .before .before .before .count in
     let k = c .before .before .step in
-    let next = later (a .table .now) (a .values .now) (cellAt (a .cells .now)) (length (a .cells .now) / 3) (filled (a .table .now) (a .values .now) (cellAt (a .cells .now)) (length (a .cells .now) / 3) (n .result) (a .work .now)) (n .result) (l .work) (l .turn) (l .inv) (k .result) _ (k .ensures .0) in
-    let inside = going (a .table .now) (a .values .now) (cellAt (a .cells .now)) (length (a .cells .now) / 3) (filled (a .table .now) (a .values .now) (cellAt (a .cells .now)) (length (a .cells .now) / 3) (n .result) (a .work .now)) (n .result) (l .work) (l .turn) (l .inv) (c .before .before .before .before .before .loop-test .taken) in
-    omega (arith, next, inside)
+    let next = turned (a .table .now) (a .values .now) (cellAt (a .cells .now)) (length (a .cells .now) / 3) (n .result) (a .work .now) 80000 (s .pre .0) (n .ensures) (enough (c .before .before .before .before .before)) (l .work) (l .turn) (l .inv)
+        (c .before .before .before .before .before .loop-test .taken) (c .before .before .before .before .look .result) (c .before .before .before .before .look .ensures) _ _ (k .ensures .1) (k .ensures .0) in
+    omega (arith, next .1, going (n .result) (filled (a .table .now) (a .values .now) (cellAt (a .cells .now)) (length (a .cells .now) / 3) (n .result) (a .work .now)) (asking (a .table .now) (a .values .now) (cellAt (a .cells .now)) (length (a .cells .now) / 3) (n .result) (a .work .now)) (length (a .cells .now) / 3) (asks (a .table .now) (a .values .now) (cellAt (a .cells .now)) (length (a .cells .now) / 3) (n .result) (a .work .now)) (l .work) (l .turn) (l .inv) (c .before .before .before .before .before .loop-test .taken))
 
 loop-again : tie.Need-loop-again Inv-loop μ-loop
 loop-again c =
@@ -74,22 +70,23 @@ loop-again c =
     let l = c .before .before .before .before .before .before .loop in
     let n = c .before .before .before .before .before .before .before .before .before .count in
     let k = c .before .before .step in
-    turned (a .table .now) (a .values .now) (cellAt (a .cells .now)) (length (a .cells .now) / 3) (n .result) (a .work .now) (n .ensures) (enough (c .before .before .before .before .before)) (l .work) (l .turn) (l .inv)
-    80000 (s .pre .0) (c .before .before .before .before .before .loop-test .taken) (c .before .before .before .before .look .result) (c .before .before .before .before .look .ensures) _ _ (k .ensures .1) (k .ensures .0)
+    turned (a .table .now) (a .values .now) (cellAt (a .cells .now)) (length (a .cells .now) / 3) (n .result) (a .work .now) 80000 (s .pre .0) (n .ensures) (enough (c .before .before .before .before .before)) (l .work) (l .turn) (l .inv)
+    (c .before .before .before .before .before .loop-test .taken) (c .before .before .before .before .look .result) (c .before .before .before .before .look .ensures) _ _ (k .ensures .1) (k .ensures .0) .0
 
 same-length : tie.Need-same-length Inv-loop μ-loop
 same-length c =
-    let a = c .before .before .before .before .before .before .before .before .before .args in
+    let s = c .before .before .before .before .before .before .before .before .before in
+    let a = s .args in
     let l = c .before .loop in
     let n = c .before .before .before .before .count in
-    fills.same-length (a .table .now) (a .values .now) (cellAt (a .cells .now)) (length (a .cells .now) / 3) (n .result) (a .work .now) (n .ensures) (omega (arith, n .ensures, c .before .before .before .before .before .before .before .before .before .pre .1)) (l .work) (l .turn) (l .inv)
+    fills.same-length (a .table .now) (a .values .now) (cellAt (a .cells .now)) (length (a .cells .now) / 3) (n .result) (a .work .now) 80000 (s .pre .0) (n .ensures) (omega (arith, n .ensures, s .pre .1)) (l .work) (l .turn) (l .inv)
 
 returns : tie.Need-returns Inv-loop μ-loop
 returns c =
     let a = c .before .before .before .before .before .before .before .before .before .args in
     let l = c .before .loop in
     let n = c .before .before .before .before .count in
-    ended (a .table .now) (a .values .now) (cellAt (a .cells .now)) (length (a .cells .now) / 3) (filled (a .table .now) (a .values .now) (cellAt (a .cells .now)) (length (a .cells .now) / 3) (n .result) (a .work .now)) (n .result) (l .work) (l .turn) (l .inv) (c .loop-test .left)
+    ended (n .result) (filled (a .table .now) (a .values .now) (cellAt (a .cells .now)) (length (a .cells .now) / 3) (n .result) (a .work .now)) (asking (a .table .now) (a .values .now) (cellAt (a .cells .now)) (length (a .cells .now) / 3) (n .result) (a .work .now)) (length (a .cells .now) / 3) (asks (a .table .now) (a .values .now) (cellAt (a .cells .now)) (length (a .cells .now) / 3) (n .result) (a .work .now)) (l .work) (l .turn) (l .inv) (c .loop-test .left)
     ∙ laid-all (numbers (a .table .now) (inCells (a .values .now) (cellAt (a .cells .now)) (length (a .cells .now) / 3)) (n .result)) (truths (a .table .now) ownMarks (inCells (a .values .now) (cellAt (a .cells .now)) (length (a .cells .now) / 3)) (n .result)) (n .result) (a .work .now) (omega (arith, n .ensures, c .before .before .before .before .before .before .before .before .before .pre .1))
     ∙ ap (λ (k : ℕ). numbers (a .table .now) (inCells (a .values .now) (cellAt (a .cells .now)) (length (a .cells .now) / 3)) k ++ truths (a .table .now) ownMarks (inCells (a .values .now) (cellAt (a .cells .now)) (length (a .cells .now) / 3)) k ++ drop (k * 2) (a .work .now)) (n .ensures)
 

@@ -1,47 +1,20 @@
-use Rattle.judge.specs.Readings.{written}
-use Rattle.judge.specs.declared.reads.Reading.{Reading}
-use lib.Seq.{length-take-le}
-use lib.ListN.{length-set, set}
-use native.Mathlib.Omega.{arith}
-use mathlib.Core.Path.{sym, ap, _∙_}
-use Prim.Native.Nat.{_+_}
+use mathlib.Core.Path.{ap, _∙_}
+use mathlib.Core.List.{List}
+use Prim.Native.Nat.{ℕ, _+_}
 use borrow.Author.Needs.{needs}
+use Rattle.evaluate.specs.Turns.{onward}
+use Rattle.judge.specs.declared.reads.Reading.{Reading}
+use Rattle.judge.specs.Readings.{written, noted}
 use Rattle.judge.proofs.terms.step.Statement.{statement}
 use Rattle.judge.proofs.terms.step.Tie as tie
 
-slice-write-work-2 : tie.Need-slice-write-work-2
-slice-write-work-2 c = simp length-set (omega (arith, c .before .before .before .before .before .before .pre .1))
-
-slice-reshare-prefix-turn-at : tie.Need-slice-reshare-prefix-turn-at
-slice-reshare-prefix-turn-at c = simp length-set (omega (arith, c .before .before .before .before .before .before .pre .1))
-
-slice-aggregate-turn-at : tie.Need-slice-aggregate-turn-at
-slice-aggregate-turn-at c = sym (length-take-le (c .before .before .before .before .before .before .before .args .turn .at + 1) _ (simp length-set (omega (arith, c .before .before .before .before .before .before .before .pre .1))))
-
 returns : tie.Need-returns
 returns c =
-    let a = c .before .before .before .before .before .before .before .before .args in
-    let r = c .before .before .before .reading-here in (
-      c .turn-at .ensures,
-      ap (set (set (a .work .now) (a .turn .at) (r .result .value)) (a .terms + a .turn .at)) (c .before .before .bit .ensures) ∙ ap (λ (k : Reading). written k (a .terms) (a .work .now) (a .turn .at)) (r .ensures),
+    let a = c .before .before .before .before .before .before .before .before .before .before .before .before .before .args in
+    let wrote = c .before .before .before .before .before .before .note .ensures ∙ ap (λ (r : Reading). written r (a .terms) (a .work .now) (a .turn .at)) (c .before .before .before .before .before .before .before .before .reading-here .ensures) in (
+      c .before .before .on .ensures .0,
+      c .before .before .on .ensures .1 ∙ ap (λ (l : List ℕ). onward (a .table .now) (noted (a .table .now) (a .values .now) (a .terms) 0) (a .terms) l (a .turn .at + 1)) wrote,
     )
 
 pub step-spec : {M : Type 1} → statement M
-step-spec =
-    tie.close
-    (tie.spec
-    (λ c. search needs)
-    (λ c κs. search needs)
-    (λ c κs. search needs)
-    (λ c. search needs)
-    (λ c. search needs)
-    (λ c. search needs)
-    (λ c. search needs)
-    slice-write-work-2
-    (λ c. search needs)
-    slice-reshare-prefix-turn-at
-    slice-aggregate-turn-at
-    (λ c. search needs)
-    (λ c κs. search needs)
-    (λ c. search needs)
-    returns)
+step-spec = tie.close (tie.spec (λ c κs. search needs) (λ c κs. search needs) (λ c. search needs) (λ c κs. search needs) (λ c. search needs) returns)

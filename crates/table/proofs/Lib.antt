@@ -8,3 +8,4 @@ pub mod Admitted
 pub mod Stacks
 pub mod SoundTerms
 pub mod Places
+pub mod OpNumbers

@@ -3,7 +3,7 @@ ghost use mathlib.Core.Path.{_≡_};
 ghost use Rattle.ops.specs.Numbers.{opOf};
 ghost use Rattle.table.specs.Terms.{sortAt};
 ghost use Rattle.table.specs.declared.ranks.Rank.the-variants.{Read, Write};
-ghost use Rattle.table.specs.Ranks.{rankOf, fieldsOf, slotted, immediate, reads, writes};
+ghost use Rattle.table.specs.Ranks.{rankOf, fieldsOf, writes};
 ghost use Rattle.table.specs.Faults.{placedAs, typedAs, valuedAs, variable, constant, reading, storing};
 use crate::sorts::array;
 use crate::sorts::boolean;
@@ -170,68 +170,31 @@ pub fn valued(fields: Fields, x: Term) -> bool
     }
 }
 
-fn slotted(fields: Fields) -> bool
-    ensures { λ r. ⌜ r ≡ slotted fields ⌝ }
-{
-    match fields {
-        Fields::Value => false,
-        Fields::Slot => true,
-        Fields::One => false,
-        Fields::Two => false,
-        Fields::Three => false,
-    }
-}
+// The numbers of the operators that are known by themselves.
+const OP_CONSTANT: u32 = 0;
+const OP_VARIABLE: u32 = 1;
+const OP_SELECT: u32 = 15;
+const OP_STORE: u32 = 16;
 
 // Whether a term is a variable.
 pub fn variable(x: Term) -> bool
     ensures { λ r. ⌜ r ≡ variable x ⌝ }
 {
-    slotted(fields_of(rank_of(x.op)))
-}
-
-fn immediate(fields: Fields) -> bool
-    ensures { λ r. ⌜ r ≡ immediate fields ⌝ }
-{
-    match fields {
-        Fields::Value => true,
-        Fields::Slot => false,
-        Fields::One => false,
-        Fields::Two => false,
-        Fields::Three => false,
-    }
+    x.op == OP_VARIABLE
 }
 
 // Whether a term is a constant.
 pub fn constant(x: Term) -> bool
     ensures { λ r. ⌜ r ≡ constant x ⌝ }
 {
-    immediate(fields_of(rank_of(x.op)))
-}
-
-fn reads(rank: Rank) -> bool
-    ensures { λ r. ⌜ r ≡ reads rank ⌝ }
-{
-    match rank {
-        Rank::Literal => false,
-        Rank::Input => false,
-        Rank::BoolUnary => false,
-        Rank::BoolBinary => false,
-        Rank::Equality => false,
-        Rank::Choice => false,
-        Rank::BvUnary => false,
-        Rank::BvBinary => false,
-        Rank::BvCompare => false,
-        Rank::Read => true,
-        Rank::Write => false,
-        Rank::Other => false,
-    }
+    x.op == OP_CONSTANT
 }
 
 // Whether a term is a read.
 pub fn reading(x: Term) -> bool
     ensures { λ r. ⌜ r ≡ reading x ⌝ }
 {
-    reads(rank_of(x.op))
+    x.op == OP_SELECT
 }
 
 // A store's rank.
@@ -258,5 +221,5 @@ pub fn writes(rank: Rank) -> bool
 pub fn storing(x: Term) -> bool
     ensures { λ r. ⌜ r ≡ storing x ⌝ }
 {
-    writes(rank_of(x.op))
+    x.op == OP_STORE
 }

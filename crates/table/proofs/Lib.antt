@@ -9,3 +9,5 @@ pub mod Stacks
 pub mod SoundTerms
 pub mod Places
 pub mod OpNumbers
+pub mod Operands
+pub mod FaultOrder

@@ -1,20 +1,17 @@
 // Refusals 3 to 9: what is wrong with one term.
 ghost use mathlib.Core.Path.{_≡_};
+ghost use Prim.Native.Nat.{_+_, _*_, _<_};
 ghost use lib.Dec.{leb};
-ghost use Rattle.ops.specs.Numbers.{opOf};
+ghost use lib.ListN.{length};
 ghost use Rattle.table.specs.Terms.{termAt};
-ghost use Rattle.table.specs.Ranks.{rankOf};
-ghost use Rattle.table.specs.Faults.{chain, refuse, faultIf};
-use crate::ranks::Rank;
-use crate::ranks::fields_of;
-use crate::ranks::placed;
+ghost use Rattle.table.specs.Faults.{known, chain, refuse, faultIf};
 use crate::ranks::rank_of;
+use crate::ranks::ranked;
 use crate::ranks::storing;
-use crate::ranks::typed;
-use crate::ranks::valued;
-use crate::ranks::writes;
 use crate::sorts::sorted;
+use crate::words::Term;
 use crate::words::term_at;
+use crate::words::term_in;
 
 // number unless ok, else rest.
 pub fn refuse(number: u32, ok: bool, rest: u32) -> u32
@@ -40,12 +37,19 @@ pub fn chain(table: &[u32], k: u32) -> u32
     count
 }
 
-// 9: at most 16 stores from term i inward. Only a store, by its rank, has any.
-fn short(table: &[u32], i: u32, rank: Rank) -> bool
-    requires { ⌜ rank ≡ rankOf (opOf (termAt (now table) i .op)) ⌝ }
+// 3: an op up to 16.
+fn known(x: Term) -> bool
+    ensures { λ r. ⌜ r ≡ known x ⌝ }
+{
+    x.op <= 16
+}
+
+// 9: at most 16 stores from term i, x, inward. Only a store has any.
+fn short(table: &[u32], i: u32, x: Term) -> bool
+    requires { ⌜ x ≡ termAt (now table) i ⌝ }
     ensures { λ r. ⌜ r ≡ leb (chain 17 (now (table .entry)) i) 16 ⌝ }
 {
-    if !writes(rank) {
+    if !storing(x) {
         return true;
     }
     chain(table, i) <= 16
@@ -53,13 +57,19 @@ fn short(table: &[u32], i: u32, rank: Rank) -> bool
 
 // The lowest number, 3 to 9, that refuses term i, and 0 where none does; whether it clashes is known.
 pub fn fault(table: &[u32], i: u32, clashing: bool) -> u32
+    requires { ⌜ i * 6 + 5 < length (now table) ⌝ }
     ensures { λ r. ⌜ r ≡ faultIf (now (table .entry)) i clashing ⌝ }
 {
-    let x = term_at(table, i);
-    let rank = rank_of(x.op);
-    let fields = fields_of(rank);
-    let late = refuse(8, !clashing, refuse(9, short(table, i, rank), 0));
-    let sorts = refuse(6, typed(table, rank, x), refuse(7, valued(fields, x), late));
-    let early = refuse(5, placed(fields, i, x), sorts);
-    refuse(3, x.op <= 16, refuse(4, sorted(x.sort), early))
+    let x = term_in(table, i);
+    if !known(x) {
+        return 3;
+    }
+    if !sorted(x.sort) {
+        return 4;
+    }
+    let number = ranked(table, rank_of(x.op), i, x);
+    if number != 0 {
+        return number;
+    }
+    refuse(8, !clashing, refuse(9, short(table, i, x), 0))
 }

@@ -22,7 +22,8 @@ pub use words::put;
 pub use words::sort_at;
 pub use words::term_at;
 ghost use mathlib.Core.Path.{_≡_};
-ghost use Prim.Native.Nat.{pred, _<_};
+ghost use Prim.Native.Nat.{pred, _*_, _≤_, _<_};
+ghost use lib.ListN.{length};
 ghost use Rattle.table.specs.Terms.{terms};
 ghost use Rattle.table.specs.Admission.{refused, refusedBy, scan, ended, admissionWithin, admission};
 ghost use Rattle.table.specs.Faults.{fault, firstClash};
@@ -79,6 +80,7 @@ fn ended(table: &[u32], last: u32) -> Admission
 // The terms in order, the first clash being known; then the last term's sort.
 fn first_fault(table: &[u32], terms: u32, clash: u32) -> Admission
     requires { ⌜ 0 < terms ⌝ }
+    requires { ⌜ terms * 6 ≤ length (now table) ⌝ }
     requires { ⌜ clash ≡ firstClash (now table) terms ⌝ }
     ensures { λ r. ⌜ r ≡ scan (fault (now (table .entry))) terms 0 (ended (now (table .entry)) (pred terms)) ⌝ }
 {

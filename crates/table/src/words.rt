@@ -1,5 +1,7 @@
 // A table's numbers as terms.
 ghost use mathlib.Core.Path.{_≡_};
+ghost use Prim.Native.Nat.{_+_, _*_, _<_};
+ghost use lib.ListN.{length};
 ghost use Rattle.table.specs.Terms.{wordAt, sortAt, termAt, placed};
 
 // Boolean (0, 0); vector (0, n); array (m, n).
@@ -27,16 +29,42 @@ fn word(table: &[u32], k: u32, j: u32) -> u32
     if at < table.len() { table[at] } else { 0 }
 }
 
-// The sort of term k. A term that the table has whole is read with one look at the length.
-pub fn sort_at(table: &[u32], k: u32) -> Sort
+// The sort of term k, which the table has.
+pub fn sort_in(table: &[u32], k: u32) -> Sort
+    requires { ⌜ k * 6 + 2 < length (now table) ⌝ }
     ensures { λ r. ⌜ r ≡ sortAt (now (table .entry)) k ⌝ }
 {
     let at = (k as usize) * WORDS;
-    if at + 2 < table.len() {
-        return Sort {
+    Sort {
+        m: table[at + 1],
+        n: table[at + 2],
+    }
+}
+
+// Term k, which the table has whole.
+pub fn term_in(table: &[u32], k: u32) -> Term
+    requires { ⌜ k * 6 + 5 < length (now table) ⌝ }
+    ensures { λ r. ⌜ r ≡ termAt (now (table .entry)) k ⌝ }
+{
+    let at = (k as usize) * WORDS;
+    Term {
+        op: table[at],
+        sort: Sort {
             m: table[at + 1],
             n: table[at + 2],
-        };
+        },
+        p: table[at + 3],
+        q: table[at + 4],
+        r: table[at + 5],
+    }
+}
+
+// The sort of term k, 0 for each number past the table's end.
+pub fn sort_at(table: &[u32], k: u32) -> Sort
+    ensures { λ r. ⌜ r ≡ sortAt (now (table .entry)) k ⌝ }
+{
+    if (k as usize) * WORDS + 2 < table.len() {
+        return sort_in(table, k);
     }
     Sort {
         m: word(table, k, 1),
@@ -48,18 +76,8 @@ pub fn sort_at(table: &[u32], k: u32) -> Sort
 pub fn term_at(table: &[u32], k: u32) -> Term
     ensures { λ r. ⌜ r ≡ termAt (now (table .entry)) k ⌝ }
 {
-    let at = (k as usize) * WORDS;
-    if at + 5 < table.len() {
-        return Term {
-            op: table[at],
-            sort: Sort {
-                m: table[at + 1],
-                n: table[at + 2],
-            },
-            p: table[at + 3],
-            q: table[at + 4],
-            r: table[at + 5],
-        };
+    if (k as usize) * WORDS + 5 < table.len() {
+        return term_in(table, k);
     }
     Term {
         op: word(table, k, 0),

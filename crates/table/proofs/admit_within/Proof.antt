@@ -1,3 +1,4 @@
+use native.Mathlib.Omega.{arith}
 use Rattle.table.proofs.Admitted.{one-term}
 use Rattle.table.specs.Admission.{admissionWithin}
 use borrow.Author.Tests.{lt-ltb, le-ltb}
@@ -16,7 +17,7 @@ unfolding admissionWithin
 returns-2 c = c .refused2 .ensures ∙ rw (c .before .before .if1 .left, lt-ltb _ _ (c .before .if2 .taken))
 
 first-fault-requires : tie.Need-first-fault-requires
-first-fault-requires c κs = (one-term (length (c .before .before .before .before .args .table .now)) (c .before .before .if1 .left), c .first-clash .ensures)
+first-fault-requires c κs = (one-term (length (c .before .before .before .before .args .table .now)) (c .before .before .if1 .left), (omega arith, c .first-clash .ensures))
 
 returns-3 : tie.Need-returns-3
 unfolding admissionWithin

@@ -28,7 +28,7 @@ returns c =
     let rest = ended (s .args .table .now) (pred (s .args .terms)) in
     c .refused .ensures
     ∙ stop (fault (s .args .table .now)) (s .args .terms) rest (l .i) (l .inv .scanned) (c .before .before .before .loop-test .taken) (f .result)
-    (here (s .args .table .now) (s .args .terms) (s .args .clash) rest (l .i) (l .inv) (s .pre .1) (c .before .before .before .loop-test .taken) (f .result) (f .ensures))
+    (here (s .args .table .now) (s .args .terms) (s .args .clash) rest (l .i) (l .inv) (s .pre .1 .1) (c .before .before .before .loop-test .taken) (f .result) (f .ensures))
     (c .before .if1 .taken)
 
 add-i : tie.Need-add-i Inv-loop μ-loop
@@ -43,7 +43,7 @@ loop-again c =
     let l = c .before .before .before .loop in
     let f = c .before .fault in
     on-reached (s .args .table .now) (s .args .terms) (s .args .clash) (ended (s .args .table .now) (pred (s .args .terms)))
-    (l .i) (l .inv) (s .pre .1) (c .before .before .loop-test .taken) (f .result) (f .ensures) (c .if1 .left)
+    (l .i) (l .inv) (s .pre .1 .1) (c .before .before .loop-test .taken) (f .result) (f .ensures) (c .if1 .left)
 
 sub-ended : tie.Need-sub-ended Inv-loop μ-loop
 sub-ended c = omega arith

@@ -1,35 +1,57 @@
-use mathlib.Core.Path.{ap, _∙_}
-use Rattle.ops.specs.Numbers.{opOf}
+use mathlib.Core.Path.{_≡_, sym, ap, _∙_}
+use mathlib.Core.Bool.{true}
+use borrow.Author.Tests.{not-true, not-false}
+use Rattle.table.specs.declared.ranks.Rank.{Rank}
 use Rattle.table.specs.declared.words.Term.{Term}
-use Rattle.table.specs.Ranks.{rankOf}
-use Rattle.table.specs.Faults.{typed, faultIf}
+use Rattle.table.specs.Terms.{termAt}
+use Rattle.table.specs.Faults.{rank, known, sorted}
+use Rattle.table.proofs.FaultOrder.{ranked, refused-3, refused-4, refused-ranked, left-to-8}
 use borrow.Author.Needs.{needs}
 use Rattle.table.proofs.faults.fault.Statement.{statement}
 use Rattle.table.proofs.faults.fault.Tie as tie
 
-short-requires : tie.Need-short-requires
-short-requires c κs = c .before .rank-of .ensures ∙ ap (λ (x : Term). rankOf (opOf (x .op))) (c .before .before .term-at .ensures)
+-- what the code tests of x is what the definition asks of term i
 
 returns : tie.Need-returns
-unfolding faultIf typed
 returns c =
-    rw (
-      c .refuse7 .ensures,
-      c .before .refuse6 .ensures,
-      c .before .before .sorted .ensures,
-      c .before .before .before .before .refuse5 .ensures,
-      c .before .before .before .before .before .placed .ensures,
-      c .before .before .before .before .before .before .refuse4 .ensures,
-      c .before .before .before .before .before .before .before .refuse3 .ensures,
-      c .before .before .before .before .before .before .before .before .valued .ensures,
-      c .before .before .before .before .before .before .before .before .before .typed .ensures,
-      c .before .before .before .before .before .before .before .before .before .before .refuse2 .ensures,
-      c .before .before .before .before .before .before .before .before .before .before .before .refuse .ensures,
-      c .before .before .before .before .before .before .before .before .before .before .before .before .short .ensures,
-      c .before .before .before .before .before .before .before .before .before .before .before .before .before .fields-of .ensures,
-      c .before .before .before .before .before .before .before .before .before .before .before .before .before .before .rank-of .ensures,
-      c .before .before .before .before .before .before .before .before .before .before .before .before .before .before .before .term-at .ensures,
-    )
+    let a = c .before .before .before .before .args in
+    refused-3 (a .table .now) (a .i) (a .clashing) (sym (c .before .known .ensures ∙ ap known (c .before .before .term-in .ensures)) ∙ not-true _ (c .if1 .taken))
+
+known-here : (c : tie.Else1) → known (termAt (c .before .before .before .before .args .table .now) (c .before .before .before .before .args .i)) ≡ true
+known-here c = sym (c .before .known .ensures ∙ ap known (c .before .before .term-in .ensures)) ∙ not-false _ (c .if1 .left)
+
+returns-2 : tie.Need-returns-2
+returns-2 c =
+    let a = c .before .before .before .before .before .before .args in
+    refused-4 (a .table .now) (a .i) (a .clashing) (known-here (c .before .before))
+    (sym (c .before .sorted .ensures ∙ ap (λ (x : Term). sorted (x .sort)) (c .before .before .before .before .term-in .ensures)) ∙ not-true _ (c .if2 .taken))
+
+sorted-here : (c : tie.Else2) → sorted (termAt (c .before .before .before .before .before .before .args .table .now) (c .before .before .before .before .before .before .args .i) .sort) ≡ true
+sorted-here c = sym (c .before .sorted .ensures ∙ ap (λ (x : Term). sorted (x .sort)) (c .before .before .before .before .term-in .ensures)) ∙ not-false _ (c .if2 .left)
+
+ranked-here : (c : tie.After-ranked) →
+    let a = c .before .before .before .before .before .before .before .before .args in
+    c .ranked .result ≡ ranked (a .table .now) (a .i) (rank (termAt (a .table .now) (a .i))) (termAt (a .table .now) (a .i)) 0
+ranked-here c =
+    let a = c .before .before .before .before .before .before .before .before .args in
+    let x = c .before .before .before .before .before .before .term-in in
+    c .ranked .ensures
+    ∙ ap (λ (r : Rank). ranked (a .table .now) (a .i) r (x .result) 0) (c .before .rank-of .ensures)
+    ∙ ap (λ (y : Term). ranked (a .table .now) (a .i) (rank y) y 0) (x .ensures)
+
+returns-3 : tie.Need-returns-3
+returns-3 c =
+    let a = c .before .before .before .before .before .before .before .before .before .args in
+    refused-ranked (a .table .now) (a .i) (a .clashing) (known-here (c .before .before .before .before .before)) (sorted-here (c .before .before .before)) (c .before .ranked .result) (ranked-here (c .before)) (c .if3 .taken)
+
+short-requires : tie.Need-short-requires
+short-requires c κs = c .before .before .before .before .before .before .before .term-in .ensures
+
+returns-4 : tie.Need-returns-4
+returns-4 c =
+    let a = c .before .before .before .before .before .before .before .before .before .before .before .before .args in
+    rw (c .refuse2 .ensures, c .before .refuse .ensures, c .before .before .short .ensures)
+    (left-to-8 (a .table .now) (a .i) (a .clashing) (known-here (c .before .before .before .before .before .before .before .before)) (sorted-here (c .before .before .before .before .before .before)) (c .before .before .before .before .ranked .result) (ranked-here (c .before .before .before .before)) (c .before .before .before .if3 .left))
 
 pub fault-spec : {M : Type 1} → statement M
 fault-spec =
@@ -37,17 +59,13 @@ fault-spec =
     (tie.spec
     (λ c κs. search needs)
     (λ c κs. search needs)
+    returns
     (λ c κs. search needs)
+    returns-2
+    (λ c κs. search needs)
+    (λ c κs. search needs)
+    returns-3
     short-requires
     (λ c κs. search needs)
     (λ c κs. search needs)
-    (λ c κs. search needs)
-    (λ c κs. search needs)
-    (λ c κs. search needs)
-    (λ c κs. search needs)
-    (λ c κs. search needs)
-    (λ c κs. search needs)
-    (λ c κs. search needs)
-    (λ c κs. search needs)
-    (λ c κs. search needs)
-    returns)
+    returns-4)

@@ -1,10 +1,6 @@
-use native.Mathlib.Nat.{add-zero}
 use borrow.Author.Needs.{needs}
 use Rattle.table.proofs.words.term_at.Statement.{statement}
 use Rattle.table.proofs.words.term_at.Tie as tie
-
-returns : tie.Need-returns
-returns c = rw (add-zero _)
 
 returns-2 : tie.Need-returns-2
 returns-2 c = rw (c .word4 .ensures, c .before .word3 .ensures, c .before .before .word2 .ensures, c .before .before .before .sort-at .ensures, c .before .before .before .before .word .ensures)
@@ -15,24 +11,8 @@ term-at-spec =
     (tie.spec
     (λ c. search needs)
     (λ c. search needs)
+    (λ c κs. search needs)
     (λ c. search needs)
-    (λ c. search needs)
-    (λ c. search needs)
-    (λ c. search needs)
-    (λ c. search needs)
-    (λ c. search needs)
-    (λ c. search needs)
-    (λ c. search needs)
-    (λ c. search needs)
-    (λ c. search needs)
-    (λ c. search needs)
-    (λ c. search needs)
-    (λ c. search needs)
-    (λ c. search needs)
-    (λ c. search needs)
-    (λ c. search needs)
-    (λ c. search needs)
-    returns
     (λ c κs. search needs)
     (λ c κs. search needs)
     (λ c κs. search needs)

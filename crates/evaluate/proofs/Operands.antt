@@ -18,9 +18,12 @@ use Rattle.table.specs.declared.words.Sort.{Sort}
 use Rattle.table.specs.declared.words.Term.{Term}
 use Rattle.table.specs.Terms.{termAt, sortAt, boolean, vector, scalar, array, vectorOf, sameSort}
 use Rattle.table.specs.Bench.{every}
-use Rattle.table.specs.Ranks.{rankOf, fieldsOf}
-use Rattle.table.specs.Faults.{known, placedAs, typedAs, typed}
-use Rattle.table.specs.WellFormed.{Sound}
+use Rattle.table.specs.declared.ranks.Fields.{Fields}
+use Rattle.table.specs.declared.ranks.Fields.the-variants.{Value, Slot, One, Two, Three}
+use Rattle.table.specs.Ranks.{rankOf, fieldsOf, slotted, immediate}
+use Rattle.table.specs.Faults.{fields, constant, variable, known, placedAs, typedAs, typed}
+use Rattle.table.specs.WellFormed.{Sound, WellFormed}
+use Rattle.evaluate.specs.Turns.{Next, Behind}
 
 -- an op up to 16 is one of the list
 
@@ -139,3 +142,26 @@ pub three-placed : (i : ℕ) (x : Term) → ltb (x .p) i && ltb (x .q) i && ltb 
 three-placed i x h =
     let parts = three (ltb (x .p) i) (ltb (x .q) i) (ltb (x .r) i) h in
     (ltb-true (x .p) i (parts .0), ltb-true (x .q) i (parts .1), ltb-true (x .r) i (parts .2))
+
+-- of any operator, all fields are below: those that it does not use are 0
+operands-placed : (fields : Fields) (i : ℕ) (x : Term) → placedAs fields i x ≡ true → immediate fields ≡ false → slotted fields ≡ false → (x .p < i) × (x .q < i) × (x .r < i)
+operands-placed Value i x h c v = never (sym c)
+operands-placed Slot i x h c v = never (sym v)
+operands-placed One i x h c v =
+    let parts = three (ltb (x .p) i) (eqb (x .q) 0) (eqb (x .r) 0) h in
+    let p : x .p < i = ltb-true (x .p) i (parts .0) in
+    let q : x .q ≡ 0 = eqb-true (x .q) 0 (parts .1) in
+    let r : x .r ≡ 0 = eqb-true (x .r) 0 (parts .2) in
+    (p, omega arith, omega arith)
+operands-placed Two i x h c v =
+    let parts = three (ltb (x .p) i) (ltb (x .q) i) (eqb (x .r) 0) h in
+    let p : x .p < i = ltb-true (x .p) i (parts .0) in
+    let r : x .r ≡ 0 = eqb-true (x .r) 0 (parts .2) in
+    (p, ltb-true (x .q) i (parts .1), omega arith)
+operands-placed Three i x h c v = three-placed i x h
+
+pub behind : (limit : ℕ) (w front : List ℕ) (x : Term) → WellFormed limit w → Next w front x → constant x ≡ false → variable x ≡ false → Behind front x
+behind limit w front x f n c v =
+    let is : placedAs (fields x) (length front) x ≡ true = subst (λ (y : Term). placedAs (fields y) (length front) y ≡ true) (sym (n .is)) (f .sound (length front) (n .inside) .is-placed) in
+    let below = operands-placed (fields x) (length front) x is c v in
+    record { p = below .0; q = below .1; r = below .2 }

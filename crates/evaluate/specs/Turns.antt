@@ -1,14 +1,15 @@
 -- A turn of evaluating: which cell a term asks for, its number from the answer, and how the run goes on to the next read.
 -- Assumes nothing.
+use mathlib.Core.Path.{_≡_}
 use mathlib.Core.Bool.{Bool, true, false, cond}
 use mathlib.Core.List.{List}
-use Prim.Native.Nat.{ℕ, zero, suc, _-_}
+use Prim.Native.Nat.{ℕ, zero, suc, _-_, _<_}
 use lib.Dec.{ltb}
-use lib.ListN.{getD, take, set}
+use lib.ListN.{length, getD, take, set}
 use Rattle.ops.specs.Numbers.{opOf}
 use Rattle.ops.specs.Meaning.{apply}
 use Rattle.table.specs.declared.words.Term.{Term}
-use Rattle.table.specs.Terms.{termAt, sortAt, scalar}
+use Rattle.table.specs.Terms.{terms, termAt, sortAt, scalar}
 use Rattle.table.specs.Faults.{variable, constant, reading, firstFrom}
 use Rattle.evaluate.specs.declared.turns.Turn.{Turn}
 use Rattle.evaluate.specs.Reads.{readAt, bottomAt}
@@ -25,6 +26,17 @@ turnOf w values count terms front at =
     let x = termAt w at in
     let slot = bottomAt w (x .p) in
     turnBy (reading x) (ltb at terms) at count slot (getD front (x .q) 0) (getD values slot 0)
+
+-- x is the term after those whose numbers are in front
+pub record Next (w front : List ℕ) (x : Term) : Type 0 where
+  pub inside : length front < terms w
+  pub is : x ≡ termAt w (length front)
+
+-- the fields of x name terms of front
+pub record Behind (front : List ℕ) (x : Term) : Type 0 where
+  pub p : x .p < length front
+  pub q : x .q < length front
+  pub r : x .r < length front
 
 -- a variable's number: its slot's value, 0 for an array
 abbrev pub variableNumber : List ℕ → Term → ℕ

@@ -13,6 +13,7 @@ pub use turns::number;
 pub use turns::on;
 pub use turns::step;
 pub use turns::turn_at;
+pub use turns::variable_number;
 ghost use mathlib.Core.Path.{_≡_};
 ghost use Prim.Native.Nat.{_≤_};
 ghost use lib.ListN.{length};

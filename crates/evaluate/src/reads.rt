@@ -9,14 +9,17 @@ pub fn read(table: &[u32], front: &[u32], a: u32, j: u32, cell: u32) -> u32
     requires { ⌜ WellFormed 80000 (now table) ⌝ }
     ensures { λ r. ⌜ r ≡ readAt (now (table .entry)) (now (front .entry)) a j cell ⌝ }
 {
-    let x = table::term_at(table, a);
-    if !table::storing(x) {
-        return cell;
+    let mut at = a;
+    loop {
+        let x = table::term_at(table, at);
+        if !table::storing(x) {
+            return cell;
+        }
+        if number_at(front, x.q) == j {
+            return number_at(front, x.r);
+        }
+        at = x.p;
     }
-    if number_at(front, x.q) == j {
-        return number_at(front, x.r);
-    }
-    read(table, front, x.p, j, cell)
 }
 
 // The slot of the variable beneath the stores of the array term a.

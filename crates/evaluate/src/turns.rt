@@ -2,8 +2,9 @@
 ghost use mathlib.Core.Path.{_≡_};
 ghost use Prim.Native.Nat.{_+_, _≤_, _<_};
 ghost use lib.ListN.{length, take};
+ghost use Rattle.table.specs.Terms as tables;
 ghost use Rattle.table.specs.WellFormed.{WellFormed};
-ghost use Rattle.evaluate.specs.Turns.{turnOf, variableNumber, operatedNumber, numberOf, nextRead, onward, numbered};
+ghost use Rattle.evaluate.specs.Turns.{turnOf, Next, Behind, variableNumber, operatedNumber, numberOf, nextRead, onward, numbered};
 use crate::reads::bottom;
 use crate::reads::read;
 use setting::number_at;
@@ -54,7 +55,7 @@ pub fn turn_at(
     }
 }
 
-fn variable_number(values: &[u32], x: Term) -> u32
+pub fn variable_number(values: &[u32], x: Term) -> u32
     ensures { λ r. ⌜ r ≡ variableNumber (now (values .entry)) x ⌝ }
 {
     if table::scalar(x.sort) {
@@ -66,21 +67,20 @@ fn variable_number(values: &[u32], x: Term) -> u32
 
 fn operated_number(table: &[u32], front: &[u32], x: Term) -> u32
     requires { ⌜ WellFormed 80000 (now table) ⌝ }
+    requires { ⌜ (length (now front) < tables.terms (now table)) × Behind (now front) x ⌝ }
     ensures { λ r. ⌜ r ≡ operatedNumber (now (table .entry)) (now (front .entry)) x ⌝ }
 {
-    let first = table::sort_at(table, x.p);
-    ops::apply(
-        ops::op_of(x.op),
-        first.n,
-        number_at(front, x.p),
-        number_at(front, x.q),
-        number_at(front, x.r),
-    )
+    let first = table::sort_in(table, x.p);
+    let p = x.p as usize;
+    let q = x.q as usize;
+    let r = x.r as usize;
+    ops::apply(ops::op_of(x.op), first.n, front[p], front[q], front[r])
 }
 
 // The value of a term, 0 for an array.
 pub fn number(table: &[u32], values: &[u32], front: &[u32], x: Term, answer: u32) -> u32
     requires { ⌜ WellFormed 80000 (now table) ⌝ }
+    requires { ⌜ Next (now table) (now front) x ⌝ }
     ensures { λ r. ⌜ r ≡ numberOf (now (table .entry)) (now (values .entry)) (now (front .entry)) x answer ⌝ }
 {
     if table::reading(x) {
@@ -105,6 +105,7 @@ pub fn on(
     at: u32,
 ) -> Turn
     requires { ⌜ WellFormed 80000 (now table) ⌝ }
+    requires { ⌜ terms ≡ tables.terms (now table) ⌝ }
     requires { ⌜ (at ≤ terms) × (terms ≤ length (now work)) ⌝ }
     ensures { λ r. ⌜ r ≡ turnOf (now (table .entry)) (now (values .entry)) count terms (take (nextRead (now (table .entry)) terms at) (now (work .exit))) (nextRead (now (table .entry)) terms at) ⌝ }
     ensures { λ r. ⌜ now (work .exit) ≡ onward (now (table .entry)) (numbered (now (table .entry)) (now (values .entry)) 0) terms (now (work .entry)) at ⌝ }
@@ -135,6 +136,7 @@ pub fn step(
     answer: u32,
 ) -> Turn
     requires { ⌜ WellFormed 80000 (now table) ⌝ }
+    requires { ⌜ terms ≡ tables.terms (now table) ⌝ }
     requires { ⌜ (turn .at < terms) × (terms ≤ length (now work)) ⌝ }
     ensures { λ r. ⌜ r ≡ turnOf (now (table .entry)) (now (values .entry)) count terms (take (nextRead (now (table .entry)) terms (turn .at + 1)) (now (work .exit))) (nextRead (now (table .entry)) terms (turn .at + 1)) ⌝ }
     ensures { λ r. ⌜ now (work .exit) ≡ onward (now (table .entry)) (numbered (now (table .entry)) (now (values .entry)) 0) terms (numbered (now (table .entry)) (now (values .entry)) answer (now (work .entry)) (turn .at)) (turn .at + 1) ⌝ }

@@ -1,6 +1,7 @@
-use Rattle.evaluate.specs.Turns.{numberOf}
 use mathlib.Core.Path.{sym, _∙_}
 use borrow.Author.Needs.{needs}
+use Rattle.evaluate.specs.Turns.{numberOf}
+use Rattle.evaluate.proofs.Operands.{behind}
 use Rattle.evaluate.proofs.turns.number.Statement.{statement}
 use Rattle.evaluate.proofs.turns.number.Tie as tie
 
@@ -15,6 +16,12 @@ returns-2 c = rw (sym (c .before .before .before .reading .ensures) ∙ c .befor
 returns-3 : tie.Need-returns-3
 unfolding numberOf
 returns-3 c = c .variable-number .ensures ∙ rw (sym (c .before .before .before .before .before .before .reading .ensures) ∙ c .before .before .before .before .before .if1 .left, sym (c .before .before .before .before .constant .ensures) ∙ c .before .before .before .if2 .left, sym (c .before .before .variable .ensures) ∙ c .before .if3 .taken)
+
+operated-number-requires : tie.Need-operated-number-requires
+operated-number-requires c κs =
+    let s = c .before .before .before .before .before .before .before .before .before in
+    let table = s .args .table .now in
+    (s .pre .0, (s .pre .1 .inside, behind 80000 table (s .args .front .now) (s .args .x) (s .pre .0) (s .pre .1) (sym (c .before .before .before .constant .ensures) ∙ c .before .before .if2 .left) (sym (c .before .variable .ensures) ∙ c .if3 .left)))
 
 returns-4 : tie.Need-returns-4
 unfolding numberOf
@@ -33,5 +40,5 @@ number-spec =
     (λ c κs. search needs)
     (λ c κs. search needs)
     returns-3
-    (λ c κs. search needs)
+    operated-number-requires
     returns-4)

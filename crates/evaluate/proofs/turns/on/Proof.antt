@@ -1,4 +1,4 @@
-use Prim.Native.Nat.{ℕ, _-_}
+use Prim.Native.Nat.{ℕ, _-_, _<_}
 use mathlib.Core.Path.{_≡_, refl, sym, ap, subst, _∙_}
 use mathlib.Core.Bool.{false}
 use mathlib.Core.Logic.{⊎-elim}
@@ -8,6 +8,7 @@ use lib.ListN.{length, length-set, take, set}
 use lib.Seq.{length-take-le}
 use borrow.Author.Needs.{needs}
 use Rattle.table.specs.declared.words.Term.{Term}
+use Rattle.table.specs.Terms.{terms, termAt}
 use Rattle.table.specs.Faults.{reading, firstFrom}
 use Rattle.evaluate.specs.Turns.{turnOf, numberOf, onFrom, readingAt, numbered}
 use Rattle.evaluate.proofs.Onward.{Going, set-out, go-on, stopped, passed}
@@ -23,10 +24,10 @@ abbrev μ-loop : tie.MeasureT-loop
 loop-holds : tie.Need-loop-holds Inv-loop μ-loop
 loop-holds c =
     let s = c .before .before .before in
-    (set-out (readingAt (s .args .table .now)) (numbered (s .args .table .now) (s .args .values .now) 0) (s .args .terms) (s .args .at) (s .args .work .now) (s .pre .1 .0), refl)
+    (set-out (readingAt (s .args .table .now)) (numbered (s .args .table .now) (s .args .values .now) 0) (s .args .terms) (s .args .at) (s .args .work .now) (s .pre .1 .1 .0), refl)
 
 slice-reshare-prefix-number : tie.Need-slice-reshare-prefix-number Inv-loop μ-loop
-slice-reshare-prefix-number c = omega (arith, c .before .before .before .before .loop .inv .1, c .before .before .before .before .before .before .before .before .pre .1 .1, c .before .before .before .loop-test .taken)
+slice-reshare-prefix-number c = omega (arith, c .before .before .before .before .loop .inv .1, c .before .before .before .before .before .before .before .before .pre .1 .1 .1, c .before .before .before .loop-test .taken)
 
 slice-aggregate-number : tie.Need-slice-aggregate-number Inv-loop μ-loop
 slice-aggregate-number c =
@@ -34,10 +35,15 @@ slice-aggregate-number c =
     sym (length-take-le (l .i) (l .work) (slice-reshare-prefix-number (c .before)))
 
 number-requires : tie.Need-number-requires Inv-loop μ-loop
-number-requires c κs = c .before .before .before .before .before .before .before .before .before .pre .0
+number-requires c κs =
+    let s = c .before .before .before .before .before .before .before .before .before in
+    let l = c .before .before .before .before .before .loop in
+    let x = c .before .before .before .term-at in
+    let long : length (take (l .i) (l .work)) ≡ l .i = sym (slice-aggregate-number c) in
+    (s .pre .0, record { inside = subst (λ (k : ℕ). k < terms (s .args .table .now)) (sym long) (omega (arith, c .before .before .before .before .loop-test .taken, s .pre .1 .0)); is = x .ensures ∙ ap (termAt (s .args .table .now)) (sym long) })
 
 slice-write-work : tie.Need-slice-write-work Inv-loop μ-loop
-slice-write-work c = omega (arith, c .before .before .before .before .before .before .loop .inv .1, c .before .before .before .before .before .before .before .before .before .before .pre .1 .1, c .before .before .before .before .before .loop-test .taken)
+slice-write-work c = omega (arith, c .before .before .before .before .before .before .loop .inv .1, c .before .before .before .before .before .before .before .before .before .before .pre .1 .1 .1, c .before .before .before .before .before .loop-test .taken)
 
 loop-less : tie.Need-loop-less Inv-loop μ-loop
 loop-less c = omega (arith, c .before .before .before .before .before .loop-test .taken)
@@ -70,7 +76,7 @@ arrives c =
     (c .loop-test .came)
 
 slice-reshare-prefix-turn-at : tie.Need-slice-reshare-prefix-turn-at Inv-loop μ-loop
-slice-reshare-prefix-turn-at c = omega (arith, c .before .loop .inv .1, c .before .loop .inv .0 .within, c .before .before .before .before .before .pre .1 .1)
+slice-reshare-prefix-turn-at c = omega (arith, c .before .loop .inv .1, c .before .loop .inv .0 .within, c .before .before .before .before .before .pre .1 .1 .1)
 
 slice-aggregate-turn-at : tie.Need-slice-aggregate-turn-at Inv-loop μ-loop
 slice-aggregate-turn-at c =

@@ -1,22 +1,30 @@
-use mathlib.Core.Path.{sym, ap, _∙_}
+use mathlib.Core.Path.{_≡_, sym, ap, subst, _∙_}
 use mathlib.Core.List.{List}
-use Prim.Native.Nat.{ℕ, _+_}
+use Prim.Native.Nat.{ℕ, _+_, _<_}
 use native.Mathlib.Omega.{arith}
-use lib.ListN.{length-set, set, take}
+use lib.ListN.{length, length-set, set, take}
 use lib.Seq.{length-take-le}
 use borrow.Author.Needs.{needs}
 use Rattle.table.specs.declared.words.Term.{Term}
+use Rattle.table.specs.Terms.{terms, termAt}
 use Rattle.evaluate.specs.Turns.{numberOf, onward, numbered}
 use Rattle.evaluate.proofs.turns.step.Statement.{statement}
 use Rattle.evaluate.proofs.turns.step.Tie as tie
 
 slice-aggregate-number : tie.Need-slice-aggregate-number
-slice-aggregate-number c = sym (length-take-le (c .before .before .before .before .args .turn .at) (c .before .before .before .before .args .work .now) (omega (arith, c .before .before .before .before .pre .1)))
+slice-aggregate-number c = sym (length-take-le (c .before .before .before .before .args .turn .at) (c .before .before .before .before .args .work .now) (omega (arith, c .before .before .before .before .pre .1 .1)))
+
+number-requires : tie.Need-number-requires
+number-requires c κs =
+    let s = c .before .before .before .before .before in
+    let a = s .args in
+    let long : length (take (a .turn .at) (a .work .now)) ≡ a .turn .at = sym (slice-aggregate-number (c .before)) in
+    (s .pre .0, record { inside = subst (λ (k : ℕ). k < terms (a .table .now)) (sym long) (omega (arith, s .pre .1 .0, s .pre .1 .1)); is = c .term-at .ensures ∙ ap (termAt (a .table .now)) (sym long) })
 
 on-requires : tie.Need-on-requires
 on-requires c κs =
     let s = c .before .before .before .before .before .before .before in
-    (s .pre .0, (omega (arith, s .pre .1), simp length-set (s .pre .1 .1)))
+    (s .pre .0, (s .pre .1 .0, (omega (arith, s .pre .1 .1), simp length-set (s .pre .1 .1 .1))))
 
 same-length : tie.Need-same-length
 same-length c =
@@ -39,7 +47,7 @@ step-spec =
     (λ c. search needs)
     slice-aggregate-number
     (λ c κs. search needs)
-    (λ c κs. search needs)
+    number-requires
     (λ c. search needs)
     (λ c. search needs)
     (λ c. search needs)

@@ -1,14 +1,19 @@
 -- A read along its chain, value and truth, as each way of the code has found it.
 -- Assumes nothing.
-use mathlib.Core.Path.{_≡_, refl, sym}
+use mathlib.Core.Path.{_≡_, refl, sym, ap, ap₂, _∙_}
 use mathlib.Core.Bool.{Bool, true, false, cond, _&&_}
 use mathlib.Core.List.{List}
 use Prim.Native.Nat.{ℕ, suc}
+use lib.Dec.{eqb}
+use lib.ListN.{getD}
+use Rattle.ops.specs.Condition.{chosen}
+use Rattle.ops.proofs.Booleans.{and-parts}
+use Rattle.table.specs.declared.words.Term.{Term}
 use Rattle.table.specs.Terms.{termAt}
 use Rattle.table.specs.Faults.{storing}
 use Rattle.table.proofs.Stacks.{Stacked, at-end, at-store}
 use Rattle.judge.specs.declared.reads.Reading.{Reading}
-use Rattle.judge.specs.Readings.{truthIn, overlaid, readingWithin, readingAt}
+use Rattle.judge.specs.Readings.{truthIn, overlaid, pickedBy, storedBy, readingWithin, readingAt}
 
 module _ (w front truths : List ℕ) (stacked : Stacked w) (j : ℕ) (cj : Bool) (cell : ℕ) where
   abbrev over : ℕ → Reading → Reading
@@ -27,3 +32,19 @@ module _ (w front truths : List ℕ) (stacked : Stacked w) (j : ℕ) (cj : Bool)
 
   pub reading-store : (a : ℕ) → storing (termAt w a) ≡ true → over a (readingAt w front truths (termAt w a .p) j cj cell) ≡ readingAt w front truths a j cj cell
   reading-store a s = sym (at-store w stacked (λ f k. readingWithin f w front truths k j cj cell) over last reading-law a s)
+
+-- below a store that is picked nothing counts
+
+chosen-picked : (d e same : Bool) → chosen true true d e same ≡ d
+chosen-picked true true true = refl
+chosen-picked true true false = refl
+chosen-picked true false same = refl
+chosen-picked false e same = refl
+
+pub overlaid-picked : (front truths : List ℕ) (x : Term) (j : ℕ) (cj : Bool) (below : Reading) → pickedBy front truths x j cj ≡ true → storedBy front truths x ≡ overlaid front truths x j cj below
+overlaid-picked front truths x j cj below h =
+    let parts = and-parts (truthIn truths (x .q) && cj) (eqb (getD front (x .q) 0) j) h in
+    let vs : getD front (x .r) 0 ≡ cond (eqb (getD front (x .q) 0) j) (getD front (x .r) 0) (below .value) = sym (ap (λ (b : Bool). cond b (getD front (x .r) 0) (below .value)) (parts .1)) in
+    let fs : truthIn truths (x .r) ≡ chosen (truthIn truths (x .q) && cj) (eqb (getD front (x .q) 0) j) (truthIn truths (x .r)) (below .free) (eqb (getD front (x .r) 0) (below .value)) =
+        sym (ap₂ (λ (a b : Bool). chosen a b (truthIn truths (x .r)) (below .free) (eqb (getD front (x .r) 0) (below .value))) (parts .0) (parts .1) ∙ chosen-picked (truthIn truths (x .r)) (below .free) (eqb (getD front (x .r) 0) (below .value))) in
+    λ i. record { value = vs i; free = fs i }

@@ -11,7 +11,7 @@ use Rattle.ops.specs.Condition.{chosen, settles}
 use Rattle.table.specs.declared.words.Term.{Term}
 use Rattle.table.specs.Terms.{termAt, sortAt}
 use Rattle.table.specs.Faults.{variable, constant, reading, storing}
-use Rattle.evaluate.specs.Turns.{numberOf}
+use Rattle.evaluate.specs.Turns.{operatedNumber, numberOf}
 use Rattle.judge.specs.declared.reads.Reading.{Reading}
 use Rattle.judge.specs.Conditions.{ownMarks}
 
@@ -25,6 +25,13 @@ overlaid front truths x j cj below =
       value = cond (eqb (getD front (x .q) 0) j) (getD front (x .r) 0) (below .value);
       free = chosen (truthIn truths (x .q) && cj) (eqb (getD front (x .q) 0) j) (truthIn truths (x .r)) (below .free) (eqb (getD front (x .r) 0) (below .value));
     }
+
+-- whether a free test picks store x, and what the store holds
+abbrev pub pickedBy : List ℕ → List ℕ → Term → ℕ → Bool → Bool
+pickedBy front truths x j cj = truthIn truths (x .q) && cj && eqb (getD front (x .q) 0) j
+
+abbrev pub storedBy : List ℕ → List ℕ → Term → Reading
+storedBy front truths x = record { value = getD front (x .r) 0; free = truthIn truths (x .r) }
 
 -- the read of array term a at j, through at most left terms; cell is what the variable at the end holds there
 unfoldable pub readingWithin : ℕ → List ℕ → List ℕ → List ℕ → ℕ → ℕ → Bool → ℕ → Reading
@@ -41,6 +48,10 @@ readingAt w front truths a j cj cell = readingWithin (suc a) w front truths a j 
 abbrev pub settledBy : List ℕ → List ℕ → List ℕ → Term → Bool
 settledBy w front truths x =
     settles (opOf (x .op)) (sortAt w (x .p) .n) (getD front (x .p) 0) (getD front (x .q) 0) (getD front (x .r) 0) (truthIn truths (x .p)) (truthIn truths (x .q)) (truthIn truths (x .r))
+
+-- both of it
+abbrev pub operatedReading : List ℕ → List ℕ → List ℕ → Term → Reading
+operatedReading w front truths x = record { value = operatedNumber w front x; free = settledBy w front truths x }
 
 -- the truth of a term that is no read
 abbrev pub truthOf : List ℕ → List ℕ → List ℕ → Term → Bool

@@ -2,7 +2,7 @@
 ghost use mathlib.Core.Path.{_≡_};
 ghost use mathlib.Core.Bool.{_&&_};
 ghost use Rattle.table.specs.WellFormed.{WellFormed};
-ghost use Rattle.judge.specs.Readings.{truthIn, overlaid, readingAt};
+ghost use Rattle.judge.specs.Readings.{truthIn, overlaid, pickedBy, storedBy, readingAt};
 use setting::number_at;
 use table::Term;
 
@@ -39,8 +39,25 @@ fn overlay(front: &[u32], truths: &[u32], x: Term, j: u32, cj: bool, below: Read
     }
 }
 
+// Whether a store is picked by a free test: nothing beneath it counts.
+fn picked(front: &[u32], truths: &[u32], x: Term, j: u32, cj: bool) -> bool
+    ensures { λ r. ⌜ r ≡ pickedBy (now (front .entry)) (now (truths .entry)) x j cj ⌝ }
+{
+    truth_at(truths, x.q) & cj & (number_at(front, x.q) == j)
+}
+
+// What a store holds.
+fn stored(front: &[u32], truths: &[u32], x: Term) -> Reading
+    ensures { λ r. ⌜ r ≡ storedBy (now (front .entry)) (now (truths .entry)) x ⌝ }
+{
+    Reading {
+        value: number_at(front, x.r),
+        free: truth_at(truths, x.r),
+    }
+}
+
 // The read of the array term a at index j, whose condition is cj, the outermost store first; cell is that of the variable
-// beneath the stores.
+// beneath the stores. Below a store that is picked nothing counts.
 pub fn read(
     table: &[u32],
     front: &[u32],
@@ -60,12 +77,9 @@ pub fn read(
             free: truth_at(truths, a) & cj,
         };
     }
-    overlay(
-        front,
-        truths,
-        x,
-        j,
-        cj,
-        read(table, front, truths, x.p, j, cj, cell),
-    )
+    if picked(front, truths, x, j, cj) {
+        return stored(front, truths, x);
+    }
+    let below = read(table, front, truths, x.p, j, cj, cell);
+    overlay(front, truths, x, j, cj, below)
 }

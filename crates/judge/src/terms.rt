@@ -2,9 +2,10 @@
 ghost use mathlib.Core.Path.{_≡_};
 ghost use Prim.Native.Nat.{_+_, _≤_, _<_};
 ghost use lib.ListN.{length, take};
+ghost use Rattle.table.specs.Terms as tables;
 ghost use Rattle.table.specs.WellFormed.{WellFormed};
-ghost use Rattle.evaluate.specs.Turns.{turnOf, nextRead, onward};
-ghost use Rattle.judge.specs.Readings.{settledBy, truthOf, readingOf, readingHere, written, noted};
+ghost use Rattle.evaluate.specs.Turns.{turnOf, nextRead, onward, Next, Behind};
+ghost use Rattle.judge.specs.Readings.{operatedReading, readingOf, readingHere, written, noted};
 use crate::reads::Reading;
 use crate::reads::read;
 use crate::reads::truth_at;
@@ -12,36 +13,26 @@ use evaluate::Turn;
 use setting::number_at;
 use table::Term;
 
-// The truth of an operator's condition.
-fn settled(table: &[u32], front: &[u32], truths: &[u32], x: Term) -> bool
+// Value and truth of an operator.
+fn operated(table: &[u32], front: &[u32], truths: &[u32], x: Term) -> Reading
     requires { ⌜ WellFormed 80000 (now table) ⌝ }
-    ensures { λ r. ⌜ r ≡ settledBy (now (table .entry)) (now (front .entry)) (now (truths .entry)) x ⌝ }
+    requires { ⌜ (length (now front) < tables.terms (now table)) × Behind (now front) x ⌝ }
+    requires { ⌜ length (now truths) ≡ length (now front) ⌝ }
+    ensures { λ r. ⌜ r ≡ operatedReading (now (table .entry)) (now (front .entry)) (now (truths .entry)) x ⌝ }
 {
-    let first = table::sort_at(table, x.p);
-    ops::settles(
-        ops::op_of(x.op),
-        first.n,
-        number_at(front, x.p),
-        number_at(front, x.q),
-        number_at(front, x.r),
-        truth_at(truths, x.p),
-        truth_at(truths, x.q),
-        truth_at(truths, x.r),
-    )
-}
-
-// The truth of the condition of a term that is no read.
-fn truth(table: &[u32], front: &[u32], truths: &[u32], x: Term) -> bool
-    requires { ⌜ WellFormed 80000 (now table) ⌝ }
-    ensures { λ r. ⌜ r ≡ truthOf (now (table .entry)) (now (front .entry)) (now (truths .entry)) x ⌝ }
-{
-    if table::constant(x) {
-        return true;
+    let n = table::sort_in(table, x.p).n;
+    let op = ops::op_of(x.op);
+    let p = x.p as usize;
+    let q = x.q as usize;
+    let r = x.r as usize;
+    let a = front[p];
+    let b = front[q];
+    let c = front[r];
+    let free = ops::settles(op, n, a, b, c, truths[p] == 1, truths[q] == 1, truths[r] == 1);
+    Reading {
+        value: ops::apply(op, n, a, b, c),
+        free,
     }
-    if table::variable(x) {
-        return x.q != 1;
-    }
-    settled(table, front, truths, x)
 }
 
 // Value and truth of a term.
@@ -54,6 +45,8 @@ fn reading_of(
     answer: u32,
 ) -> Reading
     requires { ⌜ WellFormed 80000 (now table) ⌝ }
+    requires { ⌜ Next (now table) (now front) x ⌝ }
+    requires { ⌜ length (now truths) ≡ length (now front) ⌝ }
     ensures { λ r. ⌜ r ≡ readingOf (now (table .entry)) (now (values .entry)) (now (front .entry)) (now (truths .entry)) x answer ⌝ }
 {
     if table::reading(x) {
@@ -61,10 +54,19 @@ fn reading_of(
         let free = truth_at(truths, x.q);
         return read(table, front, truths, x.p, index, free, answer);
     }
-    Reading {
-        value: evaluate::number(table, values, front, x, answer),
-        free: truth(table, front, truths, x),
+    if table::constant(x) {
+        return Reading {
+            value: x.p,
+            free: true,
+        };
     }
+    if table::variable(x) {
+        return Reading {
+            value: evaluate::variable_number(values, x),
+            free: x.q != 1,
+        };
+    }
+    operated(table, front, truths, x)
 }
 
 // The same at a place of the room: the numbers stand at its front, the truths from number terms on.
@@ -77,6 +79,7 @@ fn reading_here(
     answer: u32,
 ) -> Reading
     requires { ⌜ WellFormed 80000 (now table) ⌝ }
+    requires { ⌜ terms ≡ tables.terms (now table) ⌝ }
     requires { ⌜ (at < terms) × (terms + at ≤ length (now room)) ⌝ }
     ensures { λ r. ⌜ r ≡ readingHere (now (table .entry)) (now (values .entry)) terms (now (room .entry)) at answer ⌝ }
 {
@@ -110,6 +113,7 @@ pub fn on(
     at: u32,
 ) -> Turn
     requires { ⌜ WellFormed 80000 (now table) ⌝ }
+    requires { ⌜ terms ≡ tables.terms (now table) ⌝ }
     requires { ⌜ (at ≤ terms) × (terms + terms ≤ length (now work)) ⌝ }
     ensures { λ r. ⌜ r ≡ turnOf (now (table .entry)) (now (values .entry)) count terms (take (nextRead (now (table .entry)) terms at) (now (work .exit))) (nextRead (now (table .entry)) terms at) ⌝ }
     ensures { λ r. ⌜ now (work .exit) ≡ onward (now (table .entry)) (noted (now (table .entry)) (now (values .entry)) terms 0) terms (now (work .entry)) at ⌝ }
@@ -138,6 +142,7 @@ pub fn step(
     answer: u32,
 ) -> Turn
     requires { ⌜ WellFormed 80000 (now table) ⌝ }
+    requires { ⌜ terms ≡ tables.terms (now table) ⌝ }
     requires { ⌜ (turn .at < terms) × (terms + terms ≤ length (now work)) ⌝ }
     ensures { λ r. ⌜ r ≡ turnOf (now (table .entry)) (now (values .entry)) count terms (take (nextRead (now (table .entry)) terms (turn .at + 1)) (now (work .exit))) (nextRead (now (table .entry)) terms (turn .at + 1)) ⌝ }
     ensures { λ r. ⌜ now (work .exit) ≡ onward (now (table .entry)) (noted (now (table .entry)) (now (values .entry)) terms 0) terms (noted (now (table .entry)) (now (values .entry)) terms answer (now (work .entry)) (turn .at)) (turn .at + 1) ⌝ }

@@ -50,7 +50,7 @@ step-requires c κs =
     let l = c .before .before .before .loop in
     let n = c .before .before .before .before .before .before .count in
     let long = fills.same-length (a .table .now) (a .values .now) (cellAt (a .cells .now)) (length (a .cells .now) / 3) (n .result) (a .work .now) 80000 (s .pre .0) (n .ensures) (enough (c .before .before)) (l .work) (l .turn) (l .inv) in
-    (s .pre .0, (going (n .result) (filled (a .table .now) (a .values .now) (cellAt (a .cells .now)) (length (a .cells .now) / 3) (n .result) (a .work .now)) (asking (a .table .now) (a .values .now) (cellAt (a .cells .now)) (length (a .cells .now) / 3) (n .result) (a .work .now)) (length (a .cells .now) / 3) (asks (a .table .now) (a .values .now) (cellAt (a .cells .now)) (length (a .cells .now) / 3) (n .result) (a .work .now)) (l .work) (l .turn) (l .inv) (c .before .before .loop-test .taken), subst (λ (k : ℕ). n .result + n .result ≤ k) (sym long) (enough (c .before .before))))
+    (s .pre .0, (n .ensures, (going (n .result) (filled (a .table .now) (a .values .now) (cellAt (a .cells .now)) (length (a .cells .now) / 3) (n .result) (a .work .now)) (asking (a .table .now) (a .values .now) (cellAt (a .cells .now)) (length (a .cells .now) / 3) (n .result) (a .work .now)) (length (a .cells .now) / 3) (asks (a .table .now) (a .values .now) (cellAt (a .cells .now)) (length (a .cells .now) / 3) (n .result) (a .work .now)) (l .work) (l .turn) (l .inv) (c .before .before .loop-test .taken), subst (λ (k : ℕ). n .result + n .result ≤ k) (sym long) (enough (c .before .before)))))
 
 loop-less : tie.Need-loop-less Inv-loop μ-loop
 loop-less c =

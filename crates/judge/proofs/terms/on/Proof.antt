@@ -25,14 +25,14 @@ loop-holds : tie.Need-loop-holds Inv-loop μ-loop
 loop-holds c =
     let s = c .before .before .before in
     let a = s .args in
-    (set-out (readingAt (a .table .now)) (noted (a .table .now) (a .values .now) (a .terms) 0) (a .terms) (a .at) (a .work .now) (s .pre .1 .0), refl)
+    (set-out (readingAt (a .table .now)) (noted (a .table .now) (a .values .now) (a .terms) 0) (a .terms) (a .at) (a .work .now) (s .pre .1 .1 .0), refl)
 
 -- the room is long enough
 enough : (c : tie.In-loop Inv-loop μ-loop) → c .before .before .before .before .before .args .terms + c .before .before .before .before .before .args .terms ≤ length (c .before .loop .work)
-enough c = omega (arith, c .before .loop .inv .1, c .before .before .before .before .before .pre .1 .1)
+enough c = omega (arith, c .before .loop .inv .1, c .before .before .before .before .before .pre .1 .1 .1)
 
 reading-here-requires : tie.Need-reading-here-requires Inv-loop μ-loop
-reading-here-requires c κs = (c .before .before .before .before .before .before .before .before .before .pre .0, (c .before .before .before .before .loop-test .taken, omega (arith, enough (c .before .before .before .before), c .before .before .before .before .loop-test .taken)))
+reading-here-requires c κs = (c .before .before .before .before .before .before .before .before .before .pre .0, (c .before .before .before .before .before .before .before .before .before .pre .1 .0, (c .before .before .before .before .loop-test .taken, omega (arith, enough (c .before .before .before .before), c .before .before .before .before .loop-test .taken))))
 
 note-requires : tie.Need-note-requires Inv-loop μ-loop
 note-requires c κs = (c .before .before .before .before .before .before .loop-test .taken, enough (c .before .before .before .before .before .before))
@@ -64,7 +64,7 @@ arrives c =
     (c .loop-test .came)
 
 slice-reshare-prefix-turn-at : tie.Need-slice-reshare-prefix-turn-at Inv-loop μ-loop
-slice-reshare-prefix-turn-at c = omega (arith, c .before .loop .inv .1, c .before .loop .inv .0 .within, c .before .before .before .before .before .pre .1 .1)
+slice-reshare-prefix-turn-at c = omega (arith, c .before .loop .inv .1, c .before .loop .inv .0 .within, c .before .before .before .before .before .pre .1 .1 .1)
 
 slice-aggregate-turn-at : tie.Need-slice-aggregate-turn-at Inv-loop μ-loop
 slice-aggregate-turn-at c =

@@ -1,17 +1,26 @@
 use Rattle.judge.specs.Readings.{readingOf}
-use Rattle.table.specs.Terms.{termAt}
+use Rattle.table.specs.Terms.{terms, termAt}
 use Rattle.table.specs.declared.words.Term.{Term}
 use lib.Seq.{length-take-le}
-use lib.ListN.{take, drop}
+use lib.ListN.{length, take, drop, length-drop}
 use native.Mathlib.Omega.{arith}
-use mathlib.Core.Path.{_≡_, sym, ap, _∙_}
-use Prim.Native.Nat.{ℕ, _+_, _-_}
+use mathlib.Core.Path.{_≡_, sym, ap, subst, _∙_}
+use Prim.Native.Nat.{ℕ, _+_, _-_, _<_}
 use borrow.Author.Needs.{needs}
 use Rattle.judge.proofs.terms.reading_here.Statement.{statement}
 use Rattle.judge.proofs.terms.reading_here.Tie as tie
 
 slice-aggregate-reading-of : tie.Need-slice-aggregate-reading-of
-slice-aggregate-reading-of c = sym (length-take-le (c .before .before .before .before .before .args .at) (c .before .before .before .before .before .args .room .now) (omega (arith, c .before .before .before .before .before .pre .1)))
+slice-aggregate-reading-of c = sym (length-take-le (c .before .before .before .before .before .args .at) (c .before .before .before .before .before .args .room .now) (omega (arith, c .before .before .before .before .before .pre .1 .1)))
+
+reading-of-requires : tie.Need-reading-of-requires
+reading-of-requires c κs =
+    let s = c .before .before .before .before .before .before in
+    let a = s .args in
+    let front : length (take (a .at) (a .room .now)) ≡ a .at = length-take-le (a .at) (a .room .now) (omega (arith, s .pre .1 .1)) in
+    let e : a .terms + a .at - a .terms ≡ a .at = omega arith in
+    let truths : length (take (a .terms + a .at - a .terms) (drop (a .terms) (a .room .now))) ≡ a .terms + a .at - a .terms = length-take-le _ (drop (a .terms) (a .room .now)) (rw length-drop (omega (arith, s .pre .1 .1))) in
+    (s .pre .0, (record { inside = subst (λ (k : ℕ). k < terms (a .table .now)) (sym front) (omega (arith, s .pre .1 .0, s .pre .1 .1)); is = c .before .before .term-at .ensures ∙ ap (termAt (a .table .now)) (sym front) }, truths ∙ e ∙ sym front))
 
 returns : tie.Need-returns
 returns c =
@@ -32,5 +41,5 @@ reading-here-spec =
     (λ c. search needs)
     (λ c. search needs)
     (λ c. search needs)
-    (λ c κs. search needs)
+    reading-of-requires
     returns)

@@ -65,7 +65,6 @@ pub record Held (t l : List ℕ) (top k : ℕ) : Type 0 where
 -- an entry is an earlier variable; of each earlier variable one is held
 pub record Latest (t : List ℕ) (i : ℕ) (l : List ℕ) (top : ℕ) : Type 0 where
   pub size : length l ≡ 256
-  pub bound : top ≤ 256
   pub sound : (s f : ℕ) → getD l s 0 ≡ suc f → (f < i) × (variable (termAt t f) ≡ true)
   pub complete : (k : ℕ) → k < i → claims (termAt t k) ≡ true → Held t l top k
 
@@ -83,7 +82,6 @@ none-yet : (t : List ℕ) → Latest t 0 empty 0
 none-yet t =
     record {
       size = refl;
-      bound = omega arith;
       sound = λ s f e. let z : 0 ≡ suc f = sym (zeros s) ∙ e in absurd (omega arith);
       complete = λ k b v. absurd (not-suc-le-zero b);
     }
@@ -94,7 +92,6 @@ module _ (t : List ℕ) (i : ℕ) (l : List ℕ) (top : ℕ) (h : Latest t i l t
   passed no-claim =
       record {
         size = h .size;
-        bound = h .bound;
         sound = λ s f e. let b = h .sound s f e in (let c : f < i = b .0 in omega arith, b .1);
         complete = λ k b v. go k b v (decLt k i);
       }
@@ -147,7 +144,6 @@ module _ (t : List ℕ) (i : ℕ) (l : List ℕ) (top : ℕ) (h : Latest t i l t
     noted none =
         record {
           size = length-set l (slotOf t i) (i + 1) ∙ h .size;
-          bound = omega (arith, low, h .bound);
           sound = λ s f e. sound s f e (ℕ-discrete s (slotOf t i));
           complete = λ k b w. complete k b w (decLt k i);
         }
@@ -209,9 +205,6 @@ started t n =
 module _ (t : List ℕ) (n : ℕ) (l : List ℕ) (top i : ℕ) (h : Searched t n l top i) where
   pub entries : length l ≡ 256
   entries = h .held .size
-
-  pub top-bound : top ≤ 256
-  top-bound = h .held .bound
 
   pub all-clean : n ≤ i → n ≡ firstClash t n
   all-clean end =

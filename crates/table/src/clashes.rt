@@ -1,11 +1,13 @@
 // Refusal 8: the first variable with an earlier one of its slot that has another sort or mark.
 ghost use mathlib.Core.Path.{_≡_};
-ghost use Prim.Native.Nat.{max};
+ghost use Prim.Native.Nat.{max, min, _*_, _≤_};
+ghost use lib.ListN.{length};
 ghost use Rattle.table.specs.Faults.{conflicts, claims, recalls, firstClash};
 use crate::ranks::variable;
 use crate::sorts::same_sort;
 use crate::words::Term;
 use crate::words::term_at;
+use crate::words::term_in;
 
 // One slot, and another sort or mark.
 fn conflicts(a: Term, x: Term) -> bool
@@ -38,25 +40,30 @@ fn most(a: usize, b: usize) -> usize
     if a < b { b } else { a }
 }
 
+fn least(a: usize, b: usize) -> usize
+    ensures { λ r. ⌜ r ≡ min a b ⌝ }
+{
+    if a < b { a } else { b }
+}
+
 // The first variable that clashes with an earlier one, else the count of terms. The earlier variables stand by slot:
-// earlier holds, for each slot below top, the number of its latest variable and one. Those before it are no different. Only one of the
-// variable's own slot is asked.
+// earlier holds, for each slot below top, the number of its latest variable and one. Those before it are no different.
+// Of the slots below top only the variable's own is asked.
 pub fn first_clash(table: &[u32], terms: u32) -> u32
+    requires { ⌜ terms * 6 ≤ length (now table) ⌝ }
     ensures { λ r. ⌜ r ≡ firstClash (now (table .entry)) terms ⌝ }
 {
     let mut earlier = [0u32; 256];
     let mut top = 0usize;
     let mut at = terms;
     'variables: for i in 0..terms {
-        let x = term_at(table, i);
+        let x = term_in(table, i);
         if !claims(x) {
             continue;
         }
         let slot = x.p as usize;
-        for s in 0..top {
-            if s != slot {
-                continue;
-            }
+        let end = least(top, slot + 1);
+        for s in slot..end {
             if recalls(table, earlier[s], x) {
                 at = i;
                 break 'variables;

@@ -1,4 +1,3 @@
 pub mod Looks
 pub mod Latest
-pub mod Backward
 pub mod Checked

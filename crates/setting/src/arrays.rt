@@ -25,7 +25,7 @@ pub fn fill_entries(table: &[u32], entries: &mut [u32; 256])
 {
     let terms = table::count(table);
     for i in 0..terms {
-        let x = table::term_at(table, i);
+        let x = table::term_in(table, i);
         if !array_variable(x) {
             continue;
         }

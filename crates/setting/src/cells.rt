@@ -53,6 +53,16 @@ pub fn look(cells: &[u32], count: usize, slot: u32, index: u32, other: u32) -> u
     other
 }
 
+// The lower of 14 and 15 that refuses a cell, and 0 where none does.
+fn cell_fault(table: &[u32], entries: &[u32; 256], c: Cell) -> u32
+    requires { ⌜ Entries (now table) (terms (now table)) (now entries) ⌝ }
+    ensures { λ r. ⌜ r ≡ cellFault (now (table .entry)) c ⌝ }
+{
+    let sort = slot_sort(table, entries, c.slot);
+    let fitting = ops::fits(sort.m, c.index) & ops::fits(sort.n, c.value);
+    refuse(14, table::array(sort), refuse(15, fitting, 0))
+}
+
 // Cell k is checked before the rest.
 pub fn checked_cell(
     table: &[u32],
@@ -64,24 +74,22 @@ pub fn checked_cell(
     requires { ⌜ Entries (now table) (terms (now table)) (now entries) ⌝ }
     ensures { λ r. ⌜ r ≡ refusedBy (cellFault (now (table .entry)) c) k rest ⌝ }
 {
-    let sort = slot_sort(table, entries, c.slot);
-    let fitting = ops::fits(sort.m, c.index) & ops::fits(sort.n, c.value);
-    let number = refuse(14, table::array(sort), refuse(15, fitting, 0));
-    table::refused_by(number, k, rest)
+    table::refused_by(cell_fault(table, entries, c), k, rest)
 }
 
-// The cells, from the last to the first, so that the first has the last word.
+// The cells in order.
 pub fn cells_checked(table: &[u32], cells: &[u32]) -> Admission
     requires { ⌜ WellFormed 80000 (now table) ⌝ }
     ensures { λ r. ⌜ r ≡ scan (λ k. cellFault (now (table .entry)) (cellAt (now (cells .entry)) k)) (length (now (cells .entry)) / 3) 0 Admitted ⌝ }
 {
     let mut entries = [0u32; 256];
     fill_entries(table, &mut entries);
-    let mut rest = Admission::Admitted;
-    let mut k = cells.len() / 3;
-    while 0 < k {
-        k -= 1;
-        rest = checked_cell(table, &entries, cell_at(cells, k), k as u64, rest);
+    let listed = cells.len() / 3;
+    for k in 0..listed {
+        let number = cell_fault(table, &entries, cell_at(cells, k));
+        if number != 0 {
+            return table::refused(number, k as u64);
+        }
     }
-    rest
+    Admission::Admitted
 }

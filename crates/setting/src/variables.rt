@@ -36,7 +36,7 @@ pub fn variables_checked(table: &[u32], values: &[u32], rest: Admission) -> Admi
 {
     let terms = table::count(table);
     for i in 0..terms {
-        let number = variable_fault(values, table::term_at(table, i));
+        let number = variable_fault(values, table::term_in(table, i));
         if number != 0 {
             return table::refused(number, i as u64);
         }

@@ -23,6 +23,10 @@ loop-holds c =
     let s = c .before .before in
     (omega arith, subst (λ (l : List ℕ). Entries (s .args .table .now) 0 l) (sym (s .pre .1)) (none-yet (s .args .table .now)))
 
+-- the table has term i whole
+term-in-requires : tie.Need-term-in-requires Inv-loop μ-loop
+term-in-requires c κs = omega (arith, c .loop-test .taken, c .before .before .count .ensures)
+
 add-i : tie.Need-add-i Inv-loop μ-loop
 add-i c = omega arith
 
@@ -33,15 +37,15 @@ loop-again : tie.Need-loop-again Inv-loop μ-loop
 loop-again c =
     let t = c .before .before .before .before .before .before .before .args .table .now in
     let l = c .before .before .before .before .loop in
-    let x = c .before .before .term-at in
+    let x = c .before .before .term-in in
     (omega arith, passed t (l .i) (l .entries) (l .inv .1) (x .result) (x .ensures) (sym (c .before .array-variable .ensures) ∙ not-true _ (c .if1 .taken)))
 
 -- the variable that is noted has a slot up to 255
-low : (c : tie.After-struct-known Inv-loop μ-loop) → c .before .before .before .term-at .result .p < 256
+low : (c : tie.After-struct-known Inv-loop μ-loop) → c .before .before .before .term-in .result .p < 256
 low c =
     let t = c .before .before .before .before .before .before .before .before .args .table .now in
     let l = c .before .before .before .before .before .loop in
-    let x = c .before .before .before .term-at in
+    let x = c .before .before .before .term-in in
     low-slot t (l .i) (l .entries) (l .inv .1) (x .result) (x .ensures) (sym (c .before .before .array-variable .ensures) ∙ not-false _ (c .before .if1 .left))
 
 cast-slot : tie.Need-cast-slot Inv-loop μ-loop
@@ -60,7 +64,7 @@ loop-again-2 : tie.Need-loop-again-2 Inv-loop μ-loop
 loop-again-2 c =
     let t = c .before .before .before .before .before .before .before .before .args .table .now in
     let l = c .before .before .before .before .before .loop in
-    let x = c .before .before .before .term-at in
+    let x = c .before .before .before .term-in in
     (omega arith, noted t (l .i) (l .entries) (l .inv .1) (x .result) (x .ensures) (sym (c .before .before .array-variable .ensures) ∙ not-false _ (c .before .if1 .left)))
 
 returns : tie.Need-returns Inv-loop μ-loop
@@ -77,7 +81,7 @@ fill-entries-spec =
     μ-loop
     count-requires
     loop-holds
-    (λ c κs. search needs)
+    term-in-requires
     (λ c κs. search needs)
     add-i
     loop-less

@@ -4,19 +4,17 @@ use native.Mathlib.Omega.{arith}
 use lib.ListN.{length}
 use borrow.Author.Needs.{needs}
 use Rattle.table.specs.declared.Admission.the-variants.{Admitted}
-use Rattle.table.specs.Admission.{refusedBy}
-use Rattle.setting.specs.declared.cells.Cell.{Cell}
+use Rattle.table.proofs.Scans.{Scanned, begun, on, stop, through}
 use Rattle.setting.specs.Cells.{cellAt}
 use Rattle.setting.specs.Check.{cellFault}
-use Rattle.setting.proofs.Backward.{Known, at-end, one-before, at-start}
 use Rattle.setting.proofs.cells.cells_checked.Statement.{statement}
 use Rattle.setting.proofs.cells.cells_checked.Tie as tie
 
 abbrev Inv-loop : tie.InvT-loop
-Inv-loop table cells entries rest₀ k₀ rest k = Known (λ i. cellFault table (cellAt cells i)) (length cells / 3) Admitted k rest
+Inv-loop table cells entries listed k₀ k = Scanned (λ i. cellFault table (cellAt cells i)) (length cells / 3) Admitted k
 
 abbrev μ-loop : tie.MeasureT-loop
-μ-loop table cells entries rest₀ k₀ rest k = k
+μ-loop table cells entries listed k₀ k = listed - k
 
 fill-entries-requires : tie.Need-fill-entries-requires Inv-loop μ-loop
 fill-entries-requires c κs = (c .before .before .before .pre, refl)
@@ -24,26 +22,40 @@ fill-entries-requires c κs = (c .before .before .before .pre, refl)
 loop-holds : tie.Need-loop-holds Inv-loop μ-loop
 loop-holds c =
     let a = c .before .before .before .before .args in
-    at-end (λ i. cellFault (a .table .now) (cellAt (a .cells .now) i)) (length (a .cells .now) / 3) Admitted
+    begun (λ i. cellFault (a .table .now) (cellAt (a .cells .now) i)) (length (a .cells .now) / 3) Admitted
 
 cell-at-requires : tie.Need-cell-at-requires Inv-loop μ-loop
-cell-at-requires c κs = omega (arith, c .before .before .loop .inv .within, c .before .loop-test .taken)
+cell-at-requires c κs = omega (arith, c .before .loop-test .taken)
 
-checked-cell-requires : tie.Need-checked-cell-requires Inv-loop μ-loop
-checked-cell-requires c κs = c .before .before .before .before .fill-entries .ensures
+cell-fault-requires : tie.Need-cell-fault-requires Inv-loop μ-loop
+cell-fault-requires c κs = c .before .before .before .before .fill-entries .ensures
 
-loop-again : tie.Need-loop-again Inv-loop μ-loop
-loop-again c =
+-- what the code computes of a cell is the definition's
+tested : (c : tie.After-cell-fault Inv-loop μ-loop) →
     let a = c .before .before .before .before .before .before .before .before .before .args in
-    let l = c .before .before .before .before .loop in
-    one-before (λ i. cellFault (a .table .now) (cellAt (a .cells .now) i)) (length (a .cells .now) / 3) Admitted (l .k) (l .rest) _ (c .before .before .before .loop-test .taken) (l .inv)
-    (c .checked-cell .ensures ∙ ap (λ (d : Cell). refusedBy (cellFault (a .table .now) d) (l .k - 1) (l .rest)) (c .before .cell-at .ensures))
+    c .cell-fault .result ≡ cellFault (a .table .now) (cellAt (a .cells .now) (c .before .before .before .before .loop .k))
+tested c = c .cell-fault .ensures ∙ ap (cellFault (c .before .before .before .before .before .before .before .before .before .args .table .now)) (c .before .cell-at .ensures)
 
 returns : tie.Need-returns Inv-loop μ-loop
 returns c =
+    let a = c .before .before .before .before .before .before .before .before .before .before .before .args in
+    let l = c .before .before .before .before .before .before .loop in
+    c .refused .ensures
+    ∙ stop (λ i. cellFault (a .table .now) (cellAt (a .cells .now) i)) (length (a .cells .now) / 3) Admitted (l .k) (l .inv) (c .before .before .before .before .before .loop-test .taken)
+    (c .before .before .cell-fault .result) (tested (c .before .before)) (c .before .if1 .taken)
+
+loop-again : tie.Need-loop-again Inv-loop μ-loop
+loop-again c =
+    let a = c .before .before .before .before .before .before .before .before .before .before .args in
+    let l = c .before .before .before .before .before .loop in
+    on (λ i. cellFault (a .table .now) (cellAt (a .cells .now) i)) (length (a .cells .now) / 3) Admitted (l .k) (l .inv) (c .before .before .before .before .loop-test .taken)
+    (c .before .cell-fault .result) (tested (c .before)) (c .if1 .left)
+
+returns-2 : tie.Need-returns-2 Inv-loop μ-loop
+returns-2 c =
     let a = c .before .before .before .before .before .before .args in
     let l = c .before .loop in
-    at-start (λ i. cellFault (a .table .now) (cellAt (a .cells .now) i)) (length (a .cells .now) / 3) Admitted (l .rest) (l .k) (c .loop-test .left) (l .inv)
+    through (λ i. cellFault (a .table .now) (cellAt (a .cells .now) i)) (length (a .cells .now) / 3) Admitted (l .k) (l .inv) (c .loop-test .left)
 
 pub cells-checked-spec : {M : Type 1} → statement M
 cells-checked-spec =
@@ -53,9 +65,11 @@ cells-checked-spec =
     μ-loop
     fill-entries-requires
     loop-holds
-    (λ c. omega arith)
     cell-at-requires
-    checked-cell-requires
+    cell-fault-requires
+    (λ c κs. search needs)
+    returns
+    (λ c. omega arith)
     (λ c. omega arith)
     loop-again
-    returns)
+    returns-2)

@@ -24,12 +24,16 @@ loop-holds c =
     let a = c .before .before .before .args in
     begun (λ k. variableFault (a .values .now) (termAt (a .table .now) k)) (c .count .result) (a .rest)
 
+-- the table has term i whole
+term-in-requires : tie.Need-term-in-requires Inv-loop μ-loop
+term-in-requires c κs = omega (arith, c .loop-test .taken, c .before .before .count .ensures)
+
 -- what the code computes of a term is the definition's
 tested : (c : tie.After-variable-fault Inv-loop μ-loop) →
     c .variable-fault .result ≡ variableFault (c .before .before .before .before .before .before .before .args .values .now) (termAt (c .before .before .before .before .before .before .before .args .table .now) (c .before .before .before .loop .i))
 tested c =
     c .variable-fault .ensures
-    ∙ ap (variableFault (c .before .before .before .before .before .before .before .args .values .now)) (c .before .term-at .ensures)
+    ∙ ap (variableFault (c .before .before .before .before .before .before .before .args .values .now)) (c .before .term-in .ensures)
 
 returns : tie.Need-returns Inv-loop μ-loop
 returns c =
@@ -65,7 +69,7 @@ variables-checked-spec =
     μ-loop
     count-requires
     loop-holds
-    (λ c κs. search needs)
+    term-in-requires
     (λ c κs. search needs)
     (λ c. omega arith)
     (λ c κs. search needs)

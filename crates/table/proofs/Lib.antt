@@ -11,3 +11,4 @@ pub mod Places
 pub mod OpNumbers
 pub mod Operands
 pub mod FaultOrder
+pub mod ThreeSorts

@@ -1,7 +1,7 @@
 // The three sorts.
 ghost use mathlib.Core.Path.{_≡_};
 ghost use Rattle.table.specs.Terms.{boolean, vector, scalar, array, vectorOf, sameSort};
-ghost use Rattle.table.specs.Faults.{width, sorted};
+ghost use Rattle.table.specs.Faults.{sorted};
 use crate::words::Sort;
 
 pub fn boolean(s: Sort) -> bool
@@ -41,15 +41,9 @@ pub fn same_sort(a: Sort, b: Sort) -> bool
     (a.m == b.m) & (a.n == b.n)
 }
 
-fn width(n: u32) -> bool
-    ensures { λ r. ⌜ r ≡ width n ⌝ }
-{
-    (0 < n) & (n <= 32)
-}
-
-// One of the three sorts.
+// One of the three sorts: widths up to 32, and an array's not 0.
 pub fn sorted(s: Sort) -> bool
     ensures { λ r. ⌜ r ≡ sorted s ⌝ }
 {
-    boolean(s) | ((s.m == 0) & width(s.n)) | (width(s.m) & width(s.n))
+    (s.m <= 32) & (s.n <= 32) & ((s.m == 0) | (0 < s.n))
 }

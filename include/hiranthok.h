@@ -2,7 +2,8 @@
  * Hiranthok: a verified checker for rules with marked inputs.
  *
  * A rule is a table of terms, six 32-bit numbers a term: op, index width m, width n, fields p, q, r. A setting is a row of values by
- * slot and a row of cells, three numbers a cell: slot, index, value. All lengths count numbers, not bytes.
+ * slot and a row of cells, three numbers a cell: slot, index, value. All lengths count numbers, not bytes; of a row
+ * of records, the records.
  *
  * Every function takes any input and answers 0, or the number of the first refusal; then answer[0] is the refusal's place, the
  * rest of answer is 0, and no lent number but those of answer has changed. Where it answers 0, answer holds the results that
@@ -53,6 +54,22 @@ uint32_t hiranthok_evaluate(const uint32_t *table, size_t table_len, const uint3
 uint32_t hiranthok_judge(const uint32_t *table, size_t table_len, const uint32_t *values, size_t values_len,
                          const uint32_t *cells, size_t cells_len, uint64_t allowance, uint32_t *work, size_t work_len,
                          uint64_t answer[4]);
+
+/* A cell as a record. */
+struct hiranthok_cell {
+    uint32_t slot;
+    uint32_t index;
+    uint32_t value;
+};
+
+/* The same as hiranthok_evaluate and hiranthok_judge, with the cells as a row of count records: equal answers and equal rooms. 11
+ * cannot occur. */
+uint32_t hiranthok_evaluate_records(const uint32_t *table, size_t table_len, const uint32_t *values, size_t values_len,
+                                    const struct hiranthok_cell *cells, size_t count, uint64_t allowance, uint32_t *work,
+                                    size_t work_len, uint64_t answer[4]);
+uint32_t hiranthok_judge_records(const uint32_t *table, size_t table_len, const uint32_t *values, size_t values_len,
+                                 const struct hiranthok_cell *cells, size_t count, uint64_t allowance, uint32_t *work,
+                                 size_t work_len, uint64_t answer[4]);
 
 #ifdef __cplusplus
 }

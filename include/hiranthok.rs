@@ -14,6 +14,29 @@ pub type InSetting = unsafe extern "C" fn(
     *mut [u64; 4],
 ) -> u32;
 
+/// A cell, as the record entrance takes it.
+#[repr(C)]
+#[derive(Clone, Copy, PartialEq, Eq, Debug)]
+pub struct Cell {
+    pub slot: u32,
+    pub index: u32,
+    pub value: u32,
+}
+
+/// The same with the cells as a row of records.
+pub type WithRecords = unsafe extern "C" fn(
+    *const u32,
+    usize,
+    *const u32,
+    usize,
+    *const Cell,
+    usize,
+    u64,
+    *mut u32,
+    usize,
+    *mut [u64; 4],
+) -> u32;
+
 unsafe extern "C" {
     pub fn hiranthok_admit(table: *const u32, table_len: usize, answer: *mut [u64; 4]) -> u32;
     pub fn hiranthok_finish(
@@ -42,6 +65,30 @@ unsafe extern "C" {
         values_len: usize,
         cells: *const u32,
         cells_len: usize,
+        allowance: u64,
+        work: *mut u32,
+        work_len: usize,
+        answer: *mut [u64; 4],
+    ) -> u32;
+    pub fn hiranthok_evaluate_records(
+        table: *const u32,
+        table_len: usize,
+        values: *const u32,
+        values_len: usize,
+        cells: *const Cell,
+        cells_count: usize,
+        allowance: u64,
+        work: *mut u32,
+        work_len: usize,
+        answer: *mut [u64; 4],
+    ) -> u32;
+    pub fn hiranthok_judge_records(
+        table: *const u32,
+        table_len: usize,
+        values: *const u32,
+        values_len: usize,
+        cells: *const Cell,
+        cells_count: usize,
         allowance: u64,
         work: *mut u32,
         work_len: usize,

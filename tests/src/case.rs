@@ -36,6 +36,12 @@ pub struct Answer {
 /// Whoever answers calls: the library, or the reference.
 pub trait Checker {
     fn call(&self, case: &Case) -> Answer;
+
+    /// The same call with the cells as a row of records; none where the routine takes no cells, where they are no whole
+    /// cells, or where the checker has no such entrance.
+    fn call_with_records(&self, _case: &Case) -> Option<Answer> {
+        None
+    }
 }
 
 /// What a room holds before the call: no number that a routine writes there by chance.

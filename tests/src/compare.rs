@@ -11,6 +11,8 @@ use crate::{finished, pairs};
 pub enum Check {
     /// Answer and room equal the reference's.
     Answers,
+    /// So they do with the cells as a row of records.
+    Records,
     /// Demand 3 for the setting and the partner with this seed.
     Pair(u64),
     /// The finished table agrees with judging.
@@ -37,6 +39,10 @@ impl Check {
             Check::Answers => {
                 let (one, other) = (subject.call(case), reference.call(case));
                 (one != other).then(|| format!("library:   {one}\nreference: {other}"))
+            }
+            Check::Records => {
+                let (one, other) = (subject.call_with_records(case)?, reference.call(case));
+                (one != other).then(|| format!("library, cells as records: {one}\nreference:                 {other}"))
             }
             Check::Pair(seed) => pairs::fault(subject, case, seed),
             Check::Finished => finished::fault(subject, case),
@@ -69,10 +75,16 @@ impl<'a> Comparison<'a> {
     fn compare(&mut self, case: &Case) -> Result<Answer, Difference> {
         let answer = self.reference.call(case);
         self.counts.observe(case, &answer);
-        if self.subject.call(case) == answer {
-            return Ok(answer);
+        if self.subject.call(case) != answer {
+            return Err(Difference { check: Check::Answers, case: case.clone() });
         }
-        Err(Difference { check: Check::Answers, case: case.clone() })
+        if let Some(same) = self.subject.call_with_records(case) {
+            self.counts.observe_records(case, &answer);
+            if same != answer {
+                return Err(Difference { check: Check::Records, case: case.clone() });
+            }
+        }
+        Ok(answer)
     }
 
     /// Fails where the check does.

@@ -16,6 +16,7 @@ pub struct Counts {
 pub type Key = (&'static str, u32, u32);
 
 const ROUTINE_NAMES: [&str; 4] = ["admit refuses", "finish refuses", "evaluate refuses", "judge refuses"];
+const RECORD_NAMES: [&str; 2] = ["evaluate, records, refuses", "judge, records, refuses"];
 const LIKE: &str = "refusal 6, operands of one sort: operator, kind of sort";
 const REFUSALS: [&[u32]; 4] = [
     &[1, 2, 3, 4, 5, 6, 7, 8, 9, 10],
@@ -57,6 +58,15 @@ impl Counts {
             22 if case.room as u64 == answer.numbers[0] - 1 => self.count(("room one short", routine as u32, 0)),
             23 if case.allowance == answer.numbers[0] - 1 => self.count(("allowance one below", routine as u32, 0)),
             _ => {}
+        }
+    }
+
+    /// Counts the same call through the record entrance.
+    pub fn observe_records(&mut self, case: &Case, answer: &Answer) {
+        self.calls += 1;
+        self.count((RECORD_NAMES[usize::from(case.routine == Routine::Judge)], answer.number, 0));
+        if !case.cells.is_empty() {
+            self.count(("records, of some cells", answer.number.min(1), 0));
         }
     }
 
@@ -247,6 +257,11 @@ fn wanted() -> Vec<Key> {
         keys.push((*name, 0, 0));
         keys.extend(REFUSALS[routine].iter().map(|&number| (*name, number, 0)));
     }
+    for name in RECORD_NAMES {
+        keys.push((name, 0, 0));
+        keys.extend(REFUSALS[3].iter().filter(|&&number| number != 11).map(|&number| (name, number, 0)));
+    }
+    keys.extend([0, 1].map(|refused| ("records, of some cells", refused, 0)));
     wanted_of_tables(&mut keys);
     wanted_of_results(&mut keys);
     keys

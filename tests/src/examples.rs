@@ -235,10 +235,11 @@ fn open_points_of_settings() -> Vec<Example> {
 /// The first example that a checker answers otherwise, if any.
 pub fn check(checker: &dyn Checker) -> Result<(), String> {
     for example in all() {
-        let answer = checker.call(&example.case);
-        let front = answer.room.starts_with(&example.front);
-        if (answer.number, answer.numbers) != (example.number, example.numbers) || !front || answer.strayed {
-            return Err(format!("{}\n{}\nanswered: {answer}", example.name, example.case));
+        for answer in [Some(checker.call(&example.case)), checker.call_with_records(&example.case)].into_iter().flatten() {
+            let front = answer.room.starts_with(&example.front);
+            if (answer.number, answer.numbers) != (example.number, example.numbers) || !front || answer.strayed {
+                return Err(format!("{}\n{}\nanswered: {answer}", example.name, example.case));
+            }
         }
     }
     Ok(())

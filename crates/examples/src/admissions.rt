@@ -1,4 +1,5 @@
 // What admit answers.
+ghost use Prim.Native.Nat.{_≤_};
 use crate::rules::as_first;
 use crate::rules::as_fourth;
 use crate::rules::between;
@@ -34,20 +35,28 @@ fn fourth_term(name: &[u8], op: u32, m: u32, n: u32, p: u32, q: u32, r: u32) {
     show(name, table::admit(&as_fourth(op, m, n, p, q, r)));
 }
 
-// Rules G and H; 16 stores and a 17th; one slot both marked and unmarked.
+// A count of stores, read at the constant.
+fn read_of_stores(name: &[u8], table: &mut [u32], count: u32)
+    requires { ⌜ count ≤ 80000 ⌝ }
+{
+    put_stores(table, count);
+    put(table, count + 2, 15, 0, 8, count + 1, 0, 0);
+    put(table, count + 3, 6, 0, 0, count + 2, 0, 0);
+    show(name, table::admit(table));
+}
+
+// Rules G and H; 16 stores and a 17th.
 pub fn bench() {
     show(b"rule G", table::admit(&rule_g()));
     show(b"rule H", table::admit(&rule_h()));
     let mut sixteen = [0u32; 120];
-    put_stores(&mut sixteen, 16);
-    put(&mut sixteen, 18, 15, 0, 8, 17, 0, 0);
-    put(&mut sixteen, 19, 6, 0, 0, 18, 0, 0);
-    show(b"16 stores, read", table::admit(&sixteen));
+    read_of_stores(b"16 stores, read", &mut sixteen, 16);
     let mut seventeen = [0u32; 126];
-    put_stores(&mut seventeen, 17);
-    put(&mut seventeen, 19, 15, 0, 8, 18, 0, 0);
-    put(&mut seventeen, 20, 6, 0, 0, 19, 0, 0);
-    show(b"17 stores, read", table::admit(&seventeen));
+    read_of_stores(b"17 stores, read", &mut seventeen, 17);
+}
+
+// One slot both marked and unmarked.
+pub fn marks() {
     let mut twice = [0u32; 12];
     put(&mut twice, 0, 1, 0, 0, 3, 0, 0);
     put(&mut twice, 1, 1, 0, 0, 3, 1, 0);
@@ -60,6 +69,10 @@ pub fn lengths() {
     show(b"seven numbers", table::admit(&[0, 0, 0, 0, 0, 0, 0]));
     show(b"512 terms", table::admit(&[0u32; 3072]));
     show(b"513 terms", table::admit(&[0u32; 3078]));
+}
+
+// 2: the longest table of evaluate, and one term more.
+pub fn evaluate_lengths() {
     show(
         b"80,000 terms, for evaluate",
         table::admit_within(&[0u32; 480000], 80000),
@@ -124,6 +137,10 @@ pub fn clashes() {
     middle_term(b"a clash, then a wrong mark", 1, 0, 1, 2);
     middle_term(b"a wrong mark, then a clash", 1, 0, 2, 1);
     middle_term(b"op 17, then a clash", 17, 0, 0, 1);
+}
+
+// 8 before another refusal.
+pub fn early_clash() {
     let mut table = [0u32; 18];
     put(&mut table, 0, 1, 0, 0, 3, 0, 0);
     put(&mut table, 1, 1, 0, 0, 3, 1, 0);

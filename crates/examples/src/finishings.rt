@@ -45,14 +45,19 @@ fn evaluate_finished(name: &[u8], table: &[u32], values: &[u32], allowance: u64)
     evaluations::show(name, answer, &work);
 }
 
+// The same with three values.
+fn evaluate_three(name: &[u8], table: &[u32], a: u32, b: u32, c: u32, allowance: u64) {
+    evaluate_finished(name, table, &[a, b, c], allowance);
+}
+
 // Finished rule G: rule, condition and conjunction stand at 6, 18 and 19.
 pub fn rule_g_finished() {
     let mut room = [7u32; 120];
     let answer = finish::finish(&rule_g(), &mut room);
     show(b"finish G", answer, &room);
-    evaluate_finished(b"finished G, P1", &room, &[0, 5, 1], 0);
-    evaluate_finished(b"finished G, P2", &room, &[1, 1, 0], 0);
-    evaluate_finished(b"finished G, P3", &room, &[0, 5, 0], 0);
+    evaluate_three(b"finished G, P1", &room, 0, 5, 1, 0);
+    evaluate_three(b"finished G, P2", &room, 1, 1, 0, 0);
+    evaluate_three(b"finished G, P3", &room, 0, 5, 0, 0);
     evaluate_finished(b"finished G, two values", &room, &[0, 5], 0);
 }
 
@@ -61,32 +66,40 @@ pub fn rule_h_finished() {
     let mut room = [7u32; 126];
     let answer = finish::finish(&rule_h(), &mut room);
     show(b"finish H", answer, &room);
-    evaluate_finished(b"finished H, P7", &room, &[9, 0, 0], 1);
-    evaluate_finished(b"finished H, P8", &room, &[42, 0, 2], 1);
+    evaluate_three(b"finished H, P7", &room, 9, 0, 0, 1);
+    evaluate_three(b"finished H, P8", &room, 42, 0, 2, 1);
 }
 
-// A rule whose condition is T; and three stores, whose finished table takes six steps where judging takes three.
-pub fn others() {
+// A rule whose condition is T.
+pub fn unmarked_finished() {
     let mut small = [7u32; 90];
     let answer = finish::finish(&unmarked_rule(), &mut small);
     show(b"finish not a, C(rule) is T", answer, &small);
+}
+
+// Three stores, whose finished table takes six steps where judging takes three.
+pub fn stores_finished() {
     let mut room = [7u32; 234];
-    let again = finish::finish(&three_stores(), &mut room);
-    show_answer(b"finish three stores", again);
+    let answer = finish::finish(&three_stores(), &mut room);
+    show_answer(b"finish three stores", answer);
     io::write_all(STDOUT_FILENO, b"\n");
     evaluate_finished(b"finished three stores, allowance 5", &room, &[9], 5);
     evaluate_finished(b"finished three stores, allowance 6", &room, &[9], 6);
+}
+
+// Finishes a constant into this room.
+fn run_constant(name: &[u8], room: &mut [u32]) {
+    let answer = finish::finish(&[0, 0, 0, 1, 0, 0], room);
+    show(name, answer, room);
 }
 
 // 21, and the refusals before it.
 pub fn refusals() {
     run(b"finish a constant", &[0, 0, 0, 1, 0, 0]);
     let mut short = [7u32; 23];
-    let answer = finish::finish(&[0, 0, 0, 1, 0, 0], &mut short);
-    show(b"finish a constant, a room of 23", answer, &short);
+    run_constant(b"finish a constant, a room of 23", &mut short);
     let mut exact = [7u32; 24];
-    let again = finish::finish(&[0, 0, 0, 1, 0, 0], &mut exact);
-    show(b"finish a constant, a room of 24", again, &exact);
+    run_constant(b"finish a constant, a room of 24", &mut exact);
     run(b"finish G, a room of 30", &rule_g());
     run(b"finish, 10 before 21", &[0, 0, 8, 1, 0, 0]);
     run(b"finish an empty table", &[]);

@@ -8,11 +8,14 @@ mod shows; // printing answers and rooms
 
 fn main() {
     admissions::bench();
+    admissions::marks();
     admissions::lengths();
+    admissions::evaluate_lengths();
     admissions::fields();
     admissions::sorts();
     admissions::values();
     admissions::clashes();
+    admissions::early_clash();
     admissions::chains();
     evaluations::bench();
     evaluations::cells();
@@ -25,6 +28,7 @@ fn main() {
     judgements::refusals();
     finishings::rule_g_finished();
     finishings::rule_h_finished();
-    finishings::others();
+    finishings::unmarked_finished();
+    finishings::stores_finished();
     finishings::refusals();
 }

@@ -1,4 +1,4 @@
-// The kinds of terms that finishing adds: each written as term k.
+// The kinds of terms that finishing adds.
 ghost use mathlib.Core.Path.{_≡_};
 ghost use Rattle.table.specs.Terms.{placed};
 ghost use Rattle.finish.specs.Added.{boolTerm, vectorTerm, notT, andT, orT, equalT, choiceT, lessT, constantT, readT};
@@ -30,52 +30,65 @@ fn vector_term(op: u32, n: u32, p: u32, q: u32) -> Term
     }
 }
 
-pub fn put_not(room: &mut [u32], k: u32, p: u32)
-    ensures { λ _. ⌜ now (room .exit) ≡ placed (now (room .entry)) k (notT p) ⌝ }
+pub fn not_term(p: u32) -> Term
+    ensures { λ t. ⌜ t ≡ notT p ⌝ }
 {
-    put(room, k, bool_term(2, p, 0, 0));
+    bool_term(2, p, 0, 0)
 }
 
-pub fn put_and(room: &mut [u32], k: u32, p: u32, q: u32)
-    ensures { λ _. ⌜ now (room .exit) ≡ placed (now (room .entry)) k (andT p q) ⌝ }
+pub fn and_term(p: u32, q: u32) -> Term
+    ensures { λ t. ⌜ t ≡ andT p q ⌝ }
 {
-    put(room, k, bool_term(3, p, q, 0));
+    bool_term(3, p, q, 0)
 }
 
-pub fn put_or(room: &mut [u32], k: u32, p: u32, q: u32)
-    ensures { λ _. ⌜ now (room .exit) ≡ placed (now (room .entry)) k (orT p q) ⌝ }
+pub fn or_term(p: u32, q: u32) -> Term
+    ensures { λ t. ⌜ t ≡ orT p q ⌝ }
 {
-    put(room, k, bool_term(4, p, q, 0));
+    bool_term(4, p, q, 0)
 }
 
-pub fn put_equal(room: &mut [u32], k: u32, p: u32, q: u32)
-    ensures { λ _. ⌜ now (room .exit) ≡ placed (now (room .entry)) k (equalT p q) ⌝ }
+pub fn equal_term(p: u32, q: u32) -> Term
+    ensures { λ t. ⌜ t ≡ equalT p q ⌝ }
 {
-    put(room, k, bool_term(6, p, q, 0));
+    bool_term(6, p, q, 0)
 }
 
-pub fn put_choice(room: &mut [u32], k: u32, p: u32, q: u32, r: u32)
-    ensures { λ _. ⌜ now (room .exit) ≡ placed (now (room .entry)) k (choiceT p q r) ⌝ }
+pub fn choice_term(p: u32, q: u32, r: u32) -> Term
+    ensures { λ t. ⌜ t ≡ choiceT p q r ⌝ }
 {
-    put(room, k, bool_term(7, p, q, r));
+    bool_term(7, p, q, r)
 }
 
-pub fn put_less(room: &mut [u32], k: u32, p: u32, q: u32)
-    ensures { λ _. ⌜ now (room .exit) ≡ placed (now (room .entry)) k (lessT p q) ⌝ }
+pub fn less_term(p: u32, q: u32) -> Term
+    ensures { λ t. ⌜ t ≡ lessT p q ⌝ }
 {
-    put(room, k, bool_term(14, p, q, 0));
+    bool_term(14, p, q, 0)
 }
 
 // Of width n, which is 0 for a Boolean.
-pub fn put_constant(room: &mut [u32], k: u32, n: u32, value: u32)
-    ensures { λ _. ⌜ now (room .exit) ≡ placed (now (room .entry)) k (constantT n value) ⌝ }
+pub fn constant_term(n: u32, value: u32) -> Term
+    ensures { λ t. ⌜ t ≡ constantT n value ⌝ }
 {
-    put(room, k, vector_term(0, n, value, 0));
+    vector_term(0, n, value, 0)
 }
 
 // Of width n: array p at index q.
-pub fn put_read(room: &mut [u32], k: u32, n: u32, p: u32, q: u32)
-    ensures { λ _. ⌜ now (room .exit) ≡ placed (now (room .entry)) k (readT n p q) ⌝ }
+pub fn read_term(n: u32, p: u32, q: u32) -> Term
+    ensures { λ t. ⌜ t ≡ readT n p q ⌝ }
 {
-    put(room, k, vector_term(15, n, p, q));
+    vector_term(15, n, p, q)
+}
+
+// Written as term k.
+pub fn put_and(room: &mut [u32], k: u32, p: u32, q: u32)
+    ensures { λ _. ⌜ now (room .exit) ≡ placed (now (room .entry)) k (andT p q) ⌝ }
+{
+    put(room, k, and_term(p, q));
+}
+
+pub fn put_constant(room: &mut [u32], k: u32, n: u32, value: u32)
+    ensures { λ _. ⌜ now (room .exit) ≡ placed (now (room .entry)) k (constantT n value) ⌝ }
+{
+    put(room, k, constant_term(n, value));
 }

@@ -1,17 +1,21 @@
 // Writing each group of paper 01's "The condition of each term" into the room, from number b on.
 ghost use mathlib.Core.Path.{_≡_};
+ghost use mathlib.Core.List.{[], _∷_};
 ghost use Prim.Native.Nat.{pred, _+_, _≤_, _<_};
-ghost use Rattle.finish.specs.Added.{laid};
+ghost use Rattle.finish.specs.Added.{laidFrom, laid};
 ghost use Rattle.finish.specs.Writing.{after};
 ghost use Rattle.finish.specs.Groups.{strictGroup, andGroup, orGroup, impliesGroup, absorbingGroup, shiftGroup, choiceGroup, storeGroup};
+use crate::added::and_term;
+use crate::added::choice_term;
+use crate::added::constant_term;
+use crate::added::equal_term;
+use crate::added::less_term;
+use crate::added::not_term;
+use crate::added::or_term;
 use crate::added::put_and;
-use crate::added::put_choice;
-use crate::added::put_constant;
-use crate::added::put_equal;
-use crate::added::put_less;
-use crate::added::put_not;
-use crate::added::put_or;
-use crate::added::put_read;
+use crate::added::read_term;
+use table::Term;
+use table::put;
 
 // The number of a term's condition, and that of the next group's first term.
 pub struct Written {
@@ -30,6 +34,24 @@ fn grown(b: u32, size: u32) -> Written
     }
 }
 
+// Two terms of a group that starts at b: its terms i and i + 1.
+fn lay_two(room: &mut [u32], b: u32, i: u32, x: Term, y: Term)
+    requires { ⌜ (b ≤ 80000) × (i ≤ 9) ⌝ }
+    ensures { λ _. ⌜ now (room .exit) ≡ laidFrom (now (room .entry)) b i (x ∷ y ∷ []) ⌝ }
+{
+    put(room, b + i, x);
+    put(room, b + (i + 1), y);
+}
+
+// Three terms: i, i + 1 and i + 2.
+fn lay_three(room: &mut [u32], b: u32, i: u32, x: Term, y: Term, z: Term)
+    requires { ⌜ (b ≤ 80000) × (i ≤ 8) ⌝ }
+    ensures { λ _. ⌜ now (room .exit) ≡ laidFrom (now (room .entry)) b i (x ∷ y ∷ z ∷ []) ⌝ }
+{
+    put(room, b + i, x);
+    lay_two(room, b, i + 1, y, z);
+}
+
 // Equal, sum, less; and the read of a variable.
 pub fn strict(room: &mut [u32], b: u32, cp: u32, cq: u32) -> Written
     requires { ⌜ b ≤ 80000 ⌝ }
@@ -45,13 +67,9 @@ pub fn conjunction(room: &mut [u32], b: u32, p: u32, q: u32, cp: u32, cq: u32) -
     ensures { λ r. ⌜ r ≡ after b (andGroup b p q cp cq) ⌝ }
     ensures { λ r. ⌜ now (room .exit) ≡ laid (now (room .entry)) b (andGroup b p q cp cq) ⌝ }
 {
-    put_not(room, b, p);
-    put_and(room, b + 1, cp, b);
-    put_not(room, b + 2, q);
-    put_and(room, b + 3, cq, b + 2);
-    put_or(room, b + 4, b + 1, b + 3);
-    put_and(room, b + 5, cp, cq);
-    put_or(room, b + 6, b + 4, b + 5);
+    lay_three(room, b, 0, not_term(p), and_term(cp, b), not_term(q));
+    lay_two(room, b, 3, and_term(cq, b + 2), or_term(b + 1, b + 3));
+    lay_two(room, b, 5, and_term(cp, cq), or_term(b + 4, b + 5));
     grown(b, 7)
 }
 
@@ -60,11 +78,15 @@ pub fn disjunction(room: &mut [u32], b: u32, p: u32, q: u32, cp: u32, cq: u32) -
     ensures { λ r. ⌜ r ≡ after b (orGroup b p q cp cq) ⌝ }
     ensures { λ r. ⌜ now (room .exit) ≡ laid (now (room .entry)) b (orGroup b p q cp cq) ⌝ }
 {
-    put_and(room, b, cp, p);
-    put_and(room, b + 1, cq, q);
-    put_or(room, b + 2, b, b + 1);
-    put_and(room, b + 3, cp, cq);
-    put_or(room, b + 4, b + 2, b + 3);
+    lay_three(
+        room,
+        b,
+        0,
+        and_term(cp, p),
+        and_term(cq, q),
+        or_term(b, b + 1),
+    );
+    lay_two(room, b, 3, and_term(cp, cq), or_term(b + 2, b + 3));
     grown(b, 5)
 }
 
@@ -73,12 +95,15 @@ pub fn implication(room: &mut [u32], b: u32, p: u32, q: u32, cp: u32, cq: u32) -
     ensures { λ r. ⌜ r ≡ after b (impliesGroup b p q cp cq) ⌝ }
     ensures { λ r. ⌜ now (room .exit) ≡ laid (now (room .entry)) b (impliesGroup b p q cp cq) ⌝ }
 {
-    put_not(room, b, p);
-    put_and(room, b + 1, cp, b);
-    put_and(room, b + 2, cq, q);
-    put_or(room, b + 3, b + 1, b + 2);
-    put_and(room, b + 4, cp, cq);
-    put_or(room, b + 5, b + 3, b + 4);
+    lay_three(room, b, 0, not_term(p), and_term(cp, b), and_term(cq, q));
+    lay_three(
+        room,
+        b,
+        3,
+        or_term(b + 1, b + 2),
+        and_term(cp, cq),
+        or_term(b + 3, b + 4),
+    );
     grown(b, 6)
 }
 
@@ -97,14 +122,23 @@ pub fn absorbing(
     ensures { λ r. ⌜ r ≡ after b (absorbingGroup b n value p q cp cq) ⌝ }
     ensures { λ r. ⌜ now (room .exit) ≡ laid (now (room .entry)) b (absorbingGroup b n value p q cp cq) ⌝ }
 {
-    put_constant(room, b, n, value);
-    put_equal(room, b + 1, p, b);
-    put_and(room, b + 2, cp, b + 1);
-    put_equal(room, b + 3, q, b);
-    put_and(room, b + 4, cq, b + 3);
-    put_or(room, b + 5, b + 2, b + 4);
-    put_and(room, b + 6, cp, cq);
-    put_or(room, b + 7, b + 5, b + 6);
+    lay_three(
+        room,
+        b,
+        0,
+        constant_term(n, value),
+        equal_term(p, b),
+        and_term(cp, b + 1),
+    );
+    lay_three(
+        room,
+        b,
+        3,
+        equal_term(q, b),
+        and_term(cq, b + 3),
+        or_term(b + 2, b + 4),
+    );
+    lay_two(room, b, 6, and_term(cp, cq), or_term(b + 5, b + 6));
     grown(b, 8)
 }
 
@@ -113,12 +147,22 @@ pub fn shift(room: &mut [u32], b: u32, n: u32, q: u32, cp: u32, cq: u32) -> Writ
     ensures { λ r. ⌜ r ≡ after b (shiftGroup b n q cp cq) ⌝ }
     ensures { λ r. ⌜ now (room .exit) ≡ laid (now (room .entry)) b (shiftGroup b n q cp cq) ⌝ }
 {
-    put_constant(room, b, n, n);
-    put_less(room, b + 1, q, b);
-    put_not(room, b + 2, b + 1);
-    put_and(room, b + 3, cq, b + 2);
-    put_and(room, b + 4, cp, cq);
-    put_or(room, b + 5, b + 3, b + 4);
+    lay_three(
+        room,
+        b,
+        0,
+        constant_term(n, n),
+        less_term(q, b),
+        not_term(b + 1),
+    );
+    lay_three(
+        room,
+        b,
+        3,
+        and_term(cq, b + 2),
+        and_term(cp, cq),
+        or_term(b + 3, b + 4),
+    );
     grown(b, 6)
 }
 
@@ -136,12 +180,22 @@ pub fn choice(
     ensures { λ t. ⌜ t ≡ after b (choiceGroup b p q r cp cq cr) ⌝ }
     ensures { λ t. ⌜ now (room .exit) ≡ laid (now (room .entry)) b (choiceGroup b p q r cp cq cr) ⌝ }
 {
-    put_choice(room, b, p, cq, cr);
-    put_and(room, b + 1, cp, b);
-    put_and(room, b + 2, cq, cr);
-    put_equal(room, b + 3, q, r);
-    put_and(room, b + 4, b + 2, b + 3);
-    put_or(room, b + 5, b + 1, b + 4);
+    lay_three(
+        room,
+        b,
+        0,
+        choice_term(p, cq, cr),
+        and_term(cp, b),
+        and_term(cq, cr),
+    );
+    lay_three(
+        room,
+        b,
+        3,
+        equal_term(q, r),
+        and_term(b + 2, b + 3),
+        or_term(b + 1, b + 4),
+    );
     grown(b, 6)
 }
 
@@ -163,14 +217,29 @@ pub fn store(
     ensures { λ r. ⌜ r ≡ after b (storeGroup b n a i e j ci ce cj d) ⌝ }
     ensures { λ r. ⌜ now (room .exit) ≡ laid (now (room .entry)) b (storeGroup b n a i e j ci ce cj d) ⌝ }
 {
-    put_read(room, b, n, a, j);
-    put_equal(room, b + 1, i, j);
-    put_choice(room, b + 2, b + 1, ce, d);
-    put_and(room, b + 3, ci, cj);
-    put_and(room, b + 4, b + 3, b + 2);
-    put_equal(room, b + 5, e, b);
-    put_and(room, b + 6, ce, d);
-    put_and(room, b + 7, b + 6, b + 5);
-    put_or(room, b + 8, b + 4, b + 7);
+    lay_three(
+        room,
+        b,
+        0,
+        read_term(n, a, j),
+        equal_term(i, j),
+        choice_term(b + 1, ce, d),
+    );
+    lay_three(
+        room,
+        b,
+        3,
+        and_term(ci, cj),
+        and_term(b + 3, b + 2),
+        equal_term(e, b),
+    );
+    lay_three(
+        room,
+        b,
+        6,
+        and_term(ce, d),
+        and_term(b + 6, b + 5),
+        or_term(b + 4, b + 7),
+    );
     grown(b, 9)
 }

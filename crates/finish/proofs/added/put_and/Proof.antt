@@ -5,7 +5,7 @@ use Rattle.finish.proofs.added.put_and.Statement.{statement}
 use Rattle.finish.proofs.added.put_and.Tie as tie
 
 returns : tie.Need-returns
-returns c = c .before .before .put .ensures ∙ ap (placed _ _) (c .before .before .before .bool-term .ensures)
+returns c = c .before .before .put .ensures ∙ ap (placed _ _) (c .before .before .before .and-term .ensures)
 
 pub put-and-spec : {M : Type 1} → statement M
 put-and-spec = tie.close (tie.spec (λ c κs. search needs) (λ c κs. search needs) (λ c. search needs) returns)

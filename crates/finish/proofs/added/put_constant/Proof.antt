@@ -5,7 +5,7 @@ use Rattle.finish.proofs.added.put_constant.Statement.{statement}
 use Rattle.finish.proofs.added.put_constant.Tie as tie
 
 returns : tie.Need-returns
-returns c = c .before .before .put .ensures ∙ ap (placed _ _) (c .before .before .before .vector-term .ensures)
+returns c = c .before .before .put .ensures ∙ ap (placed _ _) (c .before .before .before .constant-term .ensures)
 
 pub put-constant-spec : {M : Type 1} → statement M
 put-constant-spec = tie.close (tie.spec (λ c κs. search needs) (λ c κs. search needs) (λ c. search needs) returns)

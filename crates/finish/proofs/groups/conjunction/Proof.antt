@@ -1,35 +1,47 @@
-use native.Mathlib.Nat.{add-zero}
+use mathlib.Core.Path.{_∙_}
+use lib.Dec.{lit≤}
 use Rattle.finish.specs.Added.{laidFrom}
-use borrow.Author.Needs.{needs}
+use Rattle.finish.proofs.Numbers.{fits}
 use Rattle.finish.proofs.groups.conjunction.Statement.{statement}
 use Rattle.finish.proofs.groups.conjunction.Tie as tie
 
 returns : tie.Need-returns
 unfolding laidFrom
-returns c = (c .grown .ensures, rw (c .before .before .before .put-or2 .ensures, c .before .before .before .before .before .before .before .put-and3 .ensures, c .before .before .before .before .before .before .before .before .before .before .before .put-or .ensures, c .before .before .before .before .before .before .before .before .before .before .before .before .before .before .before .put-and2 .ensures, c .before .before .before .before .before .before .before .before .before .before .before .before .before .before .before .before .before .before .before .put-not2 .ensures, c .before .before .before .before .before .before .before .before .before .before .before .before .before .before .before .before .before .before .before .before .before .before .before .put-and .ensures, c .before .before .before .before .before .before .before .before .before .before .before .before .before .before .before .before .before .before .before .before .before .before .before .before .before .before .before .put-not .ensures, add-zero (c .before .before .before .before .before .before .before .before .before .before .before .before .before .before .before .before .before .before .before .before .before .before .before .before .before .before .before .before .before .before .args .b)))
+returns c = (
+  c .grown .ensures,
+  rw (
+    c .before .before .before .lay-two2 .ensures,
+    c .before .before .before .before .or-term2 .ensures,
+    c .before .before .before .before .before .and-term3 .ensures,
+    c .before .before .before .before .before .before .before .before .before .lay-two .ensures,
+    c .before .before .before .before .before .before .before .before .before .before .or-term .ensures,
+    c .before .before .before .before .before .before .before .before .before .before .before .and-term2 .ensures,
+    c .before .before .before .before .before .before .before .before .before .before .before .before .before .before .before .lay-three .ensures,
+    c .before .before .before .before .before .before .before .before .before .before .before .before .before .before .before .before .not-term2 .ensures,
+    c .before .before .before .before .before .before .before .before .before .before .before .before .before .before .before .before .before .and-term .ensures,
+    c .before .before .before .before .before .before .before .before .before .before .before .before .before .before .before .before .before .before .not-term .ensures,
+  ),
+)
 
 pub conjunction-spec : {M : Type 1} → statement M
 conjunction-spec =
     tie.close
     (tie.spec
-    (λ c κs. search needs)
-    (λ c. search needs)
-    (λ c κs. search needs)
-    (λ c. search needs)
-    (λ c κs. search needs)
-    (λ c. search needs)
-    (λ c. search needs)
-    (λ c κs. search needs)
-    (λ c. search needs)
-    (λ c. search needs)
-    (λ c. search needs)
-    (λ c κs. search needs)
-    (λ c. search needs)
-    (λ c κs. search needs)
-    (λ c. search needs)
-    (λ c. search needs)
-    (λ c. search needs)
-    (λ c κs. search needs)
-    (λ c κs. search needs)
-    (λ c. search needs)
+    (λ c κs. record {})
+    (λ c κs. record {})
+    (λ c κs. record {})
+    (λ c κs. (c .before .before .before .before .before .pre, lit≤ tt))
+    (λ c. fits _ (lit≤ tt) (c .before .before .before .before .before .before .before .before .before .pre))
+    (λ c κs. record {})
+    (λ c. fits _ (lit≤ tt) (c .before .before .before .before .before .before .before .before .before .before .pre))
+    (λ c. fits _ (lit≤ tt) (c .before .before .before .before .before .before .before .before .before .before .pre))
+    (λ c κs. record {})
+    (λ c κs. (c .before .before .before .before .before .before .before .before .before .before .before .pre, lit≤ tt))
+    (λ c κs. record {})
+    (λ c. fits _ (lit≤ tt) (c .before .before .before .before .before .before .before .before .before .before .before .before .before .before .before .before .pre))
+    (λ c. fits _ (lit≤ tt) (c .before .before .before .before .before .before .before .before .before .before .before .before .before .before .before .before .pre))
+    (λ c κs. record {})
+    (λ c κs. (c .before .before .before .before .before .before .before .before .before .before .before .before .before .before .before .before .before .pre, lit≤ tt))
+    (λ c κs. (c .before .before .before .before .before .before .before .before .before .before .before .before .before .before .before .before .before .before .before .before .pre, (lit≤ tt, lit≤ tt)))
+    (λ c. c .before .before .before .lay-two2 .kept .0 ∙ c .before .before .before .before .before .before .before .before .before .lay-two .kept .0 ∙ c .before .before .before .before .before .before .before .before .before .before .before .before .before .before .before .lay-three .kept .0)
     returns)

@@ -1,3 +1,4 @@
 pub mod Laid
 pub mod Numbers
 pub mod Demand
+pub mod Looks

@@ -8,7 +8,7 @@ ghost use Rattle.records.specs.Rows.{recordAt};
 use setting::Cell;
 
 // Cell k of a row.
-fn record_at(cells: &[Cell], k: usize) -> Cell
+pub fn record_at(cells: &[Cell], k: usize) -> Cell
     requires { ⌜ k < length (now cells) ⌝ }
     ensures { λ r. ⌜ r ≡ recordAt (now (cells .entry)) k ⌝ }
 {

@@ -1,0 +1,99 @@
+// Whether a table may be run in a setting of records, else the first refusal.
+ghost use mathlib.Core.Path.{_≡_};
+ghost use mathlib.Core.Bool.{true, cond};
+ghost use Prim.Native.Nat.{_<_, _≤_};
+ghost use lib.ListN.{length};
+ghost use Rattle.table.specs.declared.Admission.the-variants.{Admitted};
+ghost use Rattle.table.specs.Admission.{scan};
+ghost use Rattle.table.specs.Terms.{terms, termAt};
+ghost use Rattle.table.specs.WellFormed.{WellFormed};
+ghost use Rattle.setting.specs.Arrays.{Entries};
+ghost use Rattle.setting.specs.Check.{variableFault, cellFault};
+ghost use Rattle.evaluate.specs.Evaluation.{admits, andThen, afford};
+ghost use Rattle.records.specs.Rows.{recordAt};
+ghost use Rattle.records.specs.Answers.{ready};
+use crate::rows::record_at;
+use evaluate::Evaluation;
+use evaluate::Spent;
+use setting::Cell;
+use table::Admission;
+
+// How many cells are to be checked: none where the table is refused.
+fn count_when(admitted: Admission, count: usize) -> usize
+    ensures { λ r. ⌜ r ≡ cond (admits admitted) count 0 ⌝ }
+{
+    if evaluate::admits(admitted) { count } else { 0 }
+}
+
+// The entries of a table's array slots, where there are cells to be checked.
+fn entries_when(table: &[u32], count: usize) -> [u32; 256]
+    requires { ⌜ (0 < count → WellFormed 80000 (now table)) ⌝ }
+    ensures { λ r. ⌜ (0 < count → Entries (now (table .entry)) (terms (now (table .entry))) r) ⌝ }
+{
+    let mut entries = [0u32; 256];
+    if 0 < count {
+        setting::fill_entries(table, &mut entries);
+    }
+    entries
+}
+
+// 14 and 15 of count cells, from the last to the first, so that the first has the last word.
+fn cells_checked(table: &[u32], entries: &[u32; 256], cells: &[Cell], count: usize) -> Admission
+    requires { ⌜ (0 < count → Entries (now table) (terms (now table)) (now entries)) ⌝ }
+    requires { ⌜ count ≤ length (now cells) ⌝ }
+    ensures { λ r. ⌜ r ≡ scan (λ k. cellFault (now (table .entry)) (recordAt (now (cells .entry)) k)) count 0 Admitted ⌝ }
+{
+    let mut rest = Admission::Admitted;
+    let mut k = count;
+    while 0 < k {
+        k -= 1;
+        rest = setting::checked_cell(table, entries, record_at(cells, k), k as u64, rest);
+    }
+    rest
+}
+
+// The first refusal, or what a run spends, from what admission and the cells say: then 12 and 13, 22 and 23.
+fn afforded(
+    table: &[u32],
+    values: &[u32],
+    admitted: Admission,
+    checked: Admission,
+    each: u32,
+    allowance: u64,
+    room: usize,
+) -> Evaluation
+    requires { ⌜ (admits admitted ≡ true → WellFormed 80000 (now table)) ⌝ }
+    requires { ⌜ each ≤ 8 ⌝ }
+    ensures { λ r. ⌜ r ≡ andThen admitted (andThen (scan (λ k. variableFault (now (values .entry)) (termAt (now (table .entry)) k)) (terms (now (table .entry))) 0 checked) (afford (now (table .entry)) each allowance room)) ⌝ }
+{
+    let nothing = Evaluation::Evaluated(Spent { steps: 0, left: 0 });
+    if !evaluate::admits(admitted) {
+        return evaluate::and_then(admitted, nothing);
+    }
+    let all = setting::variables_checked(table, values, checked);
+    if !evaluate::admits(all) {
+        return evaluate::and_then(all, nothing);
+    }
+    evaluate::afford(table, each, allowance, room)
+}
+
+// The first refusal, or what a run spends: 1 to 10 by a limit, 12 to 15, then 22 and 23 for each numbers a term.
+pub fn ready(
+    table: &[u32],
+    limit: u32,
+    values: &[u32],
+    cells: &[Cell],
+    each: u32,
+    allowance: u64,
+    room: usize,
+) -> Evaluation
+    requires { ⌜ limit ≤ 80000 ⌝ }
+    requires { ⌜ each ≤ 8 ⌝ }
+    ensures { λ r. ⌜ r ≡ ready limit (now (table .entry)) (now (values .entry)) (now (cells .entry)) each allowance room ⌝ }
+{
+    let admitted = table::admit_within(table, limit);
+    let count = count_when(admitted, cells.len());
+    let entries = entries_when(table, count);
+    let checked = cells_checked(table, &entries, cells, count);
+    afforded(table, values, admitted, checked, each, allowance, room)
+}

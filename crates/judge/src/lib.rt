@@ -25,7 +25,7 @@ pub enum Judgement {
     NotJudged(Refusal),
 }
 
-fn answered(e: Evaluation, rule: bool, condition: bool) -> Judgement
+pub fn answered(e: Evaluation, rule: bool, condition: bool) -> Judgement
     ensures { λ r. ⌜ r ≡ verdictBy e rule condition ⌝ }
 {
     match e {

@@ -5,3 +5,7 @@ pub mod Looks
 pub mod Facts
 pub mod Lent
 pub mod Readiness
+pub mod Again
+pub mod Driving
+pub mod Evaluating
+pub mod Judging

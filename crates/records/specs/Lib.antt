@@ -1,3 +1,4 @@
 pub mod Rows
 pub mod Answers
+pub mod Drive
 pub mod Laws

@@ -1,0 +1,82 @@
+-- A run over a row of records, whatever it writes: what its answer leaves, and what is known at each turn, refused or not.
+-- Assumes nothing.
+use mathlib.Core.Path.{_≡_, refl, sym, ap, _∙_}
+use mathlib.Core.Bool.{Bool, true, false, not, cond}
+use mathlib.Core.List.{List, []}
+use Prim.Native.Nat.{ℕ, _*_, _≤_, _<_}
+use native.Mathlib.Omega.{arith}
+use lib.Dec.{T, ltb}
+use lib.ListN.{length}
+use borrow.Author.Tests.{lt-ltb, le-ltb}
+use Rattle.ops.proofs.Booleans.{never}
+use Rattle.table.specs.Terms.{terms}
+use Rattle.table.specs.WellFormed.{WellFormed}
+use Rattle.table.proofs.Admitted.{admission-sound, wider}
+use Rattle.setting.specs.declared.cells.Cell.{Cell}
+use Rattle.evaluate.specs.declared.Evaluation.{Evaluation}
+use Rattle.evaluate.specs.declared.turns.Turn.{Turn}
+use Rattle.evaluate.specs.Evaluation.{evaluates, readyBy}
+use Rattle.evaluate.specs.Turns.{turnOf}
+use Rattle.evaluate.proofs.Answers.{Passed, passed}
+use Rattle.records.specs.Rows.{laid}
+use Rattle.records.specs.Answers.{ready}
+use Rattle.records.specs.Drive.{firstBy, firstTurn}
+use Rattle.records.proofs.Laid.{laid-check}
+
+-- a test's two ways
+pub taken : (b : Bool) → T b → b ≡ true
+taken true h = refl
+taken false h = absurd h
+
+pub passed-over : (b : Bool) → T (not b) → b ≡ false
+passed-over true h = absurd h
+passed-over false h = refl
+
+not-both : (b : Bool) → (b ≡ false → ⊥) → b ≡ true
+not-both true h = refl
+not-both false h = absurd (h refl)
+
+-- a run that is not refused is at some turn, one that is refused is at none
+module _ (e : Evaluation) (begin : List ℕ) (Filling : List ℕ → Turn → Type 0) where
+  pub record Driven (room : List ℕ) (turn : Turn) : Type 0 where
+    pub running : evaluates e ≡ true → Filling room turn
+    pub resting : evaluates e ≡ false → (room ≡ begin) × (turn .on ≡ false)
+
+  pub not-refused : (room : List ℕ) (turn : Turn) → Driven room turn → turn .on ≡ true → evaluates e ≡ true
+  not-refused room turn h on = not-both (evaluates e) (λ off. never (sym (h .resting off .1) ∙ on))
+
+  pub goes-on : evaluates e ≡ true → (room : List ℕ) (turn : Turn) → Filling room turn → Driven room turn
+  goes-on on room turn f = record { running = λ _. f; resting = λ off. never (sym off ∙ on) }
+
+module _ (limit : ℕ) (w values : List ℕ) (cells : List Cell) (each allowance : ℕ) (begin : List ℕ) (small : limit ≤ 80000) (e : Evaluation) (is : e ≡ ready limit w values cells each allowance (length begin)) where
+  module _ (on : evaluates e ≡ true) where
+    left : Passed limit w values (laid cells) each allowance (length begin)
+    left = passed limit w values (laid cells) each allowance (length begin) (ap (λ c. evaluates (readyBy limit w c each allowance (length begin))) (laid-check cells w values) ∙ sym (ap evaluates is) ∙ on)
+
+    pub formed : WellFormed 80000 w
+    formed = wider limit 80000 w small (admission-sound limit w (left .admitted))
+
+    pub long : terms w * each ≤ length begin
+    long = left .long
+
+    pub some : 0 < terms w
+    some = admission-sound limit w (left .admitted) .some
+
+  -- so many terms are run
+  module _ (n : ℕ) (is-n : n ≡ cond (evaluates e) (terms w) 0) where
+    pub all : evaluates e ≡ true → n ≡ terms w
+    all on = is-n ∙ ap (λ (b : Bool). cond b (terms w) 0) on
+
+    none : evaluates e ≡ false → n ≡ 0
+    none off = is-n ∙ ap (λ (b : Bool). cond b (terms w) 0) off
+
+    pub counted : 0 < n → evaluates e ≡ true
+    counted b = not-both (evaluates e) (λ off. omega (arith, b, none off))
+
+    module _ (Filling : List ℕ → Turn → Type 0) where
+      pub started : (turn : Turn) → turn ≡ firstTurn w values (length cells) n → (turn ≡ turnOf w values (length cells) n [] 0 → Filling begin turn) → Driven e begin Filling begin turn
+      started turn first begun =
+          record {
+            running = λ on. begun (first ∙ ap (λ (b : Bool). firstBy b w values (length cells) n) (lt-ltb 0 n (omega (arith, all on, some on))));
+            resting = λ off. (refl, ap (λ (t : Turn). t .on) (first ∙ ap (λ (b : Bool). firstBy b w values (length cells) n) (le-ltb 0 n (omega (arith, none off)))));
+          }

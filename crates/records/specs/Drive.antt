@@ -1,0 +1,25 @@
+-- What a run over a row of records starts with, and what it answers.
+-- Assumes nothing.
+use mathlib.Core.Bool.{Bool, true, false}
+use mathlib.Core.List.{List, []}
+use Prim.Native.Nat.{ℕ, _+_, _-_}
+use lib.Dec.{ltb}
+use lib.ListN.{getD}
+use Rattle.ops.specs.Meaning.{holds}
+use Rattle.evaluate.specs.declared.turns.Turn.{Turn}
+use Rattle.evaluate.specs.declared.Evaluation.{Evaluation}
+use Rattle.evaluate.specs.Turns.{turnOf}
+use Rattle.judge.specs.declared.Judgement.{Judgement}
+use Rattle.judge.specs.Judgement.{verdictBy}
+
+-- the turn of term 0, or none where there are no terms
+abbrev pub firstBy : Bool → List ℕ → List ℕ → ℕ → ℕ → Turn
+firstBy true w values count terms = turnOf w values count terms [] 0
+firstBy false w values count terms = record { on = false; at = 0; count = 0; slot = 0; index = 0; other = 0 }
+
+abbrev pub firstTurn : List ℕ → List ℕ → ℕ → ℕ → Turn
+firstTurn w values count terms = firstBy (ltb 0 terms) w values count terms
+
+-- the verdict from the last of so many terms: its value stands in the room at the end of the values, its truth at the end of the truths
+abbrev pub verdictFrom : Evaluation → ℕ → List ℕ → Judgement
+verdictFrom e terms room = verdictBy e (holds (getD room (terms - 1) 0)) (holds (getD room (terms + (terms - 1)) 0))

@@ -2,6 +2,7 @@ pub mod Laid
 pub mod Numbers
 pub mod Demand
 pub mod Looks
+pub mod Backward
 pub mod Facts
 pub mod Lent
 pub mod Readiness

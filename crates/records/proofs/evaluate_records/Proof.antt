@@ -396,10 +396,10 @@ module _ {M : Type 1} (𝓤 : URA M) (H : Heap 𝓤) (A : Atoms 𝓤) (W : Given
     Ev₀ = (Ev′.mir, l₀) ∷ (sl₀, l₁) ∷ (sl₁, l₂) ∷ (sl₂, l₃) ∷ (tyInt w64, l₄) ∷ (sl₃, l₅) ∷ (Ev′.mir, l₆) ∷ (tyInt w64, l₇) ∷ (tyInt w32, l₈) ∷ (U′.mir, l₉) ∷ (tyInt w32, l₁₀) ∷ (tyInt w64, l₁₁) ∷ (tyBool, l₁₂) ∷ (ptr, l₁₃) ∷ (sliceTy ptr, l₁₄) ∷ []
 
     opens : Sq W (‵ (flft κ₀ q₀) ∷ ‵ (flft κ₁ q₁) ∷ ‵ (flft κ₂ q₂) ∷ ‵ (flft κ₃ q₃) ∷ ‵ Own₀ ∷ ‵ Own₁ ∷ ‵ Own₂ ∷ ‵ (Own₃ ws (length ws)) ∷ ‵ (froom (sliceTy ptr) l₁₄ 0) ∷ ‵ (fdies (sliceTy ptr) l₁₄) ∷ ‵ (froom ptr l₁₃ 0) ∷ ‵ (fdies ptr l₁₃) ∷ ‵ (froom tyBool l₁₂ 0) ∷ ‵ (fdies tyBool l₁₂)
-          ∷ ‵ (froom (tyInt w64) l₁₁ 0) ∷ ‵ (fdies (tyInt w64) l₁₁) ∷ ‵ (froom (tyInt w32) l₁₀ 0) ∷ ‵ (fdies (tyInt w32) l₁₀) ∷ ‵ (froom U′.mir l₉ 0) ∷ ‵ (fdies U′.mir l₉)
-          ∷ ‵ (froom (tyInt w32) l₈ 0) ∷ ‵ (fdies (tyInt w32) l₈) ∷ ‵ (froom (tyInt w64) l₇ 0) ∷ ‵ (fdies (tyInt w64) l₇) ∷ ‵ (froom Ev′.mir l₆ 0) ∷ ‵ (fdies Ev′.mir l₆)
-          ∷ ‵ (fat fullShare sl₃ l₅ 0 (s (length ws))) ∷ ‵ (fdies sl₃ l₅) ∷ ‵ (fat fullShare (tyInt w64) l₄ 0 (vint w64 allowance)) ∷ ‵ (fdies (tyInt w64) l₄) ∷ ‵ (fat fullShare sl₂ l₃ 0 v₂) ∷ ‵ (fdies sl₂ l₃) ∷ ‵ (fat fullShare sl₁ l₂ 0 v₁) ∷ ‵ (fdies sl₁ l₂)
-          ∷ ‵ (fat fullShare sl₀ l₁ 0 v₀) ∷ ‵ (fdies sl₀ l₁) ∷ ‵ (froom Ev′.mir l₀ 0) ∷ ‵ (fdies Ev′.mir l₀) ∷ []) (runs (𝓣 .C) (𝓣 .Λ) Ev₀ mirs.t-1 (atRet Ev₀ Post))
+        ∷ ‵ (froom (tyInt w64) l₁₁ 0) ∷ ‵ (fdies (tyInt w64) l₁₁) ∷ ‵ (froom (tyInt w32) l₁₀ 0) ∷ ‵ (fdies (tyInt w32) l₁₀) ∷ ‵ (froom U′.mir l₉ 0) ∷ ‵ (fdies U′.mir l₉)
+        ∷ ‵ (froom (tyInt w32) l₈ 0) ∷ ‵ (fdies (tyInt w32) l₈) ∷ ‵ (froom (tyInt w64) l₇ 0) ∷ ‵ (fdies (tyInt w64) l₇) ∷ ‵ (froom Ev′.mir l₆ 0) ∷ ‵ (fdies Ev′.mir l₆)
+        ∷ ‵ (fat fullShare sl₃ l₅ 0 (s (length ws))) ∷ ‵ (fdies sl₃ l₅) ∷ ‵ (fat fullShare (tyInt w64) l₄ 0 (vint w64 allowance)) ∷ ‵ (fdies (tyInt w64) l₄) ∷ ‵ (fat fullShare sl₂ l₃ 0 v₂) ∷ ‵ (fdies sl₂ l₃) ∷ ‵ (fat fullShare sl₁ l₂ 0 v₁) ∷ ‵ (fdies sl₁ l₂)
+        ∷ ‵ (fat fullShare sl₀ l₁ 0 v₀) ∷ ‵ (fdies sl₀ l₁) ∷ ‵ (froom Ev′.mir l₀ 0) ∷ ‵ (fdies Ev′.mir l₀) ∷ []) (runs (𝓣 .C) (𝓣 .Λ) Ev₀ mirs.t-1 (atRet Ev₀ Post))
     opens =
         assigns ! (of-opd ! (load ! (from ! (fld ! refl (stop !))) (look-in ! 26 (sub ! 1 refl (whole !))))) (from ! (stop !)) (init ! 14 refl (tt, record { fits = room .0 })) $
         -- `ready`, on copies of what the shared slices own
@@ -453,9 +453,16 @@ module _ {M : Type 1} (𝓤 : URA M) (H : Heap 𝓤) (A : Atoms 𝓤) (W : Given
       (are .0 .0 .1) (are .1 .0 .0 .1) (are .1 .1 .0 .0 .1) (are .1 .1 .1 .0 .1) (are .1 .1 .1 .1 .0 .0 .1) 𝓣 known))
 
   meets : Meets 𝓤 H A entrance.signature (WpFn 𝓤 H (𝓣 .C) (𝓣 .Λ) code.function) (entrance.spec 𝓤 H A mem run)
-  meets = walk-meets 𝓤 H A entrance.ended stayed W
-      (goes-dropped 𝓤 H A W 4 (shrSliceOf (0 ∷ []) tt (plain (λ _. u32))) yes (λ κs y f. refl), (goes-dropped 𝓤 H A W 4 (shrSliceOf (1 ∷ []) tt (plain (λ _. u32))) yes (λ κs y f. refl), (goes-dropped 𝓤 H A W 4 (shrSliceOf (2 ∷ []) tt (plain (λ _. T.the-row))) yes (λ κs y f. refl),
-      (goes-dropped 𝓤 H A W 4 (plain (λ _. u64)) yes (λ κs y f. refl), (goes-slice 𝓤 H A W 4 3 tt (plain (λ _. u32)), tt)))))
+  meets = walk-meets 𝓤 H A entrance.ended stayed W (
+    goes-dropped 𝓤 H A W 4 (shrSliceOf (0 ∷ []) tt (plain (λ _. u32))) yes (λ κs y f. refl),
+    (
+      goes-dropped 𝓤 H A W 4 (shrSliceOf (1 ∷ []) tt (plain (λ _. u32))) yes (λ κs y f. refl),
+      (
+        goes-dropped 𝓤 H A W 4 (shrSliceOf (2 ∷ []) tt (plain (λ _. T.the-row))) yes (λ κs y f. refl),
+        (goes-dropped 𝓤 H A W 4 (plain (λ _. u64)) yes (λ κs y f. refl), (goes-slice 𝓤 H A W 4 3 tt (plain (λ _. u32)), tt)),
+      ),
+    ),
+  )
       (entrance.clauses 𝓤 H A mem run) (WpFn 𝓤 H (𝓣 .C) (𝓣 .Λ) code.function) (WpFn-mono 𝓤 H (W .laws) 𝓣 code.function) walks
 
 pub evaluate-records-spec : {M : Type 1} → stated.statement M

@@ -56,7 +56,7 @@ use Rattle.table.proofs.Admission.Laws as E′
 use Rattle.setting.specs.declared.cells.Cell.{Cell}
 use Rattle.setting.specs.Arrays.{Entries}
 use Rattle.setting.specs.Check.{cellFault}
-use Rattle.setting.proofs.Backward.{Known, at-end, one-before, at-start}
+use Rattle.records.proofs.Backward.{Known, at-end, one-before, at-start}
 use Rattle.setting.proofs.cells.Cell as T
 use Rattle.setting.proofs.cells.Cell.Laws as T′
 use Rattle.setting.proofs.checked_cell as checked-cell

@@ -89,8 +89,19 @@ use Rattle.records.proofs.checks.ready.Code.Mir as mirs
 
 -- nothing is had of a parameter at exit: none is a `&mut`
 abbrev stayed : Stays (readying.ended .signature .params) (readying.ended .kept)
-stayed = (stay-dropped (shrSliceOf (0 ∷ []) tt (plain (λ _. u32))) yes, (stay-dropped (plain (λ _. u32)) yes, (stay-dropped (shrSliceOf (1 ∷ []) tt (plain (λ _. u32))) yes, (stay-dropped (shrSliceOf (2 ∷ []) tt (plain (λ _. T.the-row))) yes,
-    (stay-dropped (plain (λ _. u32)) yes, (stay-dropped (plain (λ _. u64)) yes, (stay-dropped (plain (λ _. usize)) yes, tt)))))))
+stayed = (
+  stay-dropped (shrSliceOf (0 ∷ []) tt (plain (λ _. u32))) yes,
+  (
+    stay-dropped (plain (λ _. u32)) yes,
+    (
+      stay-dropped (shrSliceOf (1 ∷ []) tt (plain (λ _. u32))) yes,
+      (
+        stay-dropped (shrSliceOf (2 ∷ []) tt (plain (λ _. T.the-row))) yes,
+        (stay-dropped (plain (λ _. u32)) yes, (stay-dropped (plain (λ _. u64)) yes, (stay-dropped (plain (λ _. usize)) yes, tt))),
+      ),
+    ),
+  ),
+)
 
 module _ {M : Type 1} (𝓤 : URA M) (H : Heap 𝓤) (A : Atoms 𝓤) (mem : Memory → SProp 𝓤) (run : Routine → Fun 𝓤) where
   -- the contracts that the proof cites
@@ -353,9 +364,19 @@ module _ {M : Type 1} (𝓤 : URA M) (H : Heap 𝓤) (A : Atoms 𝓤) (W : Given
       (are .0 .0 .1) (are .1 .0 .1) (are .1 .1 .0 .0 .1) (are .1 .1 .1 .0 .0 .1) (are .1 .1 .1 .1 .0 .1) (are .1 .1 .1 .1 .1 .0 .1) (are .1 .1 .1 .1 .1 .1 .0 .1) (pre .0) (pre .1) 𝓣 known))
 
   meets : Meets 𝓤 H A readying.signature (WpFn 𝓤 H (𝓣 .C) (𝓣 .Λ) code.function) (readying.spec 𝓤 H A mem run)
-  meets = walk-meets 𝓤 H A readying.ended stayed W
-      (goes-dropped 𝓤 H A W 3 (shrSliceOf (0 ∷ []) tt (plain (λ _. u32))) yes (λ κs x f. refl), (goes-dropped 𝓤 H A W 3 (plain (λ _. u32)) yes (λ κs x f. refl), (goes-dropped 𝓤 H A W 3 (shrSliceOf (1 ∷ []) tt (plain (λ _. u32))) yes (λ κs x f. refl), (goes-dropped 𝓤 H A W 3 (shrSliceOf (2 ∷ []) tt (plain (λ _. T.the-row))) yes (λ κs x f. refl),
-      (goes-dropped 𝓤 H A W 3 (plain (λ _. u32)) yes (λ κs x f. refl), (goes-dropped 𝓤 H A W 3 (plain (λ _. u64)) yes (λ κs x f. refl), (goes-dropped 𝓤 H A W 3 (plain (λ _. usize)) yes (λ κs x f. refl), tt)))))))
+  meets = walk-meets 𝓤 H A readying.ended stayed W (
+    goes-dropped 𝓤 H A W 3 (shrSliceOf (0 ∷ []) tt (plain (λ _. u32))) yes (λ κs x f. refl),
+    (
+      goes-dropped 𝓤 H A W 3 (plain (λ _. u32)) yes (λ κs x f. refl),
+      (
+        goes-dropped 𝓤 H A W 3 (shrSliceOf (1 ∷ []) tt (plain (λ _. u32))) yes (λ κs x f. refl),
+        (
+          goes-dropped 𝓤 H A W 3 (shrSliceOf (2 ∷ []) tt (plain (λ _. T.the-row))) yes (λ κs x f. refl),
+          (goes-dropped 𝓤 H A W 3 (plain (λ _. u32)) yes (λ κs x f. refl), (goes-dropped 𝓤 H A W 3 (plain (λ _. u64)) yes (λ κs x f. refl), (goes-dropped 𝓤 H A W 3 (plain (λ _. usize)) yes (λ κs x f. refl), tt))),
+        ),
+      ),
+    ),
+  )
       (readying.clauses 𝓤 H A mem run) (WpFn 𝓤 H (𝓣 .C) (𝓣 .Λ) code.function) (WpFn-mono 𝓤 H (W .laws) 𝓣 code.function) walks
 
 pub ready-spec : {M : Type 1} → stated.statement M

@@ -1,9 +1,9 @@
 -- The run of evaluating over a row of records, turn by turn.
 -- Assumes nothing.
-use mathlib.Core.Path.{_≡_, refl, sym, ap, subst, _∙_}
+use mathlib.Core.Path.{_≡_, refl, sym, ap, _∙_}
 use mathlib.Core.Bool.{Bool, true, false, cond}
 use mathlib.Core.List.{List, _++_}
-use Prim.Native.Nat.{ℕ, _+_, _-_, _*_, _≤_, _<_}
+use Prim.Native.Nat.{ℕ, _+_, _-_, _≤_, _<_}
 use native.Mathlib.Omega.{arith}
 use lib.ListN.{length, take, drop}
 use Rattle.ops.proofs.Booleans.{never}
@@ -72,6 +72,9 @@ module _ (w values : List ℕ) (cells : List Cell) (allowance : ℕ) (begin : Li
 
         pub well : WellFormed 80000 w
         well = formed runs
+
+        pub every : n ≡ terms w
+        every = all runs
 
         pub most : turn .count ≤ length cells
         most = count-here n (fills.filled w values (recordAt cells) (length cells) n begin) (fills.asking w values (recordAt cells) (length cells) n begin) (length cells) (fills.asks w values (recordAt cells) (length cells) n begin) room turn (h .running runs)

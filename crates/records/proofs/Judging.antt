@@ -78,6 +78,9 @@ module _ (w values : List ℕ) (cells : List Cell) (allowance : ℕ) (begin : Li
         pub well : WellFormed 80000 w
         well = formed runs
 
+        pub every : n ≡ terms w
+        every = all runs
+
         pub most : turn .count ≤ length cells
         most = count-here n (fills.filled w values (recordAt cells) (length cells) n begin) (fills.asking w values (recordAt cells) (length cells) n begin) (length cells) (fills.asks w values (recordAt cells) (length cells) n begin) room turn (h .running runs)
 

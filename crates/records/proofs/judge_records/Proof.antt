@@ -4,7 +4,7 @@
 use mathlib.Core.Path.{_≡_, refl, sym, ap, subst, _∙_}
 use Prim.Native.Nat.{ℕ, _<_, _≤_, _+_, _-_, _*_, _^_}
 use native.Mathlib.Omega.{arith}
-use mathlib.Core.Bool.{true, false, not, cond}
+use mathlib.Core.Bool.{true, not, cond}
 use mathlib.Core.WellFounded.{WellFounded, InvImage·wf}
 use mathlib.Core.List.{List, [], _∷_}
 use lib.Dec.{T as Holds, lit<}
@@ -277,10 +277,10 @@ module _ {M : Type 1} (𝓤 : URA M) (H : Heap 𝓤) (A : Atoms 𝓤) (W : Given
   abbrev Lent : ℕ → GName → List ℕ → Fml
   Lent ν δ l = MutSlice (named 2) (ν ∷ []) u32 .own (x δ l) (s (length l) ∷ [])
 
-  goes-step : (n ν : ℕ) (δ : GName) (l : List ℕ) (t : Turn) (v : ℕ) → n < 2 ^ 32 → Is U.the-row t (U′.lowered t ∷ []) → v < 2 ^ 32 → WellFormed 80000 w → (t .at < n) × (n + n ≤ length l)
+  goes-step : (n ν : ℕ) (δ : GName) (l : List ℕ) (t : Turn) (v : ℕ) → n < 2 ^ 32 → Is U.the-row t (U′.lowered t ∷ []) → v < 2 ^ 32 → WellFormed 80000 w → n ≡ terms w → (t .at < n) × (n + n ≤ length l)
       → ent 𝓤 (⋆ 𝓤 H A ((‵ (flft κ₀ q₀) ⊛ (‵ (flft κ₁ q₁) ⊛ ‵ (flft (ν ∷ []) fullShare))) ∷ (‵ Own₀ ⊛ (‵ Own₁ ⊛ ‵ (Lent ν δ l))) ∷ [])) (StepC 𝓤 H A mem run .pre (to-step n ν δ l t v))
-  goes-step n ν δ l t v fits low fv well inside =
-      qed W ((‵ (flft κ₀ q₀) ⊛ (‵ (flft κ₁ q₁) ⊛ ‵ (flft (ν ∷ []) fullShare))) ∷ (‵ Own₀ ⊛ (‵ Own₁ ⊛ ‵ (Lent ν δ l))) ∷ []) ∵ tells ! (two 𝓤 well inside) $
+  goes-step n ν δ l t v fits low fv well every inside =
+      qed W ((‵ (flft κ₀ q₀) ⊛ (‵ (flft κ₁ q₁) ⊛ ‵ (flft (ν ∷ []) fullShare))) ∷ (‵ Own₀ ⊛ (‵ Own₁ ⊛ ‵ (Lent ν δ l))) ∷ []) ∵ tells ! (three 𝓤 well every inside) $
       split ! $ move ! (1 ∷ []) $ split ! $ move ! (1 ∷ []) $ nothing ! $ move ! (1 ∷ 0 ∷ []) $ join ! $ move ! (1 ∷ 0 ∷ []) $ join ! $ move ! (1 ∷ 0 ∷ []) $ join ! $ frame ! $
       split ! $ move ! (1 ∷ []) $ split ! $ move ! (1 ∷ []) $ nothing ! $ owned ! u32 (Is u32) (uint-makes 𝓤 H A W w32) v _ (refl, fv) $ fjoin ! $ owned ! U.the-row (Is U.the-row) (LL.makes U.the-type U′.the-plain 𝓤 H A) t _ low $ fjoin ! $ move ! (1 ∷ 0 ∷ []) $ fjoin ! $
       owned ! u32 (Is u32) (uint-makes 𝓤 H A W w32) n _ (refl, fits) $ fjoin ! $ owned ! usize (Is usize) (uint-makes 𝓤 H A W w64) (length cells) _ (refl, room₂ .0) $ fjoin ! $ move ! (1 ∷ 0 ∷ []) $ fjoin ! $ move ! (1 ∷ 0 ∷ []) $ fjoin ! $ done !
@@ -396,7 +396,7 @@ module _ {M : Type 1} (𝓤 : URA M) (H : Heap 𝓤) (A : Atoms 𝓤) (W : Given
           -- [the work, lent; the lender's part; ν's token; the row's token; what the row owns; the two other tokens; what the two own; _14; …]: `step`
           move ! (7 ∷ []) $ use1 W (‵ Own₀ ⊛ ‵ Own₀) (shr-slice-copy 𝓤 H A W (named 0) κ₀ u32 .twice x₀ (v₀ ∷ [])) $ split ! $ move ! (9 ∷ []) $ use1 W (‵ Own₁ ⊛ ‵ Own₁) (shr-slice-copy 𝓤 H A W (named 1) κ₁ u32 .twice x₁ (v₁ ∷ [])) $ split ! $
           move ! (0 ∷ 4 ∷ []) $ join ! $ move ! (2 ∷ 0 ∷ []) $ join ! $ move ! (8 ∷ 4 ∷ []) $ join ! $ move ! (7 ∷ 0 ∷ []) $ join ! $
-          use2 W (raw (StepC 𝓤 H A mem run .pre (to-step n ν δ l t v))) (goes-step n ν δ l t v fits low (is-v .1) (drive.well w values cells allowance ws e is-e n is-n l t driven (taken (t .on) on)) (drive.place w values cells allowance ws e is-e n is-n l t driven (taken (t .on) on))) $
+          use2 W (raw (StepC 𝓤 H A mem run .pre (to-step n ν δ l t v))) (goes-step n ν δ l t v fits low (is-v .1) (drive.well w values cells allowance ws e is-e n is-n l t driven (taken (t .on) on)) (drive.every w values cells allowance ws e is-e n is-n l t driven (taken (t .on) on)) (drive.place w values cells allowance ws e is-e n is-n l t driven (taken (t .on) on))) $
           calls-at-last ! (fmOf 𝓤 H (W .laws) 𝓣) (StepC 𝓤 H A mem run) (known .step) (to-step n ν δ l t v)
           (and-then ! (load ! (from ! (stop !)) (look ! 36 refl)) (and-then ! (load ! (from ! (stop !)) (look ! 34 refl)) (and-then ! (load ! (from ! (stop !)) (look ! 24 refl)) (and-then ! (load ! (from ! (stop !)) (look ! 22 refl))
           (and-then ! (load ! (from ! (stop !)) (look ! 10 refl)) (and-then ! (load ! (from ! (stop !)) (look ! 20 refl)) (and-then ! (load ! (from ! (stop !)) (look ! 18 refl)) (no-more !)))))))) (λ u′.

@@ -1,5 +1,3 @@
-use borrow.Author.Needs.{needs}
-use borrow.Author.Tests.{eqb-true}
 use Rattle.records.proofs.rows.chosen.Statement.{statement}
 use Rattle.records.proofs.rows.chosen.Tie as tie
 

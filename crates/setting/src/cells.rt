@@ -14,6 +14,7 @@ use crate::arrays::slot_sort;
 use table::Admission;
 use table::refuse;
 
+#[repr(C)]
 pub struct Cell {
     pub slot: u32,
     pub index: u32,

@@ -9,6 +9,6 @@ pub mod Stacks
 pub mod SoundTerms
 pub mod Places
 pub mod OpNumbers
-pub mod Operands
+pub mod InTable
 pub mod FaultOrder
 pub mod ThreeSorts

@@ -99,6 +99,14 @@ abbrev pub refuse : ℕ → Bool → ℕ → ℕ
 refuse number true rest = rest
 refuse number false rest = number
 
+-- of a term x at number i, of a rank: 5, 6 and 7 alone
+abbrev pub rankFault : List ℕ → Rank → ℕ → Term → ℕ
+rankFault t r i x =
+    refuse 5 (placedAs (fieldsOf r) i x)
+    (refuse 6 (typedAs r (x .sort) (sortAt t (x .p)) (sortAt t (x .q)) (sortAt t (x .r)))
+    (refuse 7 (valuedAs (fieldsOf r) x)
+    0))
+
 unfoldable pub faultIf : List ℕ → ℕ → Bool → ℕ
 faultIf t i clashing =
     let x = termAt t i in

@@ -5,8 +5,8 @@ ghost use lib.Dec.{leb};
 ghost use lib.ListN.{length};
 ghost use Rattle.table.specs.Terms.{termAt};
 ghost use Rattle.table.specs.Faults.{known, chain, refuse, faultIf};
+use crate::operands::rank_fault;
 use crate::ranks::rank_of;
-use crate::ranks::ranked;
 use crate::ranks::storing;
 use crate::sorts::sorted;
 use crate::words::Term;
@@ -67,7 +67,7 @@ pub fn fault(table: &[u32], i: u32, clashing: bool) -> u32
     if !sorted(x.sort) {
         return 4;
     }
-    let number = ranked(table, rank_of(x.op), i, x);
+    let number = rank_fault(table, rank_of(x.op), i, x);
     if number != 0 {
         return number;
     }

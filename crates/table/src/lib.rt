@@ -1,7 +1,8 @@
 // Tables of terms, and which of them the other routines take (paper 01, "Refused because of the input", 1 to 10).
 mod clashes; // refusal 8
 mod faults; // refusals 3 to 9, term by term
-mod ranks; // what each operator asks of its fields and sorts
+mod operands; // refusals 5 to 7, by rank
+mod ranks; // the operators by what they ask of their fields and sorts
 mod sorts; // Boolean, vector, array
 mod words; // a table's numbers as terms
 

@@ -29,20 +29,20 @@ returns-2 c =
 sorted-here : (c : tie.Else2) → sorted (termAt (c .before .before .before .before .before .before .args .table .now) (c .before .before .before .before .before .before .args .i) .sort) ≡ true
 sorted-here c = sym (c .before .sorted .ensures ∙ ap (λ (x : Term). sorted (x .sort)) (c .before .before .before .before .term-in .ensures)) ∙ not-false _ (c .if2 .left)
 
-ranked-here : (c : tie.After-ranked) →
+ranked-here : (c : tie.After-rank-fault) →
     let a = c .before .before .before .before .before .before .before .before .args in
-    c .ranked .result ≡ ranked (a .table .now) (a .i) (rank (termAt (a .table .now) (a .i))) (termAt (a .table .now) (a .i)) 0
+    c .rank-fault .result ≡ ranked (a .table .now) (a .i) (rank (termAt (a .table .now) (a .i))) (termAt (a .table .now) (a .i)) 0
 ranked-here c =
     let a = c .before .before .before .before .before .before .before .before .args in
     let x = c .before .before .before .before .before .before .term-in in
-    c .ranked .ensures
+    c .rank-fault .ensures
     ∙ ap (λ (r : Rank). ranked (a .table .now) (a .i) r (x .result) 0) (c .before .rank-of .ensures)
     ∙ ap (λ (y : Term). ranked (a .table .now) (a .i) (rank y) y 0) (x .ensures)
 
 returns-3 : tie.Need-returns-3
 returns-3 c =
     let a = c .before .before .before .before .before .before .before .before .before .args in
-    refused-ranked (a .table .now) (a .i) (a .clashing) (known-here (c .before .before .before .before .before)) (sorted-here (c .before .before .before)) (c .before .ranked .result) (ranked-here (c .before)) (c .if3 .taken)
+    refused-ranked (a .table .now) (a .i) (a .clashing) (known-here (c .before .before .before .before .before)) (sorted-here (c .before .before .before)) (c .before .rank-fault .result) (ranked-here (c .before)) (c .if3 .taken)
 
 short-requires : tie.Need-short-requires
 short-requires c κs = c .before .before .before .before .before .before .before .term-in .ensures
@@ -51,7 +51,7 @@ returns-4 : tie.Need-returns-4
 returns-4 c =
     let a = c .before .before .before .before .before .before .before .before .before .before .before .before .args in
     rw (c .refuse2 .ensures, c .before .refuse .ensures, c .before .before .short .ensures)
-    (left-to-8 (a .table .now) (a .i) (a .clashing) (known-here (c .before .before .before .before .before .before .before .before)) (sorted-here (c .before .before .before .before .before .before)) (c .before .before .before .before .ranked .result) (ranked-here (c .before .before .before .before)) (c .before .before .before .if3 .left))
+    (left-to-8 (a .table .now) (a .i) (a .clashing) (known-here (c .before .before .before .before .before .before .before .before)) (sorted-here (c .before .before .before .before .before .before)) (c .before .before .before .before .rank-fault .result) (ranked-here (c .before .before .before .before)) (c .before .before .before .if3 .left))
 
 pub fault-spec : {M : Type 1} → statement M
 fault-spec =

@@ -2,7 +2,7 @@ pub mod GroupSizes
 pub mod Layouts
 pub mod AddedKinds
 pub mod Settings
-pub mod Numbers
+pub mod Laying
 pub mod Rooms
 pub mod ReadGroups
 pub mod TermGroups

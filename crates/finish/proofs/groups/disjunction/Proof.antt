@@ -1,24 +1,24 @@
-use mathlib.Core.Path.{_∙_}
+use mathlib.Core.Path.{refl, _∙_}
 use lib.Dec.{lit≤}
 use Rattle.finish.specs.Added.{laidFrom}
-use Rattle.finish.proofs.Numbers.{fits}
+use Rattle.finish.proofs.Laying.{fits, two-laid, three-laid}
 use Rattle.finish.proofs.groups.disjunction.Statement.{statement}
 use Rattle.finish.proofs.groups.disjunction.Tie as tie
 
 returns : tie.Need-returns
 unfolding laidFrom
-returns c = (
-  c .grown .ensures,
-  rw (
-    c .before .before .before .lay-two .ensures,
-    c .before .before .before .before .or-term2 .ensures,
-    c .before .before .before .before .before .and-term3 .ensures,
-    c .before .before .before .before .before .before .before .before .before .lay-three .ensures,
-    c .before .before .before .before .before .before .before .before .before .before .or-term .ensures,
-    c .before .before .before .before .before .before .before .before .before .before .before .and-term2 .ensures,
-    c .before .before .before .before .before .before .before .before .before .before .before .before .and-term .ensures,
-  ),
-)
+returns c =
+    let b = c .before .before .before .before .before .before .before .before .before .before .before .before .before .before .before .args .b in (
+      c .grown .ensures,
+      (two-laid b 3 (c .before .before .before .lay-two .ensures)
+          (c .before .before .before .before .before .and-term3 .ensures)
+          (c .before .before .before .before .or-term2 .ensures)
+          (three-laid b 0 (c .before .before .before .before .before .before .before .before .before .lay-three .ensures)
+          (c .before .before .before .before .before .before .before .before .before .before .before .before .and-term .ensures)
+          (c .before .before .before .before .before .before .before .before .before .before .before .and-term2 .ensures)
+          (c .before .before .before .before .before .before .before .before .before .before .or-term .ensures)
+          refl)),
+    )
 
 pub disjunction-spec : {M : Type 1} → statement M
 disjunction-spec =

@@ -1,25 +1,25 @@
-use mathlib.Core.Path.{_∙_}
+use mathlib.Core.Path.{refl, _∙_}
 use lib.Dec.{lit≤}
 use Rattle.finish.specs.Added.{laidFrom}
-use Rattle.finish.proofs.Numbers.{fits}
+use Rattle.finish.proofs.Laying.{fits, two-laid, three-laid}
 use Rattle.finish.proofs.groups.shift.Statement.{statement}
 use Rattle.finish.proofs.groups.shift.Tie as tie
 
 returns : tie.Need-returns
 unfolding laidFrom
-returns c = (
-  c .grown .ensures,
-  rw (
-    c .before .before .before .lay-three2 .ensures,
-    c .before .before .before .before .or-term .ensures,
-    c .before .before .before .before .before .and-term2 .ensures,
-    c .before .before .before .before .before .before .and-term .ensures,
-    c .before .before .before .before .before .before .before .before .before .before .lay-three .ensures,
-    c .before .before .before .before .before .before .before .before .before .before .before .not-term .ensures,
-    c .before .before .before .before .before .before .before .before .before .before .before .before .less-term .ensures,
-    c .before .before .before .before .before .before .before .before .before .before .before .before .before .constant-term .ensures,
-  ),
-)
+returns c =
+    let b = c .before .before .before .before .before .before .before .before .before .before .before .before .before .before .before .before .args .b in (
+      c .grown .ensures,
+      (three-laid b 3 (c .before .before .before .lay-three2 .ensures)
+          (c .before .before .before .before .before .before .and-term .ensures)
+          (c .before .before .before .before .before .and-term2 .ensures)
+          (c .before .before .before .before .or-term .ensures)
+          (three-laid b 0 (c .before .before .before .before .before .before .before .before .before .before .lay-three .ensures)
+          (c .before .before .before .before .before .before .before .before .before .before .before .before .before .constant-term .ensures)
+          (c .before .before .before .before .before .before .before .before .before .before .before .before .less-term .ensures)
+          (c .before .before .before .before .before .before .before .before .before .before .before .not-term .ensures)
+          refl)),
+    )
 
 pub shift-spec : {M : Type 1} → statement M
 shift-spec =

@@ -1,29 +1,29 @@
-use mathlib.Core.Path.{_∙_}
+use mathlib.Core.Path.{refl, _∙_}
 use lib.Dec.{lit≤}
 use Rattle.finish.specs.Added.{laidFrom}
-use Rattle.finish.proofs.Numbers.{fits}
+use Rattle.finish.proofs.Laying.{fits, two-laid, three-laid}
 use Rattle.finish.proofs.groups.store.Statement.{statement}
 use Rattle.finish.proofs.groups.store.Tie as tie
 
 returns : tie.Need-returns
 unfolding laidFrom
-returns c = (
-  c .grown .ensures,
-  rw (
-    c .before .before .before .lay-three3 .ensures,
-    c .before .before .before .before .or-term .ensures,
-    c .before .before .before .before .before .and-term4 .ensures,
-    c .before .before .before .before .before .before .and-term3 .ensures,
-    c .before .before .before .before .before .before .before .before .before .before .lay-three2 .ensures,
-    c .before .before .before .before .before .before .before .before .before .before .before .equal-term2 .ensures,
-    c .before .before .before .before .before .before .before .before .before .before .before .before .and-term2 .ensures,
-    c .before .before .before .before .before .before .before .before .before .before .before .before .before .and-term .ensures,
-    c .before .before .before .before .before .before .before .before .before .before .before .before .before .before .before .before .before .lay-three .ensures,
-    c .before .before .before .before .before .before .before .before .before .before .before .before .before .before .before .before .before .before .choice-term .ensures,
-    c .before .before .before .before .before .before .before .before .before .before .before .before .before .before .before .before .before .before .before .equal-term .ensures,
-    c .before .before .before .before .before .before .before .before .before .before .before .before .before .before .before .before .before .before .before .before .read-term .ensures,
-  ),
-)
+returns c =
+    let b = c .before .before .before .before .before .before .before .before .before .before .before .before .before .before .before .before .before .before .before .before .before .before .before .args .b in (
+      c .grown .ensures,
+      (three-laid b 6 (c .before .before .before .lay-three3 .ensures)
+          (c .before .before .before .before .before .before .and-term3 .ensures)
+          (c .before .before .before .before .before .and-term4 .ensures)
+          (c .before .before .before .before .or-term .ensures)
+          (three-laid b 3 (c .before .before .before .before .before .before .before .before .before .before .lay-three2 .ensures)
+          (c .before .before .before .before .before .before .before .before .before .before .before .before .before .and-term .ensures)
+          (c .before .before .before .before .before .before .before .before .before .before .before .before .and-term2 .ensures)
+          (c .before .before .before .before .before .before .before .before .before .before .before .equal-term2 .ensures)
+          (three-laid b 0 (c .before .before .before .before .before .before .before .before .before .before .before .before .before .before .before .before .before .lay-three .ensures)
+          (c .before .before .before .before .before .before .before .before .before .before .before .before .before .before .before .before .before .before .before .before .read-term .ensures)
+          (c .before .before .before .before .before .before .before .before .before .before .before .before .before .before .before .before .before .before .before .equal-term .ensures)
+          (c .before .before .before .before .before .before .before .before .before .before .before .before .before .before .before .before .before .before .choice-term .ensures)
+          refl))),
+    )
 
 pub store-spec : {M : Type 1} → statement M
 store-spec =

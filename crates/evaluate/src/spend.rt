@@ -29,7 +29,7 @@ fn steps(table: &[u32]) -> u64
     let terms = table::count(table);
     let mut sum = 0u64;
     for i in 0..terms {
-        sum += steps_of(table, table::term_at(table, i)) as u64;
+        sum += steps_of(table, table::term_in(table, i)) as u64;
     }
     sum
 }

@@ -20,8 +20,12 @@ count-requires c κs = omega (arith, c .before .pre .few)
 loop-holds : tie.Need-loop-holds Inv-loop μ-loop
 loop-holds c = none-yet (c .before .before .args .table .now) (c .count .result)
 
+-- the table has term i whole
+term-in-requires : tie.Need-term-in-requires Inv-loop μ-loop
+term-in-requires c κs = omega (arith, c .loop-test .taken, c .before .before .count .ensures)
+
 added : (c : tie.After-steps-of Inv-loop μ-loop) → c .steps-of .result ≡ stepsOf (c .before .before .before .before .before .before .args .table .now) (termAt (c .before .before .before .before .before .before .args .table .now) (c .before .before .before .loop .i))
-added c = c .steps-of .ensures ∙ ap (stepsOf (c .before .before .before .before .before .before .args .table .now)) (c .before .term-at .ensures)
+added c = c .steps-of .ensures ∙ ap (stepsOf (c .before .before .before .before .before .before .args .table .now)) (c .before .term-in .ensures)
 
 -- what is added is at most 17
 small : (c : tie.After-steps-of Inv-loop μ-loop) → c .steps-of .result ≤ 17
@@ -54,7 +58,7 @@ steps-spec =
     μ-loop
     count-requires
     loop-holds
-    (λ c κs. search needs)
+    term-in-requires
     (λ c κs. search needs)
     cast-sum
     add-sum

@@ -7,11 +7,13 @@ use Prim.Native.Nat.{ℕ, zero, suc, _<_}
 use lib.Dec.{eqb}
 use lib.ListN.{getD}
 use borrow.Author.Tests.{eq-eqb, ne-eqb}
+use Rattle.ops.proofs.Booleans.{never}
 use Rattle.table.specs.declared.words.Term.{Term}
 use Rattle.table.specs.Terms.{termAt}
 use Rattle.table.specs.Faults.{storing}
 use Rattle.table.proofs.Stacks.{Stacked, at-end, at-store}
-use Rattle.evaluate.specs.Reads.{readWithin, readAt, bottomWithin, bottomAt}
+use Rattle.evaluate.specs.declared.reads.Found.{Found}
+use Rattle.evaluate.specs.Reads.{foundWithin, foundAt, readAt, bottomWithin, bottomAt}
 
 module _ (w : List ℕ) (stacked : Stacked w) where
   -- the variable at the end of a chain
@@ -19,17 +21,30 @@ module _ (w : List ℕ) (stacked : Stacked w) where
   unfolding bottomWithin
   bottom-law left a = refl
 
-  -- the value at j
-  module _ (front : List ℕ) (j cell : ℕ) where
-    abbrev over : ℕ → ℕ → ℕ
-    over a below = cond (eqb (getD front (termAt w a .q) 0) j) (getD front (termAt w a .r) 0) below
+  -- what is found at j
+  module _ (front : List ℕ) (j : ℕ) where
+    abbrev over : ℕ → Found → Found
+    over a below = cond (eqb (getD front (termAt w a .q) 0) j) (record { stored = true; number = getD front (termAt w a .r) 0 }) below
 
-    read-law : (left a : ℕ) → readWithin (suc left) w front a j cell ≡ cond (storing (termAt w a)) (over a (readWithin left w front (termAt w a .p) j cell)) cell
-    unfolding readWithin
-    read-law left a = refl
+    abbrev end : ℕ → Found
+    end a = record { stored = false; number = termAt w a .p }
 
-    pub read-store : (a : ℕ) → storing (termAt w a) ≡ true → readAt w front a j cell ≡ over a (readAt w front (termAt w a .p) j cell)
-    read-store a s = at-store w stacked (λ f k. readWithin f w front k j cell) over (λ _. cell) read-law a s
+    found-law : (left a : ℕ) → foundWithin (suc left) w front a j ≡ cond (storing (termAt w a)) (over a (foundWithin left w front (termAt w a .p) j)) (end a)
+    unfolding foundWithin
+    found-law left a = refl
+
+    pub found-store : (a : ℕ) → storing (termAt w a) ≡ true → foundAt w front a j ≡ over a (foundAt w front (termAt w a .p) j)
+    found-store a s = at-store w stacked (λ f k. foundWithin f w front k j) over end found-law a s
+
+    -- the value at j
+    pub read-store : (cell a : ℕ) → storing (termAt w a) ≡ true → readAt w front a j cell ≡ cond (eqb (getD front (termAt w a .q) 0) j) (getD front (termAt w a .r) 0) (readAt w front (termAt w a .p) j cell)
+    read-store cell a s =
+        ap (λ (f : Found). cond (f .stored) (f .number) cell) (found-store a s)
+        ∙ by (eqb (getD front (termAt w a .q) 0) j) (getD front (termAt w a .r) 0) (foundAt w front (termAt w a .p) j)
+      where
+        by : (b : Bool) (v : ℕ) (below : Found) → cond (cond b (record { stored = true; number = v }) below .stored) (cond b (record { stored = true; number = v }) below .number) cell ≡ cond b v (cond (below .stored) (below .number) cell)
+        by true v below = refl
+        by false v below = refl
 
   module _ (a : ℕ) (x : Term) (here : x ≡ termAt w a) where
     stored-here : (b : Bool) → storing x ≡ b → storing (termAt w a) ≡ b
@@ -48,18 +63,40 @@ module _ (w : List ℕ) (stacked : Stacked w) where
         at-store w stacked (λ f k. bottomWithin f w k) (λ k below. below) (λ k. termAt w k .p) bottom-law a (stored-here true e)
         ∙ ap (λ (y : Term). bottomAt w (y .p)) (sym here)
 
-    module _ (front : List ℕ) (j cell : ℕ) where
-      pub read-end : storing x ≡ false → cell ≡ readAt w front a j cell
-      read-end e = sym (at-end w stacked (λ f k. readWithin f w front k j cell) (over front j cell) (λ _. cell) (read-law front j cell) a (stored-here false e))
+    module _ (front : List ℕ) (j : ℕ) where
+      pub found-end : storing x ≡ false → record { stored = false; number = x .p } ≡ foundAt w front a j
+      found-end e =
+          ap (λ (y : Term). record { stored = false; number = y .p }) here
+          ∙ sym (at-end w stacked (λ f k. foundWithin f w front k j) (over front j) (end front j) (found-law front j) a (stored-here false e))
 
       -- a store of x over what is beneath it
-      stored : storing x ≡ true → readAt w front a j cell ≡ cond (eqb (getD front (x .q) 0) j) (getD front (x .r) 0) (readAt w front (x .p) j cell)
+      stored : storing x ≡ true → foundAt w front a j ≡ cond (eqb (getD front (x .q) 0) j) (record { stored = true; number = getD front (x .r) 0 }) (foundAt w front (x .p) j)
       stored e =
-          read-store front j cell a (stored-here true e)
-          ∙ ap (λ (y : Term). cond (eqb (getD front (y .q) 0) j) (getD front (y .r) 0) (readAt w front (y .p) j cell)) (sym here)
+          found-store front j a (stored-here true e)
+          ∙ ap (λ (y : Term). cond (eqb (getD front (y .q) 0) j) (record { stored = true; number = getD front (y .r) 0 }) (foundAt w front (y .p) j)) (sym here)
 
-      pub read-hit : storing x ≡ true → getD front (x .q) 0 ≡ j → getD front (x .r) 0 ≡ readAt w front a j cell
-      read-hit e h = sym (stored e ∙ ap (λ (b : Bool). cond b (getD front (x .r) 0) (readAt w front (x .p) j cell)) (eq-eqb (getD front (x .q) 0) j h))
+      pub found-hit : storing x ≡ true → getD front (x .q) 0 ≡ j → record { stored = true; number = getD front (x .r) 0 } ≡ foundAt w front a j
+      found-hit e h = sym (stored e ∙ ap (λ (b : Bool). cond b (record { stored = true; number = getD front (x .r) 0 }) (foundAt w front (x .p) j)) (eq-eqb (getD front (x .q) 0) j h))
 
-      pub read-miss : storing x ≡ true → (getD front (x .q) 0 ≡ j → ⊥) → readAt w front (x .p) j cell ≡ readAt w front a j cell
-      read-miss e h = sym (stored e ∙ ap (λ (b : Bool). cond b (getD front (x .r) 0) (readAt w front (x .p) j cell)) (ne-eqb (getD front (x .q) 0) j h))
+      pub found-miss : storing x ≡ true → (getD front (x .q) 0 ≡ j → ⊥) → foundAt w front (x .p) j ≡ foundAt w front a j
+      found-miss e h = sym (stored e ∙ ap (λ (b : Bool). cond b (record { stored = true; number = getD front (x .r) 0 }) (foundAt w front (x .p) j)) (ne-eqb (getD front (x .q) 0) j h))
+
+      pub read-end : (cell : ℕ) → storing x ≡ false → cell ≡ readAt w front a j cell
+      read-end cell e = ap (λ (f : Found). cond (f .stored) (f .number) cell) (found-end e)
+
+-- where no store holds the index, what is found is the variable's slot
+found-slot-within : (left : ℕ) (w front : List ℕ) (a j : ℕ) → foundWithin left w front a j .stored ≡ false → foundWithin left w front a j .number ≡ bottomWithin left w a
+unfolding foundWithin bottomWithin
+found-slot-within zero w front a j h = refl
+found-slot-within (suc left) w front a j h =
+    by (storing (termAt w a)) (eqb (getD front (termAt w a .q) 0) j) (foundWithin left w front (termAt w a .p) j) (found-slot-within left w front (termAt w a .p) j) h
+  where
+    by : (s b : Bool) (below : Found) → (below .stored ≡ false → below .number ≡ bottomWithin left w (termAt w a .p))
+        → cond s (cond b (record { stored = true; number = getD front (termAt w a .r) 0 }) below) (record { stored = false; number = termAt w a .p }) .stored ≡ false
+        → cond s (cond b (record { stored = true; number = getD front (termAt w a .r) 0 }) below) (record { stored = false; number = termAt w a .p }) .number ≡ cond s (bottomWithin left w (termAt w a .p)) (termAt w a .p)
+    by true true below rest g = never (sym g)
+    by true false below rest g = rest g
+    by false b below rest g = refl
+
+pub found-slot : (w front : List ℕ) (a j : ℕ) → foundAt w front a j .stored ≡ false → foundAt w front a j .number ≡ bottomAt w a
+found-slot w front a j h = found-slot-within (suc a) w front a j h

@@ -20,7 +20,7 @@ use Rattle.evaluate.specs.Values.{valueAt, numbers}
 use Rattle.evaluate.specs.Turns.{turnOf, numberOf, readingAt, nextRead, onward, numbered}
 use Rattle.evaluate.proofs.Folds.{length-numbers, numbers-more}
 use Rattle.evaluate.proofs.Fronts.{front-more, front-length}
-use Rattle.evaluate.proofs.Meaning.{asked, number-is}
+use Rattle.evaluate.proofs.Meaning.{valueRead, number-is}
 use Rattle.evaluate.proofs.Onward.{Arrived, arrived}
 use Rattle.evaluate.proofs.Runs.{inCells, Running, Turning, turning, at-is, inside, answer-is}
 
@@ -50,7 +50,7 @@ module _ (w row : List ℕ) (cells : ℕ → Cell) (count n : ℕ) (begin : List
 
   module _ (limit : ℕ) (f : WellFormed limit w) (all : n ≡ terms w) (enough : n ≤ length begin) where
     -- a term writes its value
-    wrote : (i answer : ℕ) (b : i < terms w) → (reading (termAt w i) ≡ true → answer ≡ asked limit w row (λ slot j other. lookFrom cells count 0 slot j other) f i b)
+    wrote : (i answer : ℕ) (b : i < terms w) → (reading (termAt w i) ≡ true → answer ≡ valueRead limit w row (λ slot j other. lookFrom cells count 0 slot j other) f i b)
         → numbered w row answer (filled i) i ≡ filled (i + 1)
     wrote i answer b h =
         ap (λ (l : List ℕ). set (filled i) i (numberOf w row l (termAt w i) answer)) (front-is i)

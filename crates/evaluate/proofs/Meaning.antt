@@ -24,7 +24,7 @@ use Rattle.table.specs.WellFormed.{Sound, WellFormed}
 use Rattle.table.proofs.SoundTerms.{store-below}
 use Rattle.setting.specs.Interpretation.{Value, Interpretation, interpret}
 use Rattle.evaluate.specs.Values.{scalarValue, arrayValue, valueBy, valueIn, values, valueAt, numbers}
-use Rattle.evaluate.specs.Reads.{readWithin, readAt, bottomWithin, bottomAt}
+use Rattle.evaluate.specs.Reads.{readAt, bottomAt}
 use Rattle.evaluate.specs.Turns.{variableNumber, numberOf}
 use Rattle.evaluate.proofs.Chains.{read-end, read-store, bottom-end, bottom-on}
 use Rattle.evaluate.proofs.Folds.{value-below, number-in}
@@ -109,7 +109,7 @@ module _ (w row front : List ℕ) (look : ℕ → ℕ → ℕ → ℕ) (v : ℕ 
 
   abbrev numberBy : Op → ℕ
   numberBy op =
-      cond (reads (rankOf op)) (readAt w front (x .p) (getD front (x .q) 0) answer)
+      cond (reads (rankOf op)) answer
       (cond (immediate (fieldsOf (rankOf op))) (x .p)
       (cond (slotted (fieldsOf (rankOf op))) (variableNumber row x)
       (apply op width (getD front (x .p) 0) (getD front (x .q) 0) (getD front (x .r) 0))))
@@ -122,7 +122,7 @@ module _ (w row front : List ℕ) (look : ℕ → ℕ → ℕ → ℕ) (v : ℕ 
   variable-same true = refl
   variable-same false = refl
 
-  number-by : (op : Op) → (reads (rankOf op) ≡ true → readAt w front (x .p) (getD front (x .q) 0) answer ≡ v (x .p) .cell (v (x .q) .num)) → numberBy op ≡ valueBy (interpret row look) v width x op .num
+  number-by : (op : Op) → (reads (rankOf op) ≡ true → answer ≡ v (x .p) .cell (v (x .q) .num)) → numberBy op ≡ valueBy (interpret row look) v width x op .num
   unfolding valueBy apply
   number-by Constant h = refl
   number-by Variable h = variable-same (eqb (x .sort .m) 0)
@@ -165,27 +165,31 @@ reads-select Store h = never h
 reads-select Unknown h = never h
 
 module _ (limit : ℕ) (w row : List ℕ) (look : ℕ → ℕ → ℕ → ℕ) (f : WellFormed limit w) (k : ℕ) (b : k < terms w) where
-  -- the cell that a read asks for
+  -- the variable's cell beneath a read, and the read's value
   abbrev pub asked : ℕ
   asked =
       let x = termAt w k in
       look (bottomAt w (x .p)) (getD (numbers w (interpret row look) k) (x .q) 0) (getD row (bottomAt w (x .p)) 0)
 
-  pub number-is : (answer : ℕ) → (reading (termAt w k) ≡ true → answer ≡ asked) → numberOf w row (numbers w (interpret row look) k) (termAt w k) answer ≡ valueAt w (interpret row look) k .num
+  abbrev pub valueRead : ℕ
+  valueRead =
+      let x = termAt w k in
+      readAt w (numbers w (interpret row look) k) (x .p) (getD (numbers w (interpret row look) k) (x .q) 0) asked
+
+  pub number-is : (answer : ℕ) → (reading (termAt w k) ≡ true → answer ≡ valueRead) → numberOf w row (numbers w (interpret row look) k) (termAt w k) answer ≡ valueAt w (interpret row look) k .num
   unfolding numberOf
   number-is answer h =
       number-by w row (numbers w (interpret row look) k) look (valueIn (values w (interpret row look) k)) (termAt w k) answer (number-in w (interpret row look) k) (opOf (termAt w k .op))
       (λ r. cells r (reads-select (opOf (termAt w k .op)) r))
     where
       cells : reads (rankOf (opOf (termAt w k .op))) ≡ true → opOf (termAt w k .op) ≡ Select
-          → readAt w (numbers w (interpret row look) k) (termAt w k .p) (getD (numbers w (interpret row look) k) (termAt w k .q) 0) answer
-          ≡ valueIn (values w (interpret row look) k) (termAt w k .p) .cell (valueIn (values w (interpret row look) k) (termAt w k .q) .num)
+          → answer ≡ valueIn (values w (interpret row look) k) (termAt w k .p) .cell (valueIn (values w (interpret row look) k) (termAt w k .q) .num)
       cells r e =
           let x = termAt w k in
           let N = numbers w (interpret row look) k in
           let place = two-placed k x (placing-as w k (f .sound k b) Select e) in
           let pb : x .p < k = place .0 in
           let sorts = three (array (sortAt w (x .p))) (vectorOf (sortAt w (x .p) .m) (sortAt w (x .q))) (vectorOf (sortAt w (x .p) .n) (sortAt w k)) (typing-as w k (f .sound k b) Select e) in
-          ap (readAt w N (x .p) (getD N (x .q) 0)) (h r)
+          h r
           ∙ sym (read-is limit w row look f k (x .p) pb (omega arith) (sorts .0) (getD N (x .q) 0))
           ∙ ap (valueIn (values w (interpret row look) k) (x .p) .cell) (number-in w (interpret row look) k (x .q))

@@ -1,7 +1,7 @@
 -- A run over a table, whatever it writes to the room and whatever its turns ask: what is known at each turn.
 -- Assumes nothing.
 use mathlib.Core.Path.{_≡_, refl, sym, ap, subst, _∙_}
-use mathlib.Core.Bool.{Bool, true, false}
+use mathlib.Core.Bool.{Bool, true, false, cond}
 use mathlib.Core.List.{List}
 use Prim.Native.Nat.{ℕ, _+_, _≤_, _<_}
 use native.Mathlib.Omega.{arith}
@@ -14,11 +14,13 @@ use Rattle.table.specs.WellFormed.{WellFormed}
 use Rattle.setting.specs.declared.cells.Cell.{Cell}
 use Rattle.setting.specs.Cells.{lookFrom}
 use Rattle.setting.specs.Interpretation.{Interpretation, interpret}
+use Rattle.evaluate.specs.declared.reads.Found.{Found}
 use Rattle.evaluate.specs.declared.turns.Turn.{Turn}
 use Rattle.evaluate.specs.Values.{numbers}
-use Rattle.evaluate.specs.Reads.{bottomAt}
-use Rattle.evaluate.specs.Turns.{turnBy, turnOf}
-use Rattle.evaluate.proofs.Meaning.{asked}
+use Rattle.evaluate.specs.Reads.{foundAt, bottomAt}
+use Rattle.evaluate.specs.Turns.{told, turnBy, turnOf}
+use Rattle.evaluate.proofs.Chains.{found-slot}
+use Rattle.evaluate.proofs.Meaning.{valueRead}
 
 -- what a turn at term i of n says of itself, with so many cells
 pub record Turning (n count i : ℕ) (turn : Turn) : Type 0 where
@@ -26,17 +28,30 @@ pub record Turning (n count i : ℕ) (turn : Turn) : Type 0 where
   pub place : turn .at ≡ i
   pub most : turn .count ≤ count
 
-turning-by : (b on : Bool) (n count i slot index other : ℕ) → on ≡ ltb i n → Turning n count i (turnBy b on i count slot index other)
-turning-by true on n count i slot index other e = record { going = e; place = refl; most = omega arith }
-turning-by false on n count i slot index other e = record { going = e; place = refl; most = omega arith }
+turning-told : (n count i other : ℕ) → Turning n count i (told (ltb i n) i other)
+turning-told n count i other = record { going = refl; place = refl; most = omega arith }
+
+turning-by : (stored : Bool) (number : ℕ) (row : List ℕ) (n count i index : ℕ) → Turning n count i (turnBy stored number row (ltb i n) i count index)
+turning-by true number row n count i index = turning-told n count i number
+turning-by false number row n count i index = record { going = refl; place = refl; most = omega arith }
 
 module _ (w row front : List ℕ) (count n i : ℕ) where
+  abbrev found : Found
+  found = foundAt w front (termAt w i .p) (getD front (termAt w i .q) 0)
+
+  -- what a read asks
+  abbrev asksRead : Turn
+  asksRead = turnBy (found .stored) (found .number) row (ltb i n) i count (getD front (termAt w i .q) 0)
+
   pub turning : Turning n count i (turnOf w row count n front i)
   unfolding turnOf
-  turning = turning-by (reading (termAt w i)) (ltb i n) n count i (bottomAt w (termAt w i .p)) (getD front (termAt w i .q) 0) (getD row (bottomAt w (termAt w i .p)) 0) refl
+  turning = by (reading (termAt w i))
+    where
+      by : (b : Bool) → Turning n count i (cond b asksRead (told (ltb i n) i 0))
+      by true = turning-by (found .stored) (found .number) row n count i (getD front (termAt w i .q) 0)
+      by false = turning-told n count i 0
 
-  -- a read's turn asks for its cell
-  asks-is : reading (termAt w i) ≡ true → turnOf w row count n front i ≡ record { on = ltb i n; at = i; count = count; slot = bottomAt w (termAt w i .p); index = getD front (termAt w i .q) 0; other = getD row (bottomAt w (termAt w i .p)) 0 }
+  asks-is : reading (termAt w i) ≡ true → turnOf w row count n front i ≡ asksRead
   unfolding turnOf
   asks-is r = rw r
 
@@ -44,11 +59,26 @@ module _ (w row front : List ℕ) (count n i : ℕ) where
 abbrev pub inCells : List ℕ → (ℕ → Cell) → ℕ → Interpretation
 inCells row cells count = interpret row (λ slot j other. lookFrom cells count 0 slot j other)
 
--- what is looked up is what the term asks for
+-- what is looked up for a turn
+abbrev pub looked : (ℕ → Cell) → Turn → ℕ
+looked cells t = lookFrom cells (t .count) 0 (t .slot) (t .index) (t .other)
+
+looked-by : (cells : ℕ → Cell) (stored : Bool) (number : ℕ) (row : List ℕ) (on : Bool) (i count index slot : ℕ) → (stored ≡ false → number ≡ slot)
+    → looked cells (turnBy stored number row on i count index) ≡ cond stored number (lookFrom cells count 0 slot index (getD row slot 0))
+unfolding lookFrom
+looked-by cells true number row on i count index slot h = refl
+looked-by cells false number row on i count index slot h = ap (λ (s : ℕ). lookFrom cells count 0 s index (getD row s 0)) (h refl)
+
+-- the answer to a read is its value
 pub answer-is : (limit : ℕ) (w row : List ℕ) (cells : ℕ → Cell) (count n : ℕ) (f : WellFormed limit w) (i : ℕ) (b : i < terms w) (turn : Turn) → turn ≡ turnOf w row count n (numbers w (inCells row cells count) i) i
-    → (answer : ℕ) → answer ≡ lookFrom cells (turn .count) 0 (turn .slot) (turn .index) (turn .other) → reading (termAt w i) ≡ true → answer ≡ asked limit w row (λ slot j other. lookFrom cells count 0 slot j other) f i b
+    → (answer : ℕ) → answer ≡ looked cells turn → reading (termAt w i) ≡ true → answer ≡ valueRead limit w row (λ slot j other. lookFrom cells count 0 slot j other) f i b
 answer-is limit w row cells count n f i b turn asks answer answered r =
-    answered ∙ ap (λ (t : Turn). lookFrom cells (t .count) 0 (t .slot) (t .index) (t .other)) (asks ∙ asks-is w row (numbers w (inCells row cells count) i) count n i r)
+    let front = numbers w (inCells row cells count) i in
+    let x = termAt w i in
+    let index = getD front (x .q) 0 in
+    answered
+    ∙ ap (looked cells) (asks ∙ asks-is w row front count n i r)
+    ∙ looked-by cells (foundAt w front (x .p) index .stored) (foundAt w front (x .p) index .number) row (ltb i n) i count index (bottomAt w (x .p)) (found-slot w front (x .p) index)
 
 -- roomAt i is what the room holds before term i of n, turnAt i what that term asks
 module _ (n : ℕ) (roomAt : ℕ → List ℕ) (turnAt : ℕ → Turn) where

@@ -1,4 +1,4 @@
--- A turn of evaluating: which cell a term asks for, its number from the answer, and how the run goes on to the next read.
+-- A turn of evaluating: what a term asks, its number from the answer, and how the run goes on to the next read.
 -- Assumes nothing.
 use mathlib.Core.Path.{_≡_}
 use mathlib.Core.Bool.{Bool, true, false, cond}
@@ -12,20 +12,25 @@ use Rattle.table.specs.declared.words.Term.{Term}
 use Rattle.table.specs.Terms.{terms, termAt, sortAt, scalar}
 use Rattle.table.specs.Faults.{variable, constant, reading, firstFrom}
 use Rattle.evaluate.specs.declared.turns.Turn.{Turn}
-use Rattle.evaluate.specs.Reads.{readAt, bottomAt}
+use Rattle.evaluate.specs.Reads.{foundAt}
 
--- a read asks among count cells for its bottom variable's cell at its index, else for the slot's own value; any other
--- term asks among none
-abbrev pub turnBy : Bool → Bool → ℕ → ℕ → ℕ → ℕ → ℕ → Turn
-turnBy true on at count slot index other = record { on = on; at = at; count = count; slot = slot; index = index; other = other }
-turnBy false on at count slot index other = record { on = on; at = at; count = 0; slot = 0; index = 0; other = 0 }
+-- a term that asks among no cells: the other is the answer
+abbrev pub told : Bool → ℕ → ℕ → Turn
+told on at other = record { on = on; at = at; count = 0; slot = 0; index = 0; other = other }
+
+-- a read asks for its value: what its chain stores at the index is told; else the variable's cell there is sought among count
+-- cells, and else it is the slot's own value
+abbrev pub turnBy : Bool → ℕ → List ℕ → Bool → ℕ → ℕ → ℕ → Turn
+turnBy true number values on at count index = told on at number
+turnBy false slot values on at count index = record { on = on; at = at; count = count; slot = slot; index = index; other = getD values slot 0 }
 
 -- what term at asks, of a table of so many terms; front holds the numbers of the terms before it
 unfoldable pub turnOf : List ℕ → List ℕ → ℕ → ℕ → List ℕ → ℕ → Turn
 turnOf w values count terms front at =
     let x = termAt w at in
-    let slot = bottomAt w (x .p) in
-    turnBy (reading x) (ltb at terms) at count slot (getD front (x .q) 0) (getD values slot 0)
+    let index = getD front (x .q) 0 in
+    let found = foundAt w front (x .p) index in
+    cond (reading x) (turnBy (found .stored) (found .number) values (ltb at terms) at count index) (told (ltb at terms) at 0)
 
 -- x is the term after those whose numbers are in front
 pub record Next (w front : List ℕ) (x : Term) : Type 0 where
@@ -46,10 +51,10 @@ variableNumber values x = cond (scalar (x .sort)) (getD values (x .p) 0) 0
 abbrev pub operatedNumber : List ℕ → List ℕ → Term → ℕ
 operatedNumber w front x = apply (opOf (x .op)) (sortAt w (x .p) .n) (getD front (x .p) 0) (getD front (x .q) 0) (getD front (x .r) 0)
 
--- the number of term x, where its cell has the value answer
+-- the number of term x: of a read the answer to what it asks
 unfoldable pub numberOf : List ℕ → List ℕ → List ℕ → Term → ℕ → ℕ
 numberOf w values front x answer =
-    cond (reading x) (readAt w front (x .p) (getD front (x .q) 0) answer)
+    cond (reading x) answer
     (cond (constant x) (x .p)
     (cond (variable x) (variableNumber values x)
     (operatedNumber w front x)))

@@ -4,7 +4,9 @@ mod room; // filling the work room
 mod spend; // steps, the room's length and the allowance
 mod turns; // the terms: which cell one asks for, and its value
 
+pub use reads::Found;
 pub use reads::bottom;
+pub use reads::find;
 pub use spend::afford;
 use table::Admission;
 use table::Refusal;

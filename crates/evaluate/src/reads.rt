@@ -1,22 +1,34 @@
 // A read along its chain of stores.
 ghost use mathlib.Core.Path.{_≡_};
 ghost use Rattle.table.specs.WellFormed.{WellFormed};
-ghost use Rattle.evaluate.specs.Reads.{readAt, bottomAt};
+ghost use Rattle.evaluate.specs.Reads.{foundAt, bottomAt};
 use setting::number_at;
 
-// The value at index j of the array term a, the outermost store first; cell is that of the variable beneath the stores.
-pub fn read(table: &[u32], front: &[u32], a: u32, j: u32, cell: u32) -> u32
+// The value that a store holds, or else the slot of the variable at the chain's end.
+pub struct Found {
+    pub stored: bool,
+    pub number: u32,
+}
+
+// What the array term a holds at index j, the outermost store first.
+pub fn find(table: &[u32], front: &[u32], a: u32, j: u32) -> Found
     requires { ⌜ WellFormed 80000 (now table) ⌝ }
-    ensures { λ r. ⌜ r ≡ readAt (now (table .entry)) (now (front .entry)) a j cell ⌝ }
+    ensures { λ r. ⌜ r ≡ foundAt (now (table .entry)) (now (front .entry)) a j ⌝ }
 {
     let mut at = a;
     loop {
         let x = table::term_at(table, at);
         if !table::storing(x) {
-            return cell;
+            return Found {
+                stored: false,
+                number: x.p,
+            };
         }
         if number_at(front, x.q) == j {
-            return number_at(front, x.r);
+            return Found {
+                stored: true,
+                number: number_at(front, x.r),
+            };
         }
         at = x.p;
     }

@@ -1,12 +1,11 @@
-// One term of a run: which cell it asks for, and its value from the answer.
+// One term of a run: what it asks, and its value from the answer.
 ghost use mathlib.Core.Path.{_≡_};
 ghost use Prim.Native.Nat.{_+_, _≤_, _<_};
 ghost use lib.ListN.{length, take};
 ghost use Rattle.table.specs.Terms as tables;
 ghost use Rattle.table.specs.WellFormed.{WellFormed};
-ghost use Rattle.evaluate.specs.Turns.{turnOf, Next, Behind, variableNumber, operatedNumber, numberOf, nextRead, onward, numbered};
-use crate::reads::bottom;
-use crate::reads::read;
+ghost use Rattle.evaluate.specs.Turns.{told, turnOf, Next, Behind, variableNumber, operatedNumber, numberOf, nextRead, onward, numbered};
+use crate::reads::find;
 use setting::number_at;
 use table::Term;
 
@@ -20,7 +19,21 @@ pub struct Turn {
     pub other: u32,
 }
 
-// What term at asks. Only a read asks among cells.
+// A turn that asks among no cells: the other is the answer.
+fn told(on: bool, at: u32, other: u32) -> Turn
+    ensures { λ r. ⌜ r ≡ told on at other ⌝ }
+{
+    Turn {
+        on,
+        at,
+        count: 0,
+        slot: 0,
+        index: 0,
+        other,
+    }
+}
+
+// What term at asks: of a read its value, which only a variable's cell is sought for.
 pub fn turn_at(
     table: &[u32],
     values: &[u32],
@@ -35,23 +48,20 @@ pub fn turn_at(
     let x = table::term_at(table, at);
     let on = at < terms;
     if !table::reading(x) {
-        return Turn {
-            on,
-            at,
-            count: 0,
-            slot: 0,
-            index: 0,
-            other: 0,
-        };
+        return told(on, at, 0);
     }
-    let slot = bottom(table, x.p);
+    let index = number_at(front, x.q);
+    let found = find(table, front, x.p, index);
+    if found.stored {
+        return told(on, at, found.number);
+    }
     Turn {
         on,
         at,
         count,
-        slot,
-        index: number_at(front, x.q),
-        other: number_at(values, slot),
+        slot: found.number,
+        index,
+        other: number_at(values, found.number),
     }
 }
 
@@ -77,14 +87,14 @@ fn operated_number(table: &[u32], front: &[u32], x: Term) -> u32
     ops::apply(ops::op_of(x.op), first.n, front[p], front[q], front[r])
 }
 
-// The value of a term, 0 for an array.
+// The value of a term, 0 for an array; that of a read is the answer.
 pub fn number(table: &[u32], values: &[u32], front: &[u32], x: Term, answer: u32) -> u32
     requires { ⌜ WellFormed 80000 (now table) ⌝ }
     requires { ⌜ Next (now table) (now front) x ⌝ }
     ensures { λ r. ⌜ r ≡ numberOf (now (table .entry)) (now (values .entry)) (now (front .entry)) x answer ⌝ }
 {
     if table::reading(x) {
-        return read(table, front, x.p, number_at(front, x.q), answer);
+        return answer;
     }
     if table::constant(x) {
         return x.p;

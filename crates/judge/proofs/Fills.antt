@@ -1,6 +1,6 @@
 -- The run of judging: the room holds the values and the truths so far.
 -- Assumes nothing.
-use mathlib.Core.Path.{_≡_, sym, ap, ap₂, _∙_}
+use mathlib.Core.Path.{_≡_, refl, sym, ap, ap₂, _∙_}
 use mathlib.Core.Bool.{Bool, true, false}
 use mathlib.Core.List.{List, [], _∷_, _++_}
 use Prim.Native.Nat.{ℕ, _+_, _≤_, _<_}
@@ -18,15 +18,17 @@ use Rattle.setting.specs.Cells.{lookFrom}
 use Rattle.setting.specs.Interpretation.{Interpretation}
 use Rattle.evaluate.specs.declared.turns.Turn.{Turn}
 use Rattle.evaluate.specs.Values.{valueIn, values, valueAt, numbers}
-use Rattle.evaluate.specs.Turns.{turnOf, readingAt, nextRead, onward}
+use Rattle.evaluate.specs.Turns as evaluating
+use Rattle.evaluate.specs.Turns.{readingAt, nextRead, onward}
 use Rattle.evaluate.proofs.Folds.{length-numbers, numbers-more}
-use Rattle.evaluate.proofs.Meaning.{asked}
 use Rattle.evaluate.proofs.Onward.{Arrived, arrived}
-use Rattle.evaluate.proofs.Runs.{inCells, Running, Turning, turning, at-is, inside, answer-is}
+use Rattle.evaluate.proofs.Runs.{inCells, Running, Turning, at-is, inside}
 use Rattle.judge.specs.declared.reads.Reading.{Reading}
 use Rattle.judge.specs.Conditions.{plain, conditionIn, conditionOf, conditions, conditionAt, truths, ownMarks}
-use Rattle.judge.specs.Readings.{readingOf, written, noted}
-use Rattle.judge.proofs.Meaning.{length-truths, reading-is}
+use Rattle.judge.specs.Readings.{truthIn, readingOf, written, noted}
+use Rattle.judge.specs.Turns.{turnOf, turnHere}
+use Rattle.judge.proofs.Meaning.{length-truths, answerTo, reading-is}
+use Rattle.judge.proofs.Asking.{turning, plain-asks, answer-is}
 use Rattle.judge.proofs.Rooms.{laid, laid-length, laid-front, laid-truths, laid-more, laid-none}
 
 truths-more : (w : List ℕ) (I : Interpretation) (k : ℕ) → truths w ownMarks I (k + 1) ≡ truths w ownMarks I k ++ (bit (conditionAt w ownMarks I k .free) ∷ [])
@@ -41,17 +43,18 @@ module _ (w row : List ℕ) (cells : ℕ → Cell) (count n : ℕ) (begin : List
   filled i = laid (numbers w I i) (truths w ownMarks I i) n i begin
 
   abbrev pub asking : ℕ → Turn
-  asking i = turnOf w row count n (numbers w I i) i
+  asking i = turnOf w row count n (numbers w I i) (truths w ownMarks I i) i
 
   abbrev pub Filling : List ℕ → Turn → Type 0
   Filling = Running n filled asking
 
   pub asks : (i : ℕ) → Turning n count i (asking i)
-  asks i = turning w row (numbers w I i) count n i
+  asks i = turning w row (numbers w I i) (truths w ownMarks I i) count n i
 
-  pub started : (turn : Turn) → turn ≡ turnOf w row count n [] 0 → Filling begin turn
+  -- before the first term no index is free, so it asks as in evaluating
+  pub started : (turn : Turn) → turn ≡ evaluating.turnOf w row count n [] 0 → Filling begin turn
   unfolding fold
-  started turn e = record { i = 0; within = omega arith; is = laid-none n begin; asks = e }
+  started turn e = record { i = 0; within = omega arith; is = laid-none n begin; asks = e ∙ sym (plain-asks w row [] [] count n 0 refl) }
 
   module _ (limit : ℕ) (f : WellFormed limit w) (all : n ≡ terms w) (enough : n + n ≤ length begin) where
     module _ (i : ℕ) (within : i ≤ n) where
@@ -65,7 +68,7 @@ module _ (w row : List ℕ) (cells : ℕ → Cell) (count n : ℕ) (begin : List
       long = laid-length (numbers w I i) (truths w ownMarks I i) n i begin enough within (length-numbers w I i) (length-truths w ownMarks I i)
 
     -- a term notes its value and its truth
-    wrote : (i answer : ℕ) (b : i < terms w) → (reading (termAt w i) ≡ true → answer ≡ asked limit w row (λ slot j other. lookFrom cells count 0 slot j other) f i b)
+    wrote : (i answer : ℕ) (b : i < terms w) → (reading (termAt w i) ≡ true → answer ≡ answerTo limit w row (λ slot j other. lookFrom cells count 0 slot j other) f i b (truthIn (truths w ownMarks I i) (termAt w i .q)))
         → noted w row n answer (filled i) i ≡ filled (i + 1)
     wrote i answer b h =
         let meant : Reading = record { value = valueAt w I i .num; free = conditionAt w ownMarks I i .free } in
@@ -77,7 +80,7 @@ module _ (w row : List ℕ) (cells : ℕ → Cell) (count n : ℕ) (begin : List
 
     -- from term i on to the next read
     module _ (i : ℕ) (within : i ≤ n) (room next : List ℕ) (after : Turn) (is : room ≡ filled i)
-        (e : next ≡ onward w (noted w row n 0) n room i) (t : after ≡ turnOf w row count n (take (nextRead w n i) next) (nextRead w n i)) where
+        (e : next ≡ onward w (noted w row n 0) n room i) (t : after ≡ turnHere w row count n next (nextRead w n i)) where
       there : Arrived (readingAt w) (noted w row n 0) filled n (λ k b s. wrote k 0 (omega arith) (λ r. never (sym s ∙ r))) i room
       there = arrived (readingAt w) (noted w row n 0) filled n (λ k b s. wrote k 0 (omega arith) (λ r. never (sym s ∙ r))) i room within is
 
@@ -87,11 +90,13 @@ module _ (w row : List ℕ) (cells : ℕ → Cell) (count n : ℕ) (begin : List
             i = nextRead w n i;
             within = there .high;
             is = e ∙ there .is;
-            asks = t ∙ ap (λ (l : List ℕ). turnOf w row count n l (nextRead w n i)) (ap (take (nextRead w n i)) (e ∙ there .is) ∙ front-is (nextRead w n i) (there .high));
+            asks =
+                t ∙ ap (λ (l : List ℕ). turnHere w row count n l (nextRead w n i)) (e ∙ there .is)
+                ∙ ap₂ (λ (l m : List ℕ). turnOf w row count n l m (nextRead w n i)) (front-is (nextRead w n i) (there .high)) (truths-are (nextRead w n i) (there .high));
           }
 
       later : i ≤ after .at
-      later = let b : i ≤ nextRead w n i = there .low in omega (arith, ap (λ (u : Turn). u .at) t ∙ turning w row (take (nextRead w n i) next) count n (nextRead w n i) .place)
+      later = let b : i ≤ nextRead w n i = there .low in omega (arith, ap (λ (u : Turn). u .at) t ∙ turning w row (take (nextRead w n i) next) (take (nextRead w n i) (drop n next)) count n (nextRead w n i) .place)
 
     module _ (room : List ℕ) (turn : Turn) (h : Filling room turn) where
       pub same-length : length room ≡ length begin
@@ -109,7 +114,7 @@ module _ (w row : List ℕ) (cells : ℕ → Cell) (count n : ℕ) (begin : List
 
         -- the next turn, which is of a later term
         pub turned : (next : List ℕ) (after : Turn) → next ≡ onward w (noted w row n 0) n (noted w row n answer room (turn .at)) (turn .at + 1)
-            → after ≡ turnOf w row count n (take (nextRead w n (turn .at + 1)) next) (nextRead w n (turn .at + 1)) → Filling next after × (turn .at + 1 ≤ after .at)
+            → after ≡ turnHere w row count n next (nextRead w n (turn .at + 1)) → Filling next after × (turn .at + 1 ≤ after .at)
         turned next after e t =
             let at : turn .at + 1 ≡ h .i + 1 = ap (λ (k : ℕ). k + 1) (at-is n filled asking count asks room turn h) in
             let b : turn .at + 1 ≤ n = omega (arith, here, at) in

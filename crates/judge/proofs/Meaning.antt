@@ -28,13 +28,13 @@ use Rattle.evaluate.specs.Turns.{numberOf}
 use Rattle.evaluate.specs.Values.{valueBy, valueIn, values, valueAt, numbers}
 use Rattle.evaluate.proofs.Chains.{bottom-end, bottom-on}
 use Rattle.evaluate.proofs.Folds.{value-below, number-in}
-use Rattle.evaluate.proofs.Meaning.{variable-cell, same-array, reads-select, number-below, cellBeneath, asked, number-is}
+use Rattle.evaluate.proofs.Meaning.{variable-cell, same-array, reads-select, number-below, cellBeneath, asked, valueRead, number-is}
 use Rattle.evaluate.proofs.Operands.{array-op, three, four, op-at, typing, typing-as, placing-as, two-placed, three-placed}
 use Rattle.judge.specs.declared.reads.Reading.{Reading}
 use Rattle.judge.specs.Conditions.{Condition, plain, storeFree, conditionBy, conditionIn, conditionOf, conditions, conditionAt, truths, ownMarks}
-use Rattle.judge.specs.Readings.{truthIn, overlaid, readingAt, settledBy, truthOf, readingOf}
+use Rattle.judge.specs.Readings.{truthIn, overlaid, readingAt, readingBy, settledBy, truthOf, readingOf}
 use Rattle.judge.proofs.Alike.{condition-below}
-use Rattle.judge.proofs.Chains.{reading-end, reading-store}
+use Rattle.judge.proofs.Chains.{reading-end, reading-store, reading-value, reading-unfree}
 
 pub holds-bit : (b : Bool) → holds (bit b) ≡ b
 holds-bit true = refl
@@ -252,8 +252,20 @@ module _ (limit : ℕ) (w row : List ℕ) (look : ℕ → ℕ → ℕ → ℕ) (
   abbrev here : Term
   here = termAt w k
 
-  read-here : (answer : ℕ) → answer ≡ asked limit w row look f k b → opOf (here .op) ≡ Select
-      → _≡_ {A = Reading} (readingAt w N T (here .p) (getD N (here .q) 0) (truthIn T (here .q)) answer) (record { value = valueAt w In k .num; free = conditionAt w ownMarks In k .free })
+  -- what is answered to a read, by its index's condition: the variable's cell, or the read's value
+  abbrev pub answerTo : Bool → ℕ
+  answerTo cj = cond cj (asked limit w row look f k b) (valueRead limit w row look f k b)
+
+  -- either way it is the reading along the chain over the variable's cell
+  answered : (cj : Bool) (answer : ℕ) → answer ≡ answerTo cj → readingBy cj w N T here answer ≡ readingAt w N T (here .p) (getD N (here .q) 0) cj (asked limit w row look f k b)
+  answered true answer h = ap (readingAt w N T (here .p) (getD N (here .q) 0) true) h
+  answered false answer h =
+      let vs = h ∙ sym (reading-value w N T (store-below limit w f) (getD N (here .q) 0) false (asked limit w row look f k b) (here .p)) in
+      let fs = sym (reading-unfree w N T (here .p) (getD N (here .q) 0) (asked limit w row look f k b)) in
+      λ i. record { value = vs i; free = fs i }
+
+  read-here : (answer : ℕ) → answer ≡ answerTo (truthIn T (here .q)) → opOf (here .op) ≡ Select
+      → _≡_ {A = Reading} (readingBy (truthIn T (here .q)) w N T here answer) (record { value = valueAt w In k .num; free = conditionAt w ownMarks In k .free })
   unfolding valueBy conditionBy
   read-here answer h e =
       let place = two-placed k here (placing-as w k (f .sound k b) Select e) in
@@ -263,22 +275,22 @@ module _ (limit : ℕ) (w row : List ℕ) (look : ℕ → ℕ → ℕ → ℕ) (
       let tq = truth-in w ownMarks In k (here .q) in
       let vp = value-below w In k (here .p) pb in
       let cp = condition-below w ownMarks In k (here .p) pb in
-      ap (readingAt w N T (here .p) (getD N (here .q) 0) (truthIn T (here .q))) h
+      answered (truthIn T (here .q)) answer h
       ∙ reading-within limit w row look f (suc (here .p)) k (here .p) (omega arith) pb (omega arith) (sorts .0) (getD N (here .q) 0) (truthIn T (here .q))
       ∙ (λ i. record { value = valueAt w In (here .p) .cell (nq i); free = conditionAt w ownMarks In (here .p) .readFree (nq i) (tq i) })
       ∙ sym (λ i. record { value = vp i .cell (valueIn (values w In k) (here .q) .num); free = cp i .readFree (valueIn (values w In k) (here .q) .num) (conditionIn (conditions w ownMarks In k) (here .q) .free) })
       ∙ sym (ap (λ (o : Op). record { value = valueBy In (valueIn (values w In k)) (sortAt w (here .p) .n) here o .num; free = conditionBy ownMarks (valueIn (values w In k)) (conditionIn (conditions w ownMarks In k)) (sortAt w (here .p) .n) here o .free }) e)
 
-  pub reading-is : (answer : ℕ) → (reading here ≡ true → answer ≡ asked limit w row look f k b)
+  pub reading-is : (answer : ℕ) → (reading here ≡ true → answer ≡ answerTo (truthIn T (here .q)))
       → readingOf w row N T here answer ≡ record { value = valueAt w In k .num; free = conditionAt w ownMarks In k .free }
   unfolding readingOf
   reading-is answer h = go (reading here) refl
     where
       go : (z : Bool) → reading here ≡ z
-          → cond z (readingAt w N T (here .p) (getD N (here .q) 0) (truthIn T (here .q)) answer) (record { value = numberOf w row N here answer; free = truthOf w N T here })
+          → cond z (readingBy (truthIn T (here .q)) w N T here answer) (record { value = numberOf w row N here answer; free = truthOf w N T here })
           ≡ record { value = valueAt w In k .num; free = conditionAt w ownMarks In k .free }
       go true e = read-here answer (h e) (reads-select (opOf (here .op)) e)
       go false e =
-          let vs = number-is limit w row look f k b answer h in
+          let vs = number-is limit w row look f k b answer (λ r. never (sym e ∙ r)) in
           let fs = truth-by w N T (valueIn (values w In k)) (conditionIn (conditions w ownMarks In k)) here (number-in w In k) (truth-in w ownMarks In k) (opOf (here .op)) e in
           λ i. record { value = vs i; free = fs i }

@@ -1,5 +1,6 @@
 pub mod Conditions
 pub mod Readings
+pub mod Turns
 pub mod Judgement
 pub mod Demand3
 pub mod Bench

@@ -57,10 +57,14 @@ operatedReading w front truths x = record { value = operatedNumber w front x; fr
 abbrev pub truthOf : List ℕ → List ℕ → List ℕ → Term → Bool
 truthOf w front truths x = cond (constant x) true (cond (variable x) (not (ownMarks x)) (settledBy w front truths x))
 
--- value and truth of term x, where its cell has the value answer
+-- a read, whose index's condition is cj: where that is false, the read's is too
+abbrev pub readingBy : Bool → List ℕ → List ℕ → List ℕ → Term → ℕ → Reading
+readingBy cj w front truths x answer = cond cj (readingAt w front truths (x .p) (getD front (x .q) 0) cj answer) (record { value = answer; free = false })
+
+-- value and truth of term x; of a read from the answer: where its index is free that is the variable's cell, else its value
 unfoldable pub readingOf : List ℕ → List ℕ → List ℕ → List ℕ → Term → ℕ → Reading
 readingOf w row front truths x answer =
-    cond (reading x) (readingAt w front truths (x .p) (getD front (x .q) 0) (truthIn truths (x .q)) answer)
+    cond (reading x) (readingBy (truthIn truths (x .q)) w front truths x answer)
     (record { value = numberOf w row front x answer; free = truthOf w front truths x })
 
 -- what a turn at term at reads: the numbers before it stand at the front of the room, the truths from number terms on

@@ -2,6 +2,7 @@
 mod reads; // a read along its chain: value and truth
 mod room; // filling the work room
 mod terms; // one term: value and truth
+mod turns; // what a term asks
 
 use evaluate::Evaluation;
 pub use reads::Reading;

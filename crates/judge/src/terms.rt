@@ -1,14 +1,16 @@
 // One term of a judgement: its value and its truth.
 ghost use mathlib.Core.Path.{_≡_};
 ghost use Prim.Native.Nat.{_+_, _≤_, _<_};
-ghost use lib.ListN.{length, take};
+ghost use lib.ListN.{length};
 ghost use Rattle.table.specs.Terms as tables;
 ghost use Rattle.table.specs.WellFormed.{WellFormed};
-ghost use Rattle.evaluate.specs.Turns.{turnOf, nextRead, onward, Next, Behind};
+ghost use Rattle.evaluate.specs.Turns.{nextRead, onward, Next, Behind};
 ghost use Rattle.judge.specs.Readings.{operatedReading, readingOf, readingHere, written, noted};
+ghost use Rattle.judge.specs.Turns.{turnHere};
 use crate::reads::Reading;
 use crate::reads::read;
 use crate::reads::truth_at;
+use crate::turns::turn_here;
 use evaluate::Turn;
 use setting::number_at;
 use table::Term;
@@ -50,8 +52,14 @@ fn reading_of(
     ensures { λ r. ⌜ r ≡ readingOf (now (table .entry)) (now (values .entry)) (now (front .entry)) (now (truths .entry)) x answer ⌝ }
 {
     if table::reading(x) {
-        let index = number_at(front, x.q);
         let free = truth_at(truths, x.q);
+        if !free {
+            return Reading {
+                value: answer,
+                free: false,
+            };
+        }
+        let index = number_at(front, x.q);
         return read(table, front, truths, x.p, index, free, answer);
     }
     if table::constant(x) {
@@ -115,7 +123,7 @@ pub fn on(
     requires { ⌜ WellFormed 80000 (now table) ⌝ }
     requires { ⌜ terms ≡ tables.terms (now table) ⌝ }
     requires { ⌜ (at ≤ terms) × (terms + terms ≤ length (now work)) ⌝ }
-    ensures { λ r. ⌜ r ≡ turnOf (now (table .entry)) (now (values .entry)) count terms (take (nextRead (now (table .entry)) terms at) (now (work .exit))) (nextRead (now (table .entry)) terms at) ⌝ }
+    ensures { λ r. ⌜ r ≡ turnHere (now (table .entry)) (now (values .entry)) count terms (now (work .exit)) (nextRead (now (table .entry)) terms at) ⌝ }
     ensures { λ r. ⌜ now (work .exit) ≡ onward (now (table .entry)) (noted (now (table .entry)) (now (values .entry)) terms 0) terms (now (work .entry)) at ⌝ }
 {
     let mut i = at;
@@ -127,8 +135,7 @@ pub fn on(
         note(work, terms, i, r);
         i += 1;
     }
-    let end = i as usize;
-    evaluate::turn_at(table, values, count, terms, &work[..end], i)
+    turn_here(table, values, count, terms, &work[..], i)
 }
 
 // Writes value and truth of a turn's read, and goes on.
@@ -144,7 +151,7 @@ pub fn step(
     requires { ⌜ WellFormed 80000 (now table) ⌝ }
     requires { ⌜ terms ≡ tables.terms (now table) ⌝ }
     requires { ⌜ (turn .at < terms) × (terms + terms ≤ length (now work)) ⌝ }
-    ensures { λ r. ⌜ r ≡ turnOf (now (table .entry)) (now (values .entry)) count terms (take (nextRead (now (table .entry)) terms (turn .at + 1)) (now (work .exit))) (nextRead (now (table .entry)) terms (turn .at + 1)) ⌝ }
+    ensures { λ r. ⌜ r ≡ turnHere (now (table .entry)) (now (values .entry)) count terms (now (work .exit)) (nextRead (now (table .entry)) terms (turn .at + 1)) ⌝ }
     ensures { λ r. ⌜ now (work .exit) ≡ onward (now (table .entry)) (noted (now (table .entry)) (now (values .entry)) terms 0) terms (noted (now (table .entry)) (now (values .entry)) terms answer (now (work .entry)) (turn .at)) (turn .at + 1) ⌝ }
 {
     let at = turn.at;

@@ -7,7 +7,7 @@ use Rattle.evaluate.proofs.turns.number.Tie as tie
 
 returns : tie.Need-returns
 unfolding numberOf
-returns c = c .read .ensures ∙ rw (c .before .number-at .ensures, sym (c .before .before .before .reading .ensures) ∙ c .before .before .if1 .taken)
+returns c = rw (sym (c .before .reading .ensures) ∙ c .if1 .taken)
 
 returns-2 : tie.Need-returns-2
 unfolding numberOf
@@ -31,8 +31,6 @@ pub number-spec : {M : Type 1} → statement M
 number-spec =
     tie.close
     (tie.spec
-    (λ c κs. search needs)
-    (λ c κs. search needs)
     (λ c κs. search needs)
     returns
     (λ c κs. search needs)

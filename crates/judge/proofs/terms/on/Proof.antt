@@ -4,14 +4,14 @@ use mathlib.Core.Bool.{false}
 use mathlib.Core.Logic.{⊎-elim}
 use mathlib.Core.List.{List}
 use native.Mathlib.Omega.{arith}
-use lib.ListN.{length, take}
-use lib.Seq.{length-take-le}
+use lib.ListN.{length}
 use borrow.Author.Needs.{needs}
 use Rattle.table.specs.Faults.{reading, firstFrom}
-use Rattle.evaluate.specs.Turns.{turnOf, onFrom, readingAt}
+use Rattle.evaluate.specs.Turns.{onFrom, readingAt}
 use Rattle.evaluate.proofs.Onward.{Going, set-out, go-on, stopped, passed}
 use Rattle.judge.specs.declared.reads.Reading.{Reading}
 use Rattle.judge.specs.Readings.{written, noted}
+use Rattle.judge.specs.Turns.{turnHere}
 use Rattle.judge.proofs.terms.on.Statement.{statement}
 use Rattle.judge.proofs.terms.on.Tie as tie
 
@@ -63,16 +63,11 @@ arrives c =
     (λ e. stopped (readingAt (a .table .now)) (noted (a .table .now) (a .values .now) (a .terms) 0) (a .terms) (a .at) (a .work .now) (l .i) (l .work) (l .inv .0) (e .0 .taken) (sym (e .2 .ensures ∙ ap reading (e .1 .ensures)) ∙ e .3 .taken))
     (c .loop-test .came)
 
-slice-reshare-prefix-turn-at : tie.Need-slice-reshare-prefix-turn-at Inv-loop μ-loop
-slice-reshare-prefix-turn-at c = omega (arith, c .before .loop .inv .1, c .before .loop .inv .0 .within, c .before .before .before .before .before .pre .1 .1 .1)
-
-slice-aggregate-turn-at : tie.Need-slice-aggregate-turn-at Inv-loop μ-loop
-slice-aggregate-turn-at c =
+turn-here-requires : tie.Need-turn-here-requires Inv-loop μ-loop
+turn-here-requires c κs =
+    let s = c .before .before .before .before .before .before in
     let l = c .before .before .loop in
-    sym (length-take-le (l .i) (l .work) (slice-reshare-prefix-turn-at (c .before)))
-
-turn-at-requires : tie.Need-turn-at-requires Inv-loop μ-loop
-turn-at-requires c κs = c .before .before .before .before .before .before .pre .0
+    (s .pre .0, (l .inv .0 .within, omega (arith, l .inv .1, l .inv .0 .within, s .pre .1 .1 .1)))
 
 same-length : tie.Need-same-length Inv-loop μ-loop
 same-length c = c .before .before .before .loop .inv .1
@@ -80,10 +75,8 @@ same-length c = c .before .before .before .loop .inv .1
 returns : tie.Need-returns Inv-loop μ-loop
 returns c =
     let a = c .before .before .before .before .before .before .before .args in
-    let there = arrives (c .before .before) in (
-      c .turn-at .ensures ∙ ap (λ (k : ℕ). turnOf (a .table .now) (a .values .now) (a .count) (a .terms) (take k (c .before .before .before .loop .work)) k) (there .0),
-      there .1,
-    )
+    let there = arrives (c .before .before) in
+    (c .turn-here .ensures ∙ ap (turnHere (a .table .now) (a .values .now) (a .count) (a .terms) (c .before .before .before .loop .work)) (there .0), there .1)
 
 pub on-spec : {M : Type 1} → statement M
 on-spec =
@@ -99,9 +92,6 @@ on-spec =
     (λ c. search needs)
     loop-less
     loop-again
-    (λ c. search needs)
-    slice-reshare-prefix-turn-at
-    slice-aggregate-turn-at
-    turn-at-requires
+    turn-here-requires
     same-length
     returns)

@@ -1,19 +1,19 @@
 use Prim.Native.Nat.{_<_}
-use mathlib.Core.Path.{_≡_, refl, sym, _∙_}
+use mathlib.Core.Path.{_≡_, refl, sym, ap, _∙_}
 use borrow.Author.Needs.{needs}
 use borrow.Author.Tests.{not-true, not-false}
 use Rattle.table.proofs.SoundTerms.{store-below}
-use Rattle.evaluate.specs.Reads.{readAt}
-use Rattle.evaluate.proofs.Chains.{beneath, read-end, read-hit, read-miss}
-use Rattle.evaluate.proofs.reads.read.Statement.{statement}
-use Rattle.evaluate.proofs.reads.read.Tie as tie
+use Rattle.evaluate.specs.Reads.{foundAt}
+use Rattle.evaluate.proofs.Chains.{beneath, found-end, found-hit, found-miss}
+use Rattle.evaluate.proofs.reads.find.Statement.{statement}
+use Rattle.evaluate.proofs.reads.find.Tie as tie
 
--- what is read from the term that the walk has reached is what is read from the first
+-- what is found from the term that the walk has reached is what is found from the first
 abbrev Inv-loop : tie.InvT-loop
-Inv-loop table front a j cell at₀ at = readAt table front at j cell ≡ readAt table front a j cell
+Inv-loop table front a j at₀ at = foundAt table front at j ≡ foundAt table front a j
 
 abbrev μ-loop : tie.MeasureT-loop
-μ-loop table front a j cell at₀ at = at
+μ-loop table front a j at₀ at = at
 
 loop-holds : tie.Need-loop-holds Inv-loop μ-loop
 loop-holds c = refl
@@ -23,7 +23,7 @@ returns c =
     let s = c .before .before .before .before .before .before in
     let l = c .before .before .before .loop in
     let x = c .before .before .term-at in
-    read-end (s .args .table .now) (store-below 80000 (s .args .table .now) (s .pre)) (l .at) (x .result) (x .ensures) (s .args .front .now) (s .args .j) (s .args .cell) (sym (c .before .storing .ensures) ∙ not-true _ (c .if1 .taken))
+    found-end (s .args .table .now) (store-below 80000 (s .args .table .now) (s .pre)) (l .at) (x .result) (x .ensures) (s .args .front .now) (s .args .j) (sym (c .before .storing .ensures) ∙ not-true _ (c .if1 .taken))
     ∙ l .inv
 
 returns-2 : tie.Need-returns-2 Inv-loop μ-loop
@@ -31,9 +31,9 @@ returns-2 c =
     let s = c .before .before .before .before .before .before .before .before .before in
     let l = c .before .before .before .before .before .before .loop in
     let x = c .before .before .before .before .before .term-at in
-    c .number-at2 .ensures
-    ∙ read-hit (s .args .table .now) (store-below 80000 (s .args .table .now) (s .pre)) (l .at) (x .result) (x .ensures) (s .args .front .now) (s .args .j) (s .args .cell) (sym (c .before .before .before .before .storing .ensures) ∙ not-false _ (c .before .before .before .if1 .left)) (sym (c .before .before .number-at .ensures) ∙ c .before .if2 .taken)
-    ∙ l .inv
+    rw (c .number-at2 .ensures)
+    (found-hit (s .args .table .now) (store-below 80000 (s .args .table .now) (s .pre)) (l .at) (x .result) (x .ensures) (s .args .front .now) (s .args .j) (sym (c .before .before .before .before .storing .ensures) ∙ not-false _ (c .before .before .before .if1 .left)) (sym (c .before .before .number-at .ensures) ∙ c .before .if2 .taken)
+    ∙ l .inv)
 
 loop-less : tie.Need-loop-less Inv-loop μ-loop
 loop-less c =
@@ -46,10 +46,10 @@ loop-again c =
     let s = c .before .before .before .before .before .before .before .before in
     let l = c .before .before .before .before .before .loop in
     let x = c .before .before .before .before .term-at in
-    read-miss (s .args .table .now) (store-below 80000 (s .args .table .now) (s .pre)) (l .at) (x .result) (x .ensures) (s .args .front .now) (s .args .j) (s .args .cell) (sym (c .before .before .before .storing .ensures) ∙ not-false _ (c .before .before .if1 .left)) (λ e. c .if2 .left (c .before .number-at .ensures ∙ e))
+    found-miss (s .args .table .now) (store-below 80000 (s .args .table .now) (s .pre)) (l .at) (x .result) (x .ensures) (s .args .front .now) (s .args .j) (sym (c .before .before .before .storing .ensures) ∙ not-false _ (c .before .before .if1 .left)) (λ e. c .if2 .left (c .before .number-at .ensures ∙ e))
     ∙ l .inv
 
-pub read-spec : {M : Type 1} → statement M
-read-spec =
+pub find-spec : {M : Type 1} → statement M
+find-spec =
     tie.close
     (tie.spec Inv-loop μ-loop loop-holds (λ c κs. search needs) (λ c κs. search needs) returns (λ c κs. search needs) (λ c κs. search needs) returns-2 loop-less loop-again)

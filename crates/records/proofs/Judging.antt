@@ -17,11 +17,12 @@ use Rattle.evaluate.specs.declared.Evaluation.the-variants.{Evaluated, NotEvalu
 use Rattle.evaluate.specs.declared.turns.Turn.{Turn}
 use Rattle.evaluate.specs.Evaluation.{evaluates}
 use Rattle.evaluate.specs.Values.{numbers}
-use Rattle.evaluate.specs.Turns.{turnOf, nextRead, onward}
+use Rattle.evaluate.specs.Turns.{nextRead, onward}
 use Rattle.evaluate.proofs.Runs.{count-here, going, ended}
 use Rattle.judge.specs.Conditions.{ownMarks, truths}
 use Rattle.judge.specs.Judgement.{ruleIn, ruleCondition, verdictBy, roomIn}
 use Rattle.judge.specs.Readings.{noted}
+use Rattle.judge.specs.Turns.{turnHere}
 use Rattle.judge.proofs.Fills as fills
 use Rattle.judge.proofs.Rooms.{laid-all}
 use Rattle.judge.proofs.Verdicts.{stands, rule-read, condition-read}
@@ -91,7 +92,7 @@ module _ (w values : List ℕ) (cells : List Cell) (allowance : ℕ) (begin : Li
         place = (inside, omega (arith, enough runs, same-length))
 
         pub turned : (answer : ℕ) → answer ≡ lookFrom (recordAt cells) (turn .count) 0 (turn .slot) (turn .index) (turn .other) → (next : List ℕ) (after : Turn)
-            → after ≡ turnOf w values (length cells) n (take (nextRead w n (turn .at + 1)) next) (nextRead w n (turn .at + 1))
+            → after ≡ turnHere w values (length cells) n next (nextRead w n (turn .at + 1))
             → next ≡ onward w (noted w values n 0) n (noted w values n answer room (turn .at)) (turn .at + 1) → Driven next after × (n - after .at < n - turn .at)
         turned answer answered next after t e′ =
             let f = fills.turned w values (recordAt cells) (length cells) n begin 80000 well (all runs) (enough runs) room turn (h .running runs) on answer answered next after e′ t in

@@ -52,5 +52,7 @@ pub fn verdict(answer: Evaluation, terms: u32, work: &mut [u32]) -> Judgement
     }
     let n = terms as usize;
     let last = n - 1;
-    judge::answered(answer, work[last] == 1, work[n + last] == 1)
+    let rule = work[last] == 1;
+    let condition = work[n + last] == 1;
+    judge::answered(answer, rule, condition)
 }

@@ -54,7 +54,8 @@ use Rattle.setting.proofs.cells.Cell as T
 use Rattle.evaluate.specs.declared.Evaluation.{Evaluation}
 use Rattle.evaluate.specs.declared.turns.Turn.{Turn}
 use Rattle.evaluate.specs.Evaluation.{evaluates}
-use Rattle.evaluate.specs.Turns.{turnOf, nextRead, onward}
+use Rattle.evaluate.specs.Turns.{nextRead, onward}
+use Rattle.judge.specs.Turns.{turnHere}
 use Rattle.judge.specs.declared.Judgement.{Judgement}
 use Rattle.judge.specs.Readings.{noted}
 use Rattle.evaluate.proofs.Evaluation as Ev
@@ -299,7 +300,7 @@ module _ {M : Type 1} (𝓤 : URA M) (H : Heap 𝓤) (A : Atoms 𝓤) (W : Given
 
   -- the two clauses of `step`
   abbrev next-turn : ℕ → Turn → Turn → List ℕ → Type 0
-  next-turn n t r z = r ≡ turnOf w values (length cells) n (take (nextRead w n (t .at + 1)) z) (nextRead w n (t .at + 1))
+  next-turn n t r z = r ≡ turnHere w values (length cells) n z (nextRead w n (t .at + 1))
 
   abbrev next-work : ℕ → List ℕ → Turn → ℕ → List ℕ → Type 0
   next-work n l t v z = z ≡ onward w (noted w values n 0) n (noted w values n v l (t .at)) (t .at + 1)

@@ -20,11 +20,11 @@ on c = sym (c .before .evaluates .ensures) ∙ not-false _ (c .if1 .left)
 sub-last : tie.Need-sub-last
 sub-last c = omega (arith, c .before .before .before .pre (on c) .0)
 
-slice-read-answered : tie.Need-slice-read-answered
-slice-read-answered c = omega (arith, c .before .before .before .before .pre (on (c .before)))
+slice-read-rule : tie.Need-slice-read-rule
+slice-read-rule c = omega (arith, c .before .before .before .before .pre (on (c .before)))
 
-slice-read-answered-2 : tie.Need-slice-read-answered-2
-slice-read-answered-2 c = omega (arith, c .before .before .before .before .before .pre (on (c .before .before)))
+slice-read-condition : tie.Need-slice-read-condition
+slice-read-condition c = omega (arith, c .before .before .before .before .before .pre (on (c .before .before)))
 
 pub verdict-spec : {M : Type 1} → statement M
 verdict-spec =
@@ -35,9 +35,9 @@ verdict-spec =
     returns
     sub-last
     (λ c. search needs)
-    slice-read-answered
+    slice-read-rule
     (λ c. search needs)
     (λ c. search needs)
-    slice-read-answered-2
+    slice-read-condition
     (λ c κs. search needs)
-    (λ c. search needs))
+    (λ c. (c .answered2 .ensures, refl)))

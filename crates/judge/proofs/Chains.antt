@@ -1,7 +1,7 @@
 -- A read along its chain, value and truth, as each way of the code has found it.
 -- Assumes nothing.
 use mathlib.Core.Path.{_≡_, refl, sym, ap, ap₂, _∙_}
-use mathlib.Core.Bool.{Bool, true, false, cond, _&&_}
+use mathlib.Core.Bool.{Bool, true, false, cond, not, _&&_}
 use mathlib.Core.List.{List}
 use Prim.Native.Nat.{ℕ, zero, suc, _<_}
 use native.Mathlib.Nat.{not-suc-le-zero}
@@ -9,7 +9,7 @@ use native.Mathlib.Omega.{arith}
 use lib.Dec.{eqb}
 use lib.ListN.{getD}
 use Rattle.ops.specs.Condition.{chosen}
-use Rattle.ops.proofs.Booleans.{and-parts, and-shut}
+use Rattle.ops.proofs.Booleans.{never, and-parts, and-shut}
 use Rattle.table.specs.declared.words.Term.{Term}
 use Rattle.table.specs.Terms.{termAt}
 use Rattle.table.specs.Faults.{storing}
@@ -17,7 +17,7 @@ use Rattle.table.proofs.Stacks.{Stacked, at-end, at-store}
 use Rattle.evaluate.specs.Reads.{readAt}
 use Rattle.evaluate.proofs.Chains.{read-end, read-store}
 use Rattle.judge.specs.declared.reads.Reading.{Reading}
-use Rattle.judge.specs.Readings.{truthIn, overlaid, pickedBy, storedBy, readingWithin, readingAt}
+use Rattle.judge.specs.Readings.{truthIn, overlaid, pickedBy, storedBy, shutBy, unfreeAt, readingWithin, readingAt}
 
 module _ (w front truths : List ℕ) (stacked : Stacked w) (j : ℕ) (cj : Bool) (cell : ℕ) where
   abbrev over : ℕ → Reading → Reading
@@ -84,4 +84,21 @@ overlaid-picked front truths x j cj below h =
     let vs : getD front (x .r) 0 ≡ cond (eqb (getD front (x .q) 0) j) (getD front (x .r) 0) (below .value) = sym (ap (λ (b : Bool). cond b (getD front (x .r) 0) (below .value)) (parts .1)) in
     let fs : truthIn truths (x .r) ≡ chosen (truthIn truths (x .q) && cj) (eqb (getD front (x .q) 0) j) (truthIn truths (x .r)) (below .free) (eqb (getD front (x .r) 0) (below .value)) =
         sym (ap₂ (λ (a b : Bool). chosen a b (truthIn truths (x .r)) (below .free) (eqb (getD front (x .r) 0) (below .value))) (parts .0) (parts .1) ∙ chosen-picked (truthIn truths (x .r)) (below .free) (eqb (getD front (x .r) 0) (below .value))) in
+    λ i. record { value = vs i; free = fs i }
+
+-- of a store that is shut no read is free
+
+chosen-neither : (c test d e same : Bool) → not c && not d ≡ true → chosen c test d e same ≡ false
+chosen-neither true test d e same h = never h
+chosen-neither false test true e same h = never h
+chosen-neither false test false e same h = refl
+
+pub reading-shut : (w front truths : List ℕ) → Stacked w → (j : ℕ) (cj : Bool) (cell a : ℕ) → storing (termAt w a) ≡ true → shutBy truths (termAt w a) cj ≡ true → unfreeAt w front a j cell ≡ readingAt w front truths a j cj cell
+reading-shut w front truths stacked j cj cell a s h =
+    let x = termAt w a in
+    let below = readingAt w front truths (x .p) j cj cell in
+    let vs = sym (reading-value w front truths stacked j cj cell a) in
+    let fs : false ≡ readingAt w front truths a j cj cell .free =
+        sym (chosen-neither (truthIn truths (x .q) && cj) (eqb (getD front (x .q) 0) j) (truthIn truths (x .r)) (below .free) (eqb (getD front (x .r) 0) (below .value)) h)
+        ∙ ap (λ (r : Reading). r .free) (reading-store w front truths stacked j cj cell a s) in
     λ i. record { value = vs i; free = fs i }

@@ -11,6 +11,7 @@ use Rattle.ops.specs.Condition.{chosen, settles}
 use Rattle.table.specs.declared.words.Term.{Term}
 use Rattle.table.specs.Terms.{termAt, sortAt}
 use Rattle.table.specs.Faults.{variable, constant, reading, storing}
+use Rattle.evaluate.specs.Reads.{readAt}
 use Rattle.evaluate.specs.Turns.{operatedNumber, numberOf}
 use Rattle.judge.specs.declared.reads.Reading.{Reading}
 use Rattle.judge.specs.Conditions.{ownMarks}
@@ -32,6 +33,13 @@ pickedBy front truths x j cj = truthIn truths (x .q) && cj && eqb (getD front (x
 
 abbrev pub storedBy : List ℕ → List ℕ → Term → Reading
 storedBy front truths x = record { value = getD front (x .r) 0; free = truthIn truths (x .r) }
+
+-- whether neither store x's test nor what it holds is free; a read that is not free
+abbrev pub shutBy : List ℕ → Term → Bool → Bool
+shutBy truths x cj = not (truthIn truths (x .q) && cj) && not (truthIn truths (x .r))
+
+abbrev pub unfreeAt : List ℕ → List ℕ → ℕ → ℕ → ℕ → Reading
+unfreeAt w front a j cell = record { value = readAt w front a j cell; free = false }
 
 -- the read of array term a at j, through at most left terms; cell is what the variable at the end holds there
 unfoldable pub readingWithin : ℕ → List ℕ → List ℕ → List ℕ → ℕ → ℕ → Bool → ℕ → Reading

@@ -2,7 +2,7 @@
 ghost use mathlib.Core.Path.{_≡_};
 ghost use mathlib.Core.Bool.{_&&_};
 ghost use Rattle.table.specs.WellFormed.{WellFormed};
-ghost use Rattle.judge.specs.Readings.{truthIn, overlaid, pickedBy, storedBy, readingAt};
+ghost use Rattle.judge.specs.Readings.{truthIn, overlaid, pickedBy, storedBy, shutBy, unfreeAt, readingAt};
 use setting::number_at;
 use table::Term;
 
@@ -56,8 +56,27 @@ fn stored(front: &[u32], truths: &[u32], x: Term) -> Reading
     }
 }
 
+// Whether neither a store's test nor what it holds is free: a read of it is not free either.
+fn shut(truths: &[u32], x: Term, cj: bool) -> bool
+    ensures { λ r. ⌜ r ≡ shutBy (now (truths .entry)) x cj ⌝ }
+{
+    !(truth_at(truths, x.q) & cj) & !truth_at(truths, x.r)
+}
+
+// A read that is not free: its value alone.
+fn unfree(table: &[u32], front: &[u32], a: u32, j: u32, cell: u32) -> Reading
+    requires { ⌜ WellFormed 80000 (now table) ⌝ }
+    ensures { λ r. ⌜ r ≡ unfreeAt (now (table .entry)) (now (front .entry)) a j cell ⌝ }
+{
+    let found = evaluate::find(table, front, a, j);
+    Reading {
+        value: ops::ite(found.stored, found.number, cell),
+        free: false,
+    }
+}
+
 // The read of the array term a at index j, whose condition is cj, the outermost store first; cell is that of the variable
-// beneath the stores. Below a store that is picked nothing counts.
+// beneath the stores. Below a store that is picked nothing counts, below one that is shut values alone.
 pub fn read(
     table: &[u32],
     front: &[u32],
@@ -79,6 +98,9 @@ pub fn read(
     }
     if picked(front, truths, x, j, cj) {
         return stored(front, truths, x);
+    }
+    if shut(truths, x, cj) {
+        return unfree(table, front, a, j, cell);
     }
     let below = read(table, front, truths, x.p, j, cj, cell);
     overlay(front, truths, x, j, cj, below)

@@ -2,6 +2,9 @@
 // include/hiranthok.h declares them.
 mod replies; // the library's answers as C's
 
+use records::Cell;
+use replies::answer_evaluated;
+use replies::answer_judged;
 use replies::deliver;
 ghost use mathlib.Core.Path.{_≡_};
 ghost use lib.ListN.{length};
@@ -14,6 +17,8 @@ ghost use Rattle.evaluate.specs.Evaluation as evaluates;
 ghost use Rattle.judge.specs.Judgement.{judgement};
 ghost use Rattle.judge.specs.Judgement as judges;
 ghost use Rattle.judge.specs.Demand3 as judges-laws;
+ghost use Rattle.records.specs.Answers as records′;
+ghost use Rattle.records.specs.Laws as records-laws;
 ghost use Rattle.hiranthok.specs.Replies.{row, admitted, finished, evaluated, judged};
 
 #[no_mangle]
@@ -74,4 +79,41 @@ pub extern "C" fn hiranthok_judge(
         replies::judged(judge::judge(table, values, cells, allowance, work)),
         answer,
     )
+}
+
+// The record entrance: the cells as a row of records; 11 cannot occur. Steps, left.
+#[no_mangle]
+pub extern "C" fn hiranthok_evaluate_records(
+    table: &[u32],
+    values: &[u32],
+    cells: &[Cell],
+    allowance: u64,
+    work: &mut [u32],
+    answer: &mut [u64; 4],
+) -> u32
+    ensures { λ r. ⌜ r ≡ evaluated (records′.evaluation (now (table .entry)) (now (values .entry)) (now (cells .entry)) allowance (length (now (work .entry)))) .number ⌝ }
+    ensures { λ r. ⌜ now (answer .exit) ≡ row (evaluated (records′.evaluation (now (table .entry)) (now (values .entry)) (now (cells .entry)) allowance (length (now (work .entry))))) ⌝ }
+    ensures { λ r. ⌜ now (work .exit) ≡ records′.evaluated (records′.evaluation (now (table .entry)) (now (values .entry)) (now (cells .entry)) allowance (length (now (work .entry)))) (now (table .entry)) (now (values .entry)) (now (cells .entry)) (now (work .entry)) ⌝ }
+{
+    let evaluation = records::evaluate_records(table, values, cells, allowance, work);
+    answer_evaluated(evaluation, answer)
+}
+
+// The record entrance: rule, condition, steps, left.
+#[no_mangle]
+pub extern "C" fn hiranthok_judge_records(
+    table: &[u32],
+    values: &[u32],
+    cells: &[Cell],
+    allowance: u64,
+    work: &mut [u32],
+    answer: &mut [u64; 4],
+) -> u32
+    ensures { λ r. ⌜ r ≡ judged (records′.judgement (now (table .entry)) (now (values .entry)) (now (cells .entry)) allowance (length (now (work .entry)))) .number ⌝ }
+    ensures { λ r. ⌜ now (answer .exit) ≡ row (judged (records′.judgement (now (table .entry)) (now (values .entry)) (now (cells .entry)) allowance (length (now (work .entry))))) ⌝ }
+    ensures { λ r. ⌜ now (work .exit) ≡ records′.judged (records′.judgement (now (table .entry)) (now (values .entry)) (now (cells .entry)) allowance (length (now (work .entry)))) (now (table .entry)) (now (values .entry)) (now (cells .entry)) (now (work .entry)) ⌝ }
+    ensures { λ r. ⌜ records-laws.Promise (now (table .entry)) (now (values .entry)) (now (cells .entry)) (records′.judgement (now (table .entry)) (now (values .entry)) (now (cells .entry)) allowance (length (now (work .entry)))) ⌝ }
+{
+    let judgement = records::judge_records(table, values, cells, allowance, work);
+    answer_judged(judgement, answer)
 }

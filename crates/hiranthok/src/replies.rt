@@ -94,3 +94,17 @@ pub fn deliver(reply: Reply, answer: &mut [u64; 4]) -> u32
     *answer = [reply.first, reply.second, reply.third, reply.fourth];
     reply.number
 }
+
+pub fn answer_evaluated(evaluation: Evaluation, answer: &mut [u64; 4]) -> u32
+    ensures { λ r. ⌜ r ≡ evaluated evaluation .number ⌝ }
+    ensures { λ r. ⌜ now (answer .exit) ≡ row (evaluated evaluation) ⌝ }
+{
+    deliver(evaluated(evaluation), answer)
+}
+
+pub fn answer_judged(judgement: Judgement, answer: &mut [u64; 4]) -> u32
+    ensures { λ r. ⌜ r ≡ judged judgement .number ⌝ }
+    ensures { λ r. ⌜ now (answer .exit) ≡ row (judged judgement) ⌝ }
+{
+    deliver(judged(judgement), answer)
+}

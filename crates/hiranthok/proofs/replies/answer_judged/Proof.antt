@@ -1,0 +1,14 @@
+use mathlib.Core.Path.{ap, _∙_}
+use Rattle.hiranthok.specs.declared.replies.Reply.{Reply}
+use Rattle.hiranthok.specs.Replies.{row}
+use borrow.Author.Needs.{needs}
+use Rattle.hiranthok.proofs.replies.answer_judged.Statement.{statement}
+use Rattle.hiranthok.proofs.replies.answer_judged.Tie as tie
+
+returns : tie.Need-returns
+returns c =
+    let is = c .before .before .judged .ensures in
+    (c .deliver .ensures .0 ∙ ap (λ (r : Reply). r .number) is, c .deliver .ensures .1 ∙ ap row is)
+
+pub answer-judged-spec : {M : Type 1} → statement M
+answer-judged-spec = tie.close (tie.spec (λ c κs. search needs) (λ c κs. search needs) returns)

@@ -14,7 +14,7 @@ module _ (stops : ℕ → Bool) (write : List ℕ → ℕ → List ℕ) (n i : �
   left : i < n → n - i ≡ suc (n - (i + 1))
   left b = omega arith
 
-  on-more : i < n → stops i ≡ false → onFrom stops write (n - i) room i ≡ onFrom stops write (n - (i + 1)) (write room i) (i + 1)
+  pub on-more : i < n → stops i ≡ false → onFrom stops write (n - i) room i ≡ onFrom stops write (n - (i + 1)) (write room i) (i + 1)
   unfolding onFrom
   on-more b e = rw (left b, e, add-one)
 

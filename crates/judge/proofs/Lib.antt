@@ -3,6 +3,7 @@ pub mod Promises
 pub mod Chains
 pub mod Meaning
 pub mod Asking
+pub mod Steps
 pub mod Rooms
 pub mod Fills
 pub mod Verdicts

@@ -111,34 +111,7 @@ fn note(work: &mut [u32], terms: u32, at: u32, r: Reading)
     work[middle] = truth;
 }
 
-// Writes values and truths of the terms from at on, up to the next read, and answers what that asks.
-pub fn on(
-    table: &[u32],
-    values: &[u32],
-    count: usize,
-    terms: u32,
-    work: &mut [u32],
-    at: u32,
-) -> Turn
-    requires { ⌜ WellFormed 80000 (now table) ⌝ }
-    requires { ⌜ terms ≡ tables.terms (now table) ⌝ }
-    requires { ⌜ (at ≤ terms) × (terms + terms ≤ length (now work)) ⌝ }
-    ensures { λ r. ⌜ r ≡ turnHere (now (table .entry)) (now (values .entry)) count terms (now (work .exit)) (nextRead (now (table .entry)) terms at) ⌝ }
-    ensures { λ r. ⌜ now (work .exit) ≡ onward (now (table .entry)) (noted (now (table .entry)) (now (values .entry)) terms 0) terms (now (work .entry)) at ⌝ }
-{
-    let mut i = at;
-    while i < terms {
-        if table::reading(table::term_at(table, i)) {
-            break;
-        }
-        let r = reading_here(table, values, terms, &work[..], i, 0);
-        note(work, terms, i, r);
-        i += 1;
-    }
-    turn_here(table, values, count, terms, &work[..], i)
-}
-
-// Writes value and truth of a turn's read, and goes on.
+// Writes value and truth of a turn's term and of those after it, up to the next read, and answers what that asks.
 pub fn step(
     table: &[u32],
     values: &[u32],
@@ -155,7 +128,14 @@ pub fn step(
     ensures { λ r. ⌜ now (work .exit) ≡ onward (now (table .entry)) (noted (now (table .entry)) (now (values .entry)) terms 0) terms (noted (now (table .entry)) (now (values .entry)) terms answer (now (work .entry)) (turn .at)) (turn .at + 1) ⌝ }
 {
     let at = turn.at;
-    let r = reading_here(table, values, terms, &work[..], at, answer);
-    note(work, terms, at, r);
-    on(table, values, count, terms, work, at + 1)
+    let mut i = at;
+    while i < terms {
+        if (i != at) & table::reading(table::term_at(table, i)) {
+            break;
+        }
+        let r = reading_here(table, values, terms, &work[..], i, answer);
+        note(work, terms, i, r);
+        i += 1;
+    }
+    turn_here(table, values, count, terms, &work[..], i)
 }

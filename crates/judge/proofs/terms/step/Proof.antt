@@ -1,26 +1,105 @@
-use mathlib.Core.Path.{sym, ap, subst, _∙_}
+use Prim.Native.Nat.{ℕ, _+_, _-_, _≤_}
+use mathlib.Core.Path.{_≡_, refl, sym, ap, subst, _∙_}
+use mathlib.Core.Bool.{Bool, false, not, _&&_}
+use mathlib.Core.Logic.{⊎-elim}
 use mathlib.Core.List.{List}
-use Prim.Native.Nat.{ℕ, _+_, _≤_}
 use native.Mathlib.Omega.{arith}
+use lib.Dec.{eqb}
+use lib.ListN.{length}
 use borrow.Author.Needs.{needs}
-use Rattle.evaluate.specs.Turns.{onward}
+use Rattle.table.specs.Faults.{reading, firstFrom}
+use Rattle.evaluate.specs.Turns.{onFrom}
+use Rattle.evaluate.proofs.Onward.{Going, set-out, go-on, stopped, passed}
 use Rattle.judge.specs.declared.reads.Reading.{Reading}
 use Rattle.judge.specs.Readings.{written, noted}
+use Rattle.judge.specs.Turns.{turnHere}
+use Rattle.judge.proofs.Steps.{stopsAfter, step-next, step-room}
 use Rattle.judge.proofs.terms.step.Statement.{statement}
 use Rattle.judge.proofs.terms.step.Tie as tie
 
-on-requires : tie.Need-on-requires
-on-requires c κs =
-    let s = c .before .before .before .before .before .before .before .before .before .before in
-    (s .pre .0, (s .pre .1 .0, (omega (arith, s .pre .1 .1), subst (λ (k : ℕ). s .args .terms + s .args .terms ≤ k) (sym (c .before .before .before .note .kept .0)) (s .pre .1 .1 .1))))
+abbrev Inv-loop : tie.InvT-loop
+Inv-loop table values count terms work₀ answer at i₀ work i = Going (stopsAfter table values terms at answer) (noted table values terms answer) terms at work₀ i work × (length work ≡ length work₀)
 
-returns : tie.Need-returns
+abbrev μ-loop : tie.MeasureT-loop
+μ-loop table values count terms work₀ answer at i₀ work i = terms - i
+
+loop-holds : tie.Need-loop-holds Inv-loop μ-loop
+loop-holds c =
+    let s = c .before .before .before in
+    let a = s .args in
+    (set-out (stopsAfter (a .table .now) (a .values .now) (a .terms) (a .turn .at) (a .answer)) (noted (a .table .now) (a .values .now) (a .terms) (a .answer)) (a .terms) (a .turn .at) (a .work .now) (omega (arith, s .pre .1 .1 .0)), refl)
+
+-- the room is long enough
+enough : (c : tie.In-loop Inv-loop μ-loop) → c .before .before .before .before .before .args .terms + c .before .before .before .before .before .args .terms ≤ length (c .before .loop .work)
+enough c = omega (arith, c .before .loop .inv .1, c .before .before .before .before .before .pre .1 .1 .1)
+
+reading-here-requires : tie.Need-reading-here-requires Inv-loop μ-loop
+reading-here-requires c κs =
+    let s = c .before .before .before .before .before .before .before .before .before in
+    let inside = c .before .before .before .before .loop-test .taken in
+    (s .pre .0, (s .pre .1 .0, (inside, omega (arith, enough (c .before .before .before .before), inside))))
+
+note-requires : tie.Need-note-requires Inv-loop μ-loop
+note-requires c κs = (c .before .before .before .before .before .before .loop-test .taken, enough (c .before .before .before .before .before .before))
+
+loop-less : tie.Need-loop-less Inv-loop μ-loop
+loop-less c = omega (arith, c .before .before .before .before .before .before .before .before .before .loop-test .taken)
+
+loop-again : tie.Need-loop-again Inv-loop μ-loop
+loop-again c =
+    let a = c .before .before .before .before .before .before .before .before .before .before .before .before .before .before .args in
+    let l = c .before .before .before .before .before .before .before .before .before .before .loop in
+    let plain : stopsAfter (a .table .now) (a .values .now) (a .terms) (a .turn .at) (a .answer) (l .i) ≡ false = sym (ap (λ (b : Bool). not (eqb (l .i) (a .turn .at)) && b) (c .before .before .before .before .before .before .before .reading .ensures ∙ ap reading (c .before .before .before .before .before .before .before .before .term-at .ensures))) ∙ c .before .before .before .before .before .before .if1 .left in
+    let wrote = c .before .before .note .ensures ∙ ap (λ (r : Reading). written r (a .terms) (l .work) (l .i)) (c .before .before .before .before .reading-here .ensures) in (
+      subst (Going (stopsAfter (a .table .now) (a .values .now) (a .terms) (a .turn .at) (a .answer)) (noted (a .table .now) (a .values .now) (a .terms) (a .answer)) (a .terms) (a .turn .at) (a .work .now) _) (sym wrote) (go-on (stopsAfter (a .table .now) (a .values .now) (a .terms) (a .turn .at) (a .answer)) (noted (a .table .now) (a .values .now) (a .terms) (a .answer)) (a .terms) (a .turn .at) (a .work .now) (l .i) (l .work) (l .inv .0) (c .before .before .before .before .before .before .before .before .before .loop-test .taken) plain),
+      c .before .before .note .kept .0 ∙ l .inv .1,
+    )
+
+-- where the loop was left: at a read, or past the last term
+arrives : (c : tie.Left-loop Inv-loop μ-loop) →
+    let a = c .before .before .before .before .before .args in
+    let l = c .before .loop in
+    (l .i ≡ firstFrom (stopsAfter (a .table .now) (a .values .now) (a .terms) (a .turn .at) (a .answer)) (a .terms - a .turn .at) (a .turn .at)) × (l .work ≡ onFrom (stopsAfter (a .table .now) (a .values .now) (a .terms) (a .turn .at) (a .answer)) (noted (a .table .now) (a .values .now) (a .terms) (a .answer)) (a .terms - a .turn .at) (a .work .now) (a .turn .at))
+arrives c =
+    let a = c .before .before .before .before .before .args in
+    let l = c .before .loop in
+    ⊎-elim
+    (λ e. passed (stopsAfter (a .table .now) (a .values .now) (a .terms) (a .turn .at) (a .answer)) (noted (a .table .now) (a .values .now) (a .terms) (a .answer)) (a .terms) (a .turn .at) (a .work .now) (l .i) (l .work) (l .inv .0) (e .left))
+    (λ e. stopped (stopsAfter (a .table .now) (a .values .now) (a .terms) (a .turn .at) (a .answer)) (noted (a .table .now) (a .values .now) (a .terms) (a .answer)) (a .terms) (a .turn .at) (a .work .now) (l .i) (l .work) (l .inv .0) (e .0 .taken) (sym (ap (λ (b : Bool). not (eqb (l .i) (a .turn .at)) && b) (e .2 .ensures ∙ ap reading (e .1 .ensures))) ∙ e .3 .taken))
+    (c .loop-test .came)
+
+turn-here-requires : tie.Need-turn-here-requires Inv-loop μ-loop
+turn-here-requires c κs =
+    let s = c .before .before .before .before .before .before in
+    let l = c .before .before .loop in
+    (s .pre .0, (l .inv .0 .within, omega (arith, l .inv .1, l .inv .0 .within, s .pre .1 .1 .1)))
+
+same-length : tie.Need-same-length Inv-loop μ-loop
+same-length c = c .before .before .before .loop .inv .1
+
+returns : tie.Need-returns Inv-loop μ-loop
 returns c =
-    let a = c .before .before .before .before .before .before .before .before .before .before .before .before .before .args in
-    let wrote = c .before .before .before .before .before .before .note .ensures ∙ ap (λ (r : Reading). written r (a .terms) (a .work .now) (a .turn .at)) (c .before .before .before .before .before .before .before .before .reading-here .ensures) in (
-      c .before .before .on .ensures .0,
-      c .before .before .on .ensures .1 ∙ ap (λ (l : List ℕ). onward (a .table .now) (noted (a .table .now) (a .values .now) (a .terms) 0) (a .terms) l (a .turn .at + 1)) wrote,
+    let s = c .before .before .before .before .before .before .before in
+    let a = s .args in
+    let there = arrives (c .before .before) in (
+      c .turn-here .ensures ∙ ap (turnHere (a .table .now) (a .values .now) (a .count) (a .terms) (c .before .before .before .loop .work)) (there .0 ∙ step-next (a .table .now) (a .values .now) (a .terms) (a .turn .at) (a .answer) (s .pre .1 .1 .0)),
+      there .1 ∙ step-room (a .table .now) (a .values .now) (a .terms) (a .turn .at) (a .answer) (a .work .now) (s .pre .1 .1 .0),
     )
 
 pub step-spec : {M : Type 1} → statement M
-step-spec = tie.close (tie.spec (λ c κs. search needs) (λ c κs. search needs) (λ c. search needs) on-requires (λ c. search needs) returns)
+step-spec =
+    tie.close
+    (tie.spec
+    Inv-loop
+    μ-loop
+    loop-holds
+    (λ c κs. search needs)
+    (λ c κs. search needs)
+    reading-here-requires
+    note-requires
+    (λ c. search needs)
+    loop-less
+    loop-again
+    turn-here-requires
+    same-length
+    returns)

@@ -54,8 +54,8 @@ pub extern "C" fn hiranthok_evaluate(
     ensures { λ r. ⌜ now (answer .exit) ≡ row (evaluated (evaluation (now (table .entry)) (now (values .entry)) (now (cells .entry)) allowance (length (now (work .entry))))) ⌝ }
     ensures { λ r. ⌜ now (work .exit) ≡ evaluates.roomAfter (evaluation (now (table .entry)) (now (values .entry)) (now (cells .entry)) allowance (length (now (work .entry)))) (now (table .entry)) (now (values .entry)) (now (cells .entry)) (now (work .entry)) ⌝ }
 {
-    deliver(
-        replies::evaluated(evaluate::evaluate(table, values, cells, allowance, work)),
+    answer_evaluated(
+        evaluate::evaluate(table, values, cells, allowance, work),
         answer,
     )
 }
@@ -75,10 +75,7 @@ pub extern "C" fn hiranthok_judge(
     ensures { λ r. ⌜ now (work .exit) ≡ judges.roomAfter (judgement (now (table .entry)) (now (values .entry)) (now (cells .entry)) allowance (length (now (work .entry)))) (now (table .entry)) (now (values .entry)) (now (cells .entry)) (now (work .entry)) ⌝ }
     ensures { λ r. ⌜ judges-laws.Promise (now (table .entry)) (now (values .entry)) (now (cells .entry)) (judgement (now (table .entry)) (now (values .entry)) (now (cells .entry)) allowance (length (now (work .entry)))) ⌝ }
 {
-    deliver(
-        replies::judged(judge::judge(table, values, cells, allowance, work)),
-        answer,
-    )
+    answer_judged(judge::judge(table, values, cells, allowance, work), answer)
 }
 
 // The record entrance: the cells as a row of records; 11 cannot occur. Steps, left.

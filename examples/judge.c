@@ -1,4 +1,5 @@
-/* Judges rule G, 0 < a * x + b at width 8 with x marked, in three settings, and refuses a fourth. */
+/* Judges rule G, 0 < a * x + b at width 8 with x marked, in three settings, and refuses a fourth; then rule H, t with 42 stored at a
+ * is 42 at c, with t marked, where some cells of t are listed as records. */
 #include <stdio.h>
 
 #include "hiranthok.h"
@@ -13,6 +14,25 @@ static const uint32_t rule_g[] = {
     14, 0, 0, 5, 4, 0, /* 6: 0 < a * x + b */
 };
 
+static const uint32_t rule_h[] = {
+    1,  8, 8, 0, 1, 0, /* 0: array t, slot 0, marked */
+    1,  0, 8, 1, 0, 0, /* 1: variable a, slot 1 */
+    1,  0, 8, 2, 0, 0, /* 2: variable c, slot 2 */
+    0,  0, 8, 42, 0, 0, /* 3: 42 */
+    16, 8, 8, 0, 1, 3, /* 4: t with 42 stored at a */
+    15, 0, 8, 4, 2, 0, /* 5: the same at c */
+    6,  0, 0, 5, 3, 0, /* 6: it is 42 */
+};
+
+static void show(uint32_t refused, const uint64_t answer[4])
+{
+    if (refused)
+        printf("refused %u at %llu\n", (unsigned)refused, (unsigned long long)answer[0]);
+    else
+        printf("rule %s, condition %s, %s\n", answer[0] ? "true" : "false", answer[1] ? "true" : "false",
+               answer[0] && answer[1] ? "passes" : "does not pass");
+}
+
 static void judge(uint32_t a, uint32_t x, uint32_t b)
 {
     const uint32_t values[] = {a, x, b};
@@ -22,11 +42,20 @@ static void judge(uint32_t a, uint32_t x, uint32_t b)
     uint32_t refused = hiranthok_judge(rule_g, 42, values, 3, cells, 0, 0, work, 14, answer);
 
     printf("a %u, x %u, b %u: ", (unsigned)a, (unsigned)x, (unsigned)b);
-    if (refused)
-        printf("refused %u at %llu\n", (unsigned)refused, (unsigned long long)answer[0]);
-    else
-        printf("rule %s, condition %s, %s\n", answer[0] ? "true" : "false", answer[1] ? "true" : "false",
-               answer[0] && answer[1] ? "passes" : "does not pass");
+    show(refused, answer);
+}
+
+/* t holds 42 at 2 and 9 elsewhere; of the two cells at 2 the earlier counts. */
+static void judge_records(uint32_t a, uint32_t c)
+{
+    const uint32_t values[] = {9, a, c};
+    const struct hiranthok_cell cells[] = {{0, 2, 42}, {0, 2, 8}};
+    uint32_t work[14];
+    uint64_t answer[4];
+    uint32_t refused = hiranthok_judge_records(rule_h, 42, values, 3, cells, 2, 1, work, 14, answer);
+
+    printf("a %u, c %u: ", (unsigned)a, (unsigned)c);
+    show(refused, answer);
 }
 
 int main(void)
@@ -35,5 +64,8 @@ int main(void)
     judge(1, 1, 0);   /* true, but x decides */
     judge(0, 5, 0);   /* false, whatever x is */
     judge(0, 256, 1); /* 256 does not fit width 8 */
+    judge_records(0, 0); /* what is read was stored: whatever t is, it is 42 */
+    judge_records(0, 2); /* true, but t decides */
+    judge_records(0, 3); /* false here, and t decides */
     return 0;
 }

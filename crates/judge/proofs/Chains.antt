@@ -83,7 +83,7 @@ overlaid-picked front truths x j cj below h =
     let parts = and-parts (truthIn truths (x .q) && cj) (eqb (getD front (x .q) 0) j) h in
     let vs : getD front (x .r) 0 ≡ cond (eqb (getD front (x .q) 0) j) (getD front (x .r) 0) (below .value) = sym (ap (λ (b : Bool). cond b (getD front (x .r) 0) (below .value)) (parts .1)) in
     let fs : truthIn truths (x .r) ≡ chosen (truthIn truths (x .q) && cj) (eqb (getD front (x .q) 0) j) (truthIn truths (x .r)) (below .free) (eqb (getD front (x .r) 0) (below .value)) =
-        sym (ap₂ (λ (a b : Bool). chosen a b (truthIn truths (x .r)) (below .free) (eqb (getD front (x .r) 0) (below .value))) (parts .0) (parts .1) ∙ chosen-picked (truthIn truths (x .r)) (below .free) (eqb (getD front (x .r) 0) (below .value))) in
+    sym (ap₂ (λ (a b : Bool). chosen a b (truthIn truths (x .r)) (below .free) (eqb (getD front (x .r) 0) (below .value))) (parts .0) (parts .1) ∙ chosen-picked (truthIn truths (x .r)) (below .free) (eqb (getD front (x .r) 0) (below .value))) in
     λ i. record { value = vs i; free = fs i }
 
 -- of a store that is shut no read is free
@@ -99,6 +99,6 @@ reading-shut w front truths stacked j cj cell a s h =
     let below = readingAt w front truths (x .p) j cj cell in
     let vs = sym (reading-value w front truths stacked j cj cell a) in
     let fs : false ≡ readingAt w front truths a j cj cell .free =
-        sym (chosen-neither (truthIn truths (x .q) && cj) (eqb (getD front (x .q) 0) j) (truthIn truths (x .r)) (below .free) (eqb (getD front (x .r) 0) (below .value)) h)
-        ∙ ap (λ (r : Reading). r .free) (reading-store w front truths stacked j cj cell a s) in
+    sym (chosen-neither (truthIn truths (x .q) && cj) (eqb (getD front (x .q) 0) j) (truthIn truths (x .r)) (below .free) (eqb (getD front (x .r) 0) (below .value)) h)
+    ∙ ap (λ (r : Reading). r .free) (reading-store w front truths stacked j cj cell a s) in
     λ i. record { value = vs i; free = fs i }

@@ -30,7 +30,16 @@ fn operated(table: &[u32], front: &[u32], truths: &[u32], x: Term) -> Reading
     let a = front[p];
     let b = front[q];
     let c = front[r];
-    let free = ops::settles(op, n, a, b, c, truths[p] == 1, truths[q] == 1, truths[r] == 1);
+    let free = ops::settles(
+        op,
+        n,
+        a,
+        b,
+        c,
+        truths[p] == 1,
+        truths[q] == 1,
+        truths[r] == 1,
+    );
     Reading {
         value: ops::apply(op, n, a, b, c),
         free,

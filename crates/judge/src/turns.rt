@@ -52,5 +52,13 @@ pub fn turn_here(
     let end = at as usize;
     let start = terms as usize;
     let last = start + end;
-    turn_at(table, values, count, terms, &room[..end], &room[start..last], at)
+    turn_at(
+        table,
+        values,
+        count,
+        terms,
+        &room[..end],
+        &room[start..last],
+        at,
+    )
 }

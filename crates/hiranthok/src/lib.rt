@@ -17,8 +17,8 @@ ghost use Rattle.evaluate.specs.Evaluation as evaluates;
 ghost use Rattle.judge.specs.Judgement.{judgement};
 ghost use Rattle.judge.specs.Judgement as judges;
 ghost use Rattle.judge.specs.Demand3 as judges-laws;
-ghost use Rattle.records.specs.Answers as records′;
-ghost use Rattle.records.specs.Laws as records-laws;
+ghost use Rattle.records.specs.Answers as recorded;
+ghost use Rattle.records.specs.Laws as recorded-laws;
 ghost use Rattle.hiranthok.specs.Replies.{row, admitted, finished, evaluated, judged};
 
 #[no_mangle]
@@ -88,9 +88,9 @@ pub extern "C" fn hiranthok_evaluate_records(
     work: &mut [u32],
     answer: &mut [u64; 4],
 ) -> u32
-    ensures { λ r. ⌜ r ≡ evaluated (records′.evaluation (now (table .entry)) (now (values .entry)) (now (cells .entry)) allowance (length (now (work .entry)))) .number ⌝ }
-    ensures { λ r. ⌜ now (answer .exit) ≡ row (evaluated (records′.evaluation (now (table .entry)) (now (values .entry)) (now (cells .entry)) allowance (length (now (work .entry))))) ⌝ }
-    ensures { λ r. ⌜ now (work .exit) ≡ records′.evaluated (records′.evaluation (now (table .entry)) (now (values .entry)) (now (cells .entry)) allowance (length (now (work .entry)))) (now (table .entry)) (now (values .entry)) (now (cells .entry)) (now (work .entry)) ⌝ }
+    ensures { λ r. ⌜ r ≡ evaluated (recorded.evaluation (now (table .entry)) (now (values .entry)) (now (cells .entry)) allowance (length (now (work .entry)))) .number ⌝ }
+    ensures { λ r. ⌜ now (answer .exit) ≡ row (evaluated (recorded.evaluation (now (table .entry)) (now (values .entry)) (now (cells .entry)) allowance (length (now (work .entry))))) ⌝ }
+    ensures { λ r. ⌜ now (work .exit) ≡ recorded.evaluated (recorded.evaluation (now (table .entry)) (now (values .entry)) (now (cells .entry)) allowance (length (now (work .entry)))) (now (table .entry)) (now (values .entry)) (now (cells .entry)) (now (work .entry)) ⌝ }
 {
     let evaluation = records::evaluate_records(table, values, cells, allowance, work);
     answer_evaluated(evaluation, answer)
@@ -106,10 +106,10 @@ pub extern "C" fn hiranthok_judge_records(
     work: &mut [u32],
     answer: &mut [u64; 4],
 ) -> u32
-    ensures { λ r. ⌜ r ≡ judged (records′.judgement (now (table .entry)) (now (values .entry)) (now (cells .entry)) allowance (length (now (work .entry)))) .number ⌝ }
-    ensures { λ r. ⌜ now (answer .exit) ≡ row (judged (records′.judgement (now (table .entry)) (now (values .entry)) (now (cells .entry)) allowance (length (now (work .entry))))) ⌝ }
-    ensures { λ r. ⌜ now (work .exit) ≡ records′.judged (records′.judgement (now (table .entry)) (now (values .entry)) (now (cells .entry)) allowance (length (now (work .entry)))) (now (table .entry)) (now (values .entry)) (now (cells .entry)) (now (work .entry)) ⌝ }
-    ensures { λ r. ⌜ records-laws.Promise (now (table .entry)) (now (values .entry)) (now (cells .entry)) (records′.judgement (now (table .entry)) (now (values .entry)) (now (cells .entry)) allowance (length (now (work .entry)))) ⌝ }
+    ensures { λ r. ⌜ r ≡ judged (recorded.judgement (now (table .entry)) (now (values .entry)) (now (cells .entry)) allowance (length (now (work .entry)))) .number ⌝ }
+    ensures { λ r. ⌜ now (answer .exit) ≡ row (judged (recorded.judgement (now (table .entry)) (now (values .entry)) (now (cells .entry)) allowance (length (now (work .entry))))) ⌝ }
+    ensures { λ r. ⌜ now (work .exit) ≡ recorded.judged (recorded.judgement (now (table .entry)) (now (values .entry)) (now (cells .entry)) allowance (length (now (work .entry)))) (now (table .entry)) (now (values .entry)) (now (cells .entry)) (now (work .entry)) ⌝ }
+    ensures { λ r. ⌜ recorded-laws.Promise (now (table .entry)) (now (values .entry)) (now (cells .entry)) (recorded.judgement (now (table .entry)) (now (values .entry)) (now (cells .entry)) allowance (length (now (work .entry)))) ⌝ }
 {
     let judgement = records::judge_records(table, values, cells, allowance, work);
     answer_judged(judgement, answer)

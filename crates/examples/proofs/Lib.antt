@@ -1,1 +1,2 @@
+pub mod LentRow
 pub mod Placing

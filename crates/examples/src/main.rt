@@ -3,6 +3,7 @@ mod admissions; // what admit answers
 mod evaluations; // what evaluate answers
 mod finishings; // what finish answers
 mod judgements; // what judge answers
+mod record_cells; // what the record entrance answers
 mod rules; // the tables
 mod shows; // printing answers and rooms
 

@@ -37,7 +37,7 @@ returns-18 c =
     let no1 : n ≡ 1 → ⊥ = r .0 .0 .0 .0 .0 .0 .0 .0 .0 .0 .0 .0 .0 .0 .0 .1 in
     let no0 : n ≡ 0 → ⊥ = r .0 .0 .0 .0 .0 .0 .0 .0 .0 .0 .0 .0 .0 .0 .0 .0 .1 in
     let past : 17 ≤ n =
-        above n 16 no16 (above n 15 no15 (above n 14 no14 (above n 13 no13 (above n 12 no12 (above n 11 no11 (above n 10 no10 (above n 9 no9 (above n 8 no8 (above n 7 no7 (above n 6 no6 (above n 5 no5 (above n 4 no4 (above n 3 no3 (above n 2 no2 (above n 1 no1 (above n 0 no0 (nothing n))))))))))))))))) in
+    above n 16 no16 (above n 15 no15 (above n 14 no14 (above n 13 no13 (above n 12 no12 (above n 11 no11 (above n 10 no10 (above n 9 no9 (above n 8 no8 (above n 7 no7 (above n 6 no6 (above n 5 no5 (above n 4 no4 (above n 3 no3 (above n 2 no2 (above n 1 no1 (above n 0 no0 (nothing n))))))))))))))))) in
     sym (List·getD-eq-default ops Unknown past)
 
 pub op-of-spec : {M : Type 1} → statement M

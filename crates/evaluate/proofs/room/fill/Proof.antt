@@ -56,7 +56,7 @@ loop-less c =
     let n = c .before .before .before .before .before .before .before .before .before .count in
     let k = c .before .before .step in
     let next = turned (a .table .now) (a .values .now) (cellAt (a .cells .now)) (length (a .cells .now) / 3) (n .result) (a .work .now) 80000 (s .pre .0) (n .ensures) (enough (c .before .before .before .before .before)) (l .work) (l .turn) (l .inv)
-        (c .before .before .before .before .before .loop-test .taken) (c .before .before .before .before .look .result) (c .before .before .before .before .look .ensures) _ _ (k .ensures .1) (k .ensures .0) in
+    (c .before .before .before .before .before .loop-test .taken) (c .before .before .before .before .look .result) (c .before .before .before .before .look .ensures) _ _ (k .ensures .1) (k .ensures .0) in
     omega (arith, next .1, going (n .result) (filled (a .table .now) (a .values .now) (cellAt (a .cells .now)) (length (a .cells .now) / 3) (n .result) (a .work .now)) (asking (a .table .now) (a .values .now) (cellAt (a .cells .now)) (length (a .cells .now) / 3) (n .result) (a .work .now)) (length (a .cells .now) / 3) (asks (a .table .now) (a .values .now) (cellAt (a .cells .now)) (length (a .cells .now) / 3) (n .result) (a .work .now)) (l .work) (l .turn) (l .inv) (c .before .before .before .before .before .loop-test .taken))
 
 loop-again : tie.Need-loop-again Inv-loop μ-loop

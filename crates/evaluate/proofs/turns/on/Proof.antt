@@ -55,9 +55,9 @@ loop-again c =
     let x = c .before .before .before .before .term-at in
     let plain : readingAt (a .table .now) (l .i) ≡ false = sym (c .before .before .before .reading .ensures ∙ ap reading (x .ensures)) ∙ c .before .before .if1 .left in
     let wrote : set (l .work) (l .i) (c .number .result) ≡ numbered (a .table .now) (a .values .now) 0 (l .work) (l .i) =
-        ap (set (l .work) (l .i)) (c .number .ensures ∙ ap (λ (y : Term). numberOf (a .table .now) (a .values .now) (take (l .i) (l .work)) y 0) (x .ensures)) in (
+    ap (set (l .work) (l .i)) (c .number .ensures ∙ ap (λ (y : Term). numberOf (a .table .now) (a .values .now) (take (l .i) (l .work)) y 0) (x .ensures)) in (
       subst (Going (readingAt (a .table .now)) (numbered (a .table .now) (a .values .now) 0) (a .terms) (a .at) (a .work .now) _) (sym wrote)
-      (go-on (readingAt (a .table .now)) (numbered (a .table .now) (a .values .now) 0) (a .terms) (a .at) (a .work .now) (l .i) (l .work) (l .inv .0) (c .before .before .before .before .before .loop-test .taken) plain),
+          (go-on (readingAt (a .table .now)) (numbered (a .table .now) (a .values .now) 0) (a .terms) (a .at) (a .work .now) (l .i) (l .work) (l .inv .0) (c .before .before .before .before .before .loop-test .taken) plain),
       length-set (l .work) (l .i) (c .number .result) ∙ l .inv .1,
     )
 
@@ -72,7 +72,7 @@ arrives c =
     ⊎-elim
     (λ e. passed (readingAt (a .table .now)) (numbered (a .table .now) (a .values .now) 0) (a .terms) (a .at) (a .work .now) (l .i) (l .work) (l .inv .0) (e .left))
     (λ e. stopped (readingAt (a .table .now)) (numbered (a .table .now) (a .values .now) 0) (a .terms) (a .at) (a .work .now) (l .i) (l .work) (l .inv .0) (e .0 .taken)
-        (sym (e .2 .ensures ∙ ap reading (e .1 .ensures)) ∙ e .3 .taken))
+    (sym (e .2 .ensures ∙ ap reading (e .1 .ensures)) ∙ e .3 .taken))
     (c .loop-test .came)
 
 slice-reshare-prefix-turn-at : tie.Need-slice-reshare-prefix-turn-at Inv-loop μ-loop

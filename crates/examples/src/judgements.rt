@@ -1,4 +1,5 @@
 // What judge answers, and what it leaves in the work room: values, then truths.
+use crate::rules::one_bit_read;
 use crate::rules::put;
 use crate::rules::rule_g;
 use crate::rules::rule_h;
@@ -26,13 +27,18 @@ fn show_answer(answer: Judgement) {
     }
 }
 
+// A name, what was answered, and the room.
+pub fn show(name: &[u8], answer: Judgement, room: &[u32]) {
+    io::write_all(STDOUT_FILENO, name);
+    show_answer(answer);
+    show_room(room);
+}
+
 // Judges with a room of fifteen numbers, each 7.
 fn run(name: &[u8], table: &[u32], values: &[u32], cells: &[u32], allowance: u64) {
     let mut room = [7u32; 15];
     let answer = judge::judge(table, values, cells, allowance, &mut room);
-    io::write_all(STDOUT_FILENO, name);
-    show_answer(answer);
-    show_room(&room);
+    show(name, answer, &room);
 }
 
 // Rule G.
@@ -116,13 +122,7 @@ pub fn terms() {
 
 // A read of an array of index width 1, with both its cells listed.
 fn run_both(name: &[u8], value: u32) {
-    let mut small = [0u32; 30];
-    put(&mut small, 0, 1, 1, 8, 0, 0, 0);
-    put(&mut small, 1, 0, 0, 1, 0, 0, 0);
-    put(&mut small, 2, 15, 0, 8, 0, 1, 0);
-    put(&mut small, 3, 0, 0, 8, 5, 0, 0);
-    put(&mut small, 4, 6, 0, 0, 2, 3, 0);
-    run(name, &small, &[value], &[0, 0, 5, 0, 1, 6], 0);
+    run(name, &one_bit_read(), &[value], &[0, 0, 5, 0, 1, 6], 0);
 }
 
 // Refusals of judge: its limit, its room of two numbers a term, and a setting that fits and is refused.

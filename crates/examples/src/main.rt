@@ -32,4 +32,8 @@ fn main() {
     finishings::unmarked_finished();
     finishings::stores_finished();
     finishings::refusals();
+    record_cells::rule_h_evaluated();
+    record_cells::rule_h_refused();
+    record_cells::rule_h_judged();
+    record_cells::both_listed();
 }

@@ -4,7 +4,7 @@ ghost use Prim.Native.Nat.{_≤_};
 ghost use Rattle.table.specs.Terms.{placed};
 ghost use Rattle.table.specs.Bench.{ruleG, ruleH};
 ghost use Rattle.finish.specs.Bench.{unmarkedRule};
-ghost use Rattle.examples.specs.Tables.{termOf, stores, threeStores, asFirst, asFourth, between};
+ghost use Rattle.examples.specs.Tables.{termOf, stores, threeStores, oneBitRead, asFirst, asFourth, between};
 use table::Sort;
 use table::Term;
 
@@ -90,6 +90,19 @@ pub fn three_stores() -> [u32; 42]
     put_stores(&mut table, 3);
     put(&mut table, 5, 15, 0, 8, 4, 0, 0);
     put(&mut table, 6, 6, 0, 0, 5, 0, 0);
+    table
+}
+
+// An unmarked array of index width 1, read at 0, equal to 5.
+pub fn one_bit_read() -> [u32; 30]
+    ensures { λ t. ⌜ t ≡ oneBitRead ⌝ }
+{
+    let mut table = [0u32; 30];
+    put(&mut table, 0, 1, 1, 8, 0, 0, 0);
+    put(&mut table, 1, 0, 0, 1, 0, 0, 0);
+    put(&mut table, 2, 15, 0, 8, 0, 1, 0);
+    put(&mut table, 3, 0, 0, 8, 5, 0, 0);
+    put(&mut table, 4, 6, 0, 0, 2, 3, 0);
     table
 }
 

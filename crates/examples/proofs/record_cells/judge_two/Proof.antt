@@ -134,22 +134,22 @@ module _ {M : Type 1} (𝓤 : URA M) (H : Heap 𝓤) (A : Atoms 𝓤) (W : Given
 
   -- what the two clauses say
   abbrev answer-is : Judgement → Type 0
-  answer-is e = e ≡ judgement w values cells allowance (length ws)
+  answer-is j = j ≡ judgement w values cells allowance (length ws)
 
   abbrev room-is : Judgement → List ℕ → Type 0
-  room-is e l = l ≡ judged e w values cells ws
+  room-is j l = l ≡ judged j w values cells ws
 
   -- the tokens, and the work's last list
   abbrev Front : List ℕ → List (Item 𝓤)
   Front l = ‵ (flft κ₀ q₀) ∷ ‵ (flft κ₁ q₁) ∷ ‵ (flft κ₂ q₂) ∷ ‵ (finally u32 γ l) ∷ []
 
-  exits : (e : Judgement) (l : List ℕ) → answer-is e → room-is e l → Is J.the-row e (J′.lowered e ∷ []) → length l ≡ length ws → ent 𝓤 (⋆ 𝓤 H A (Front l)) (Post (J′.lowered e))
-  exits e l is left low same =
+  exits : (j : Judgement) (l : List ℕ) → answer-is j → room-is j l → Is J.the-row j (J′.lowered j ∷ []) → length l ≡ length ws → ent 𝓤 (⋆ 𝓤 H A (Front l)) (Post (J′.lowered j))
+  exits j l is left low same =
       qed W (Front l) ∵
-      suffices ! _ (ends-at 𝓤 H A own.ended stayed (own.clauses 𝓤 H A mem run) W bound (J′.lowered e) e (tt, (tt, (tt, (tt, (l, tt))))) (tt, (tt, (tt, (tt, (same, tt)))))) $ tells ! (two 𝓤 is left) $
+      suffices ! _ (ends-at 𝓤 H A own.ended stayed (own.clauses 𝓤 H A mem run) W bound (J′.lowered j) j (tt, (tt, (tt, (tt, (l, tt))))) (tt, (tt, (tt, (tt, (same, tt)))))) $ tells ! (two 𝓤 is left) $
       nothing ! $ move ! (3 ∷ 0 ∷ []) $ join ! $ move ! (2 ∷ 0 ∷ []) $ join ! $ move ! (1 ∷ 0 ∷ []) $ join ! $ frame ! $
       nothing ! $ move ! (1 ∷ 0 ∷ []) $ fjoin ! $ nothing ! $ fjoin ! $ nothing ! $ fjoin ! $ nothing ! $ fjoin ! $ nothing ! $ fjoin ! $ frame ! $ keep ! [] $
-      owned ! J.the-row (Is J.the-row) (LE.makes J.the-type J′.the-plain 𝓤 H A) e _ low $ done !
+      owned ! J.the-row (Is J.the-row) (LE.makes J.the-type J′.the-plain 𝓤 H A) j _ low $ done !
 
   -- ---- what the callee's triple binds outside, and what it asks: the cells at l under the name δ, for the lifetime ν of the call
   abbrev OwnR : ℕ → ℕ → GName → Fml
@@ -223,22 +223,22 @@ module _ {M : Type 1} (𝓤 : URA M) (H : Heap 𝓤) (A : Atoms 𝓤) (W : Given
         use2 W (raw (Entrance 𝓤 H A mem run .pre (to-entrance ν l₆ δ))) (goes-entrance ν l₆ δ) $
         calls-at ! (fmOf 𝓤 H (W .laws) 𝓣) (Entrance 𝓤 H A mem run) known (to-entrance ν l₆ δ)
         (and-then ! (load ! (from ! (stop !)) (look ! 19 refl)) (and-then ! (load ! (from ! (stop !)) (look ! 17 refl)) (and-then ! (load ! (from ! (stop !)) (look ! 6 refl)) (and-then ! (load ! (from ! (stop !)) (look ! 13 refl)) (and-then ! (load ! (from ! (stop !)) (look ! 2 refl)) (no-more !)))))) (λ u.
-        use1 W (later (some (λ (e : Judgement). ((‵ (flft κ₀ q₀) ⊛ (‵ (flft κ₁ q₁) ⊛ (‵ (flft (ν ∷ []) fullShare) ⊛ (‵ (flft κ₂ q₂) ⊛ ‵ ftrue)))) ⊛ ‵ (J.the-row .own e (u ∷ []))) ⊛ raw (ensured 𝓤 H A entrance.ended (entrance.clauses 𝓤 H A mem run) (κ₀, (κ₁, (ν ∷ [], (κ₂, tt)))) (passed l₆ δ) tt e)))) (id⊢ 𝓤 _) $ await ! tt $ pick ! (λ e.
+        use1 W (later (some (λ (j : Judgement). ((‵ (flft κ₀ q₀) ⊛ (‵ (flft κ₁ q₁) ⊛ (‵ (flft (ν ∷ []) fullShare) ⊛ (‵ (flft κ₂ q₂) ⊛ ‵ ftrue)))) ⊛ ‵ (J.the-row .own j (u ∷ []))) ⊛ raw (ensured 𝓤 H A entrance.ended (entrance.clauses 𝓤 H A mem run) (κ₀, (κ₁, (ν ∷ [], (κ₂, tt)))) (passed l₆ δ) tt j)))) (id⊢ 𝓤 _) $ await ! tt $ pick ! (λ j.
         -- what it ensures, at some last list; the third clause is not passed on
-        split ! $ move ! (1 ∷ []) $ use1 W (some (λ (zs : Unit {0} × (Unit {0} × (Unit {0} × (Unit {0} × (List ℕ × Unit {0}))))). ‵ (lasts entrance.ended (κ₀, (κ₁, (ν ∷ [], (κ₂, tt)))) (passed l₆ δ) zs) ⊛ raw (sep 𝓤 (fact 𝓤 (answer-is e)) (sep 𝓤 (fact 𝓤 (room-is e (zs .1 .1 .1 .1 .0))) (fact 𝓤 (Promise w values cells e)))))) (id⊢ 𝓤 _) $ pick ! (λ zs.
+        split ! $ move ! (1 ∷ []) $ use1 W (some (λ (zs : Unit {0} × (Unit {0} × (Unit {0} × (Unit {0} × (List ℕ × Unit {0}))))). ‵ (lasts entrance.ended (κ₀, (κ₁, (ν ∷ [], (κ₂, tt)))) (passed l₆ δ) zs) ⊛ raw (sep 𝓤 (fact 𝓤 (answer-is j)) (sep 𝓤 (fact 𝓤 (room-is j (zs .1 .1 .1 .1 .0))) (fact 𝓤 (Promise w values cells j)))))) (id⊢ 𝓤 _) $ pick ! (λ zs.
         let z = zs .1 .1 .1 .1 .0 in
-        split ! $ move ! (1 ∷ []) $ use1 W (raw (fact 𝓤 (answer-is e × room-is e z))) (via 𝓤 (sep 𝓤 (fact 𝓤 (answer-is e)) (fact 𝓤 (room-is e z))) (monoR 𝓤 (fact 𝓤 (answer-is e)) (fst∗ 𝓤 (fact 𝓤 (room-is e z)) (fact 𝓤 (Promise w values cells e)))) (together 𝓤 (answer-is e) (room-is e z))) $ heard ! (answer-is e × room-is e z) (λ said.
+        split ! $ move ! (1 ∷ []) $ use1 W (raw (fact 𝓤 (answer-is j × room-is j z))) (via 𝓤 (sep 𝓤 (fact 𝓤 (answer-is j)) (fact 𝓤 (room-is j z))) (monoR 𝓤 (fact 𝓤 (answer-is j)) (fst∗ 𝓤 (fact 𝓤 (room-is j z)) (fact 𝓤 (Promise w values cells j)))) (together 𝓤 (answer-is j) (room-is j z))) $ heard ! (answer-is j × room-is j z) (λ said.
         fsplit ! $ drop ! $ fsplit ! $ drop ! $ fsplit ! $ drop ! $ fsplit ! $ drop ! $ fsplit ! $ fsplit ! $ move ! (1 ∷ []) $ feqL ! (λ same.
         -- [the last list, said; …; the tokens and the answer; the lender's part; _10; …]: ν is ended, and the array comes back
         move ! (2 ∷ []) $ split ! $ split ! $ move ! (1 ∷ []) $ split ! $ move ! (1 ∷ []) $ split ! $ lft-end ! tt $ move ! (0 ∷ 7 ∷ []) $
         use2 W (later (some (λ (y : Val). ‵ (fat fullShare ty l₆ 0 y)))) (row-back T.the-row 2 𝓤 H A W (ν ∷ []) cells long l₆) $ await ! tt $ pick ! (λ y.
         -- [the array; the tokens; the answer; the last list, said; …; _10; …]
-        move ! (4 ∷ []) $ peeks ! J.the-row (Is J.the-row) (shows 𝓤 H A J.the-row) e (u ∷ []) (λ is-e. land ! (from ! (stop !)) (init ! 26 refl (LE.lawful J.the-type J′.the-laws 𝓤 H A W tt .typed e _ is-e .0)) $
-        rewrite ! 26 (λ (y′ : Val). ‵ (fat fullShare J′.mir l₀ 0 y′)) (ap only (J′.lowers .val-is e (u ∷ []) is-e)) refl $ drop ! $
+        move ! (4 ∷ []) $ peeks ! J.the-row (Is J.the-row) (shows 𝓤 H A J.the-row) j (u ∷ []) (λ is-j. land ! (from ! (stop !)) (init ! 26 refl (LE.lawful J.the-type J′.the-laws 𝓤 H A W tt .typed j _ is-j .0)) $
+        rewrite ! 26 (λ (y′ : Val). ‵ (fat fullShare J′.mir l₀ 0 y′)) (ap only (J′.lowers .val-is j (u ∷ []) is-j)) refl $ drop ! $
         returns ! (look ! 25 refl) $ forget ! 0 refl $ forget ! 6 refl $ forget ! 8 refl $ forget ! 10 refl $ forget ! 12 refl $ forget ! 15 refl $ forget ! 17 refl $ forget ! 19 refl $ forget ! 21 refl $ forget ! 23 refl $ forget ! 25 refl $
         move ! (25 ∷ 26 ∷ []) $ free1 ! $ move ! (23 ∷ 24 ∷ []) $ free1 ! $ move ! (21 ∷ 22 ∷ []) $ free1 ! $ move ! (19 ∷ 20 ∷ []) $ free1 ! $ move ! (17 ∷ 18 ∷ []) $ free1 ! $ move ! (15 ∷ 16 ∷ []) $ free1 ! $
         move ! (0 ∷ 14 ∷ []) $ free1 ! $ move ! (11 ∷ 12 ∷ []) $ free1 ! $ move ! (9 ∷ 10 ∷ []) $ free1 ! $ move ! (7 ∷ 8 ∷ []) $ free1 ! $ move ! (5 ∷ 6 ∷ []) $ free1 ! $ free0 ! $
-        split ! $ keep ! (3 ∷ 2 ∷ 0 ∷ 4 ∷ []) $ by ! (exits e z (said .0) (said .1) (subst (Is J.the-row e) (J′.lowers .val-is e (u ∷ []) is-e) is-e) same))))))))))
+        split ! $ keep ! (3 ∷ 2 ∷ 0 ∷ 4 ∷ []) $ by ! (exits j z (said .0) (said .1) (subst (Is J.the-row j) (J′.lowers .val-is j (u ∷ []) is-j) is-j) same))))))))))
 
   walk : (𝓣 : Tables 𝓤 H) → Triple 𝓤 (𝓣 .C #entrance) (Entrance 𝓤 H A mem run)
       → ent 𝓤 (onEntry 𝓤 H A own.signature (κ₀, (κ₁, (κ₂, tt))) (q₀, (q₁, (q₂, tt))) args at) (WpFn 𝓤 H (𝓣 .C) (𝓣 .Λ) code.function (v₀ ∷ v₁ ∷ v₂ ∷ vint w64 allowance ∷ v₃ ∷ []) Post)

@@ -69,7 +69,11 @@ fn reading_of(
             };
         }
         let index = number_at(front, x.q);
-        return read(table, front, truths, x.p, index, free, answer);
+        let r = read(table, front, truths, x.p, index, free, answer);
+        return Reading {
+            value: r.value,
+            free: r.free,
+        };
     }
     if table::constant(x) {
         return Reading {

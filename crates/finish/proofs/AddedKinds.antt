@@ -17,13 +17,13 @@ use Rattle.table.specs.Terms.{terms, termAt}
 use Rattle.table.specs.Faults.{variable, storing}
 use Rattle.table.proofs.FoldLaws.{length-fold}
 use Rattle.judge.specs.Conditions.{ownMarks}
-use Rattle.finish.specs.declared.lines.Line.{Line}
-use Rattle.finish.specs.declared.lines.Line.the-variants.{Literal, Input, Unary, Strict, Conjunction, Disjunction, Implication, Zero, Ones, Shift, Choice, Read, Write}
-use Rattle.finish.specs.Added.{andT, constantT}
-use Rattle.finish.specs.Groups.{storeGroup}
-use Rattle.finish.specs.Plans.{Plan, lineOf, lastOf, taken, cq, cr, planBy, planIn, planOf, groups, next, plans, planAt}
+use Rattle.groups.specs.declared.lines.Line.{Line}
+use Rattle.groups.specs.declared.lines.Line.the-variants.{Literal, Input, Unary, Strict, Conjunction, Disjunction, Implication, Zero, Ones, Shift, Choice, Read, Write}
+use Rattle.groups.specs.Added.{andT, constantT}
+use Rattle.groups.specs.Groups.{storeGroup}
+use Rattle.groups.specs.Plans.{Plan, lineOf, lastOf, taken, cq, cr, planBy, planIn, planOf, groups, next, plans, planAt}
 use Rattle.finish.specs.Finished.{conditionNumber, added}
-use Rattle.finish.proofs.GroupSizes.{plan-below, groups-more}
+use Rattle.groups.proofs.GroupSizes.{plan-below, groups-more}
 
 -- none of the terms is a variable or a store
 unfoldable quiet : List Term → Bool

@@ -32,11 +32,12 @@ use Rattle.table.proofs.SoundTerms.{widths, store-below}
 use Rattle.evaluate.proofs.Operands.{isKnown, op-at, not-array, SameSort, same-sort, vector-scalar, three, four, two-placed, three-placed}
 use Rattle.evaluate.proofs.Meaning.{same-array}
 use Rattle.judge.specs.Conditions.{ownMarks}
-use Rattle.finish.specs.Added.{andT, constantT}
-use Rattle.finish.specs.Groups.{strictGroup, absorbingGroup, shiftGroup, choiceGroup, storeGroup}
-use Rattle.finish.specs.Plans.{Plan, lineOf, lastOf, taken, grown, storeRead, planBy, planIn, groups, next, planOf, plans, planAt}
+use Rattle.groups.specs.Added.{andT, constantT}
+use Rattle.groups.specs.Groups.{strictGroup, absorbingGroup, shiftGroup, choiceGroup, storeGroup}
+use Rattle.groups.specs.Plans.{Plan, lineOf, lastOf, taken, grown, storeRead, planBy, planIn, groups, next, planOf, plans, planAt}
+use Rattle.groups.proofs.GroupSizes.{next-more}
 use Rattle.finish.specs.Finished.{conditionNumber}
-use Rattle.finish.proofs.Layouts.{Has, has-left, has-right, Layout, true-at, false-at, group-has, next-more, count-is, last-at}
+use Rattle.finish.proofs.Layouts.{Has, has-left, has-right, Layout, true-at, false-at, group-has, count-is, last-at}
 use Rattle.finish.proofs.Good.{Below, later, Good, good-sound, and-good, constant-good, AllGood, GoodGroup, append-good, strict-good, conjunction-good, disjunction-good, implication-good, absorbing-good, shift-good, choosing-good, store-good}
 
 -- The table's own terms

@@ -33,8 +33,8 @@ use Rattle.evaluate.proofs.Folds.{value-below}
 use Rattle.evaluate.proofs.Operands.{isKnown, not-array, same-sort, boolean-scalar, vector-scalar, three, four, op-at, typing, two-placed, three-placed}
 use Rattle.judge.specs.Conditions.{Condition, plain, storeFree, conditionBy, conditionIn, conditions, conditionAt, ownMarks}
 use Rattle.judge.proofs.Alike.{condition-below}
-use Rattle.finish.specs.Plans.{lineOf, Plan, lastOf, taken, storeRead, planBy, planIn, planOf, next, plans, planAt}
-use Rattle.finish.specs.Groups.{variableGroup, storeGroup}
+use Rattle.groups.specs.Plans.{lineOf, Plan, lastOf, taken, storeRead, planBy, planIn, planOf, next, plans, planAt}
+use Rattle.groups.specs.Groups.{variableGroup, storeGroup}
 use Rattle.finish.specs.Finished.{conditionNumber}
 use Rattle.finish.proofs.Layouts.{Has, has-left, has-right, Layout, true-at, false-at, group-has, last-at}
 use Rattle.judge.proofs.Meaning.{holds-bit}

@@ -10,16 +10,16 @@ use Rattle.table.specs.declared.words.Term.{Term}
 use Rattle.table.specs.Terms.{words, terms, placed}
 use Rattle.table.specs.WellFormed.{WellFormed}
 use Rattle.judge.specs.Conditions.{ownMarks}
-use Rattle.finish.specs.declared.groups.Written.{Written}
-use Rattle.finish.specs.Added.{andT, constantT, flat, laidFrom, laid}
-use Rattle.finish.specs.Plans.{groups, next, plans}
-use Rattle.finish.specs.Sizes.{sizes}
-use Rattle.finish.specs.Writing.{written}
+use Rattle.groups.specs.declared.groups.Written.{Written}
+use Rattle.groups.specs.Added.{andT, constantT, flat, laidFrom, laid}
+use Rattle.groups.specs.Plans.{groups, next, plans}
+use Rattle.groups.specs.Sizes.{sizes}
+use Rattle.groups.specs.Writing.{written}
 use Rattle.finish.specs.Finished.{conditionNumber, added, finished}
 use Rattle.finish.specs.Laws.{Few}
-use Rattle.finish.proofs.GroupSizes.{added-size, added-few}
+use Rattle.finish.proofs.AddedSizes.{added-size, added-few}
 use Rattle.finish.proofs.Layouts.{Layout, finished-layout}
-use Rattle.finish.proofs.Rooms.{laid-append, laid-front}
+use Rattle.groups.proofs.Rooms.{laid-append, laid-front}
 
 module _ (w : List ℕ) (f : WellFormed 512 w) where
   pub count-needed : terms w + 3 + sizes w (terms w) ≡ terms (finished w)

@@ -19,9 +19,9 @@ use Rattle.table.specs.Terms.{wordAt, termAt, boolean}
 use Rattle.table.specs.Faults.{fields, variable, storing, known, sorted, placedAs, typed, valuedAs, clash, chain}
 use Rattle.table.specs.WellFormed.{Sound}
 use Rattle.evaluate.proofs.Operands.{three}
-use Rattle.finish.specs.Added.{notT, andT, orT, equalT, choiceT, lessT, constantT, readT}
-use Rattle.finish.specs.Groups.{strictGroup, andGroup, orGroup, impliesGroup, absorbingGroup, shiftGroup, choiceGroup, storeGroup}
-use Rattle.finish.specs.Plans.{lastOf}
+use Rattle.groups.specs.Added.{notT, andT, orT, equalT, choiceT, lessT, constantT, readT}
+use Rattle.groups.specs.Groups.{strictGroup, andGroup, orGroup, impliesGroup, absorbingGroup, shiftGroup, choiceGroup, storeGroup}
+use Rattle.groups.specs.Plans.{lastOf}
 use Rattle.finish.proofs.Layouts.{Has}
 
 -- term p of f stands before k and has the sort (m, n)

@@ -15,8 +15,8 @@ use Rattle.table.specs.Terms.{termAt}
 use Rattle.setting.specs.Interpretation.{Value, Interpretation}
 use Rattle.evaluate.specs.Values.{valueBy, valueOf}
 use Rattle.judge.proofs.Meaning.{holds-bit}
-use Rattle.finish.specs.Added.{notT, andT, orT, equalT, choiceT, lessT, constantT, readT}
-use Rattle.finish.specs.Groups.{strictGroup, andGroup, orGroup, impliesGroup, absorbingGroup, shiftGroup, choiceGroup, storeGroup}
+use Rattle.groups.specs.Added.{notT, andT, orT, equalT, choiceT, lessT, constantT, readT}
+use Rattle.groups.specs.Groups.{strictGroup, andGroup, orGroup, impliesGroup, absorbingGroup, shiftGroup, choiceGroup, storeGroup}
 use Rattle.finish.proofs.Layouts.{Has, has-first}
 
 holds-cond : (b : Bool) (x y : ℕ) → holds (cond b x y) ≡ cond b (holds x) (holds y)

@@ -11,10 +11,10 @@ use Rattle.table.specs.declared.words.Term.{Term}
 use Rattle.table.specs.Terms.{words, terms, termAt}
 use Rattle.table.specs.WellFormed.{WellFormed}
 use Rattle.judge.specs.Conditions.{ownMarks}
-use Rattle.finish.specs.Added.{andT, constantT, wordsOf, flat}
-use Rattle.finish.specs.Plans.{groups, next, plans, planAt}
+use Rattle.groups.specs.Added.{andT, constantT, wordsOf, flat}
+use Rattle.groups.specs.Plans.{groups, next, plans, planAt}
 use Rattle.finish.specs.Finished.{conditionNumber, added, finished}
-use Rattle.finish.proofs.GroupSizes.{groups-more}
+use Rattle.groups.proofs.GroupSizes.{groups-more}
 
 -- the table f has the terms xs from number b on
 abbrev pub Has : List ℕ → ℕ → List Term → Type 0
@@ -38,10 +38,6 @@ pub record Layout (w f : List ℕ) : Type 0 where
   pub has : Has f (terms w) (added w)
   pub count : terms f ≡ terms w + length (added w)
   pub whole : length f ≡ terms f * words
-
--- the next group begins where this one ends
-pub next-more : (w : List ℕ) (k : ℕ) → next w (plans w ownMarks (suc k)) ≡ next w (plans w ownMarks k) + length (planAt w ownMarks k .group)
-next-more w k = ap (λ (g : List Term). terms w + 2 + length g) (groups-more w ownMarks k) ∙ rw length-append (omega arith)
 
 module _ (w f : List ℕ) (l : Layout w f) where
   pub true-at : termAt f (terms w) ≡ constantT 0 1

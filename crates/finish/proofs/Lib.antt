@@ -1,11 +1,7 @@
-pub mod GroupSizes
+pub mod AddedSizes
 pub mod Layouts
 pub mod AddedKinds
 pub mod Settings
-pub mod Laying
-pub mod Rooms
-pub mod ReadGroups
-pub mod TermGroups
 pub mod Loops
 pub mod Fills
 pub mod Promises

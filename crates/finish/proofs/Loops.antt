@@ -15,13 +15,13 @@ use Rattle.table.specs.WellFormed.{WellFormed}
 use Rattle.table.proofs.FoldLaws.{length-map-fold, map-fold-more}
 use Rattle.evaluate.proofs.Fronts.{front-more, front-length}
 use Rattle.judge.specs.Conditions.{ownMarks}
-use Rattle.finish.specs.declared.groups.Written.{Written}
-use Rattle.finish.specs.Added.{laidFrom, laid}
-use Rattle.finish.specs.Plans.{Plan, planOf, groups, next, plans, planAt}
-use Rattle.finish.specs.Sizes.{sizeOf, sizes}
-use Rattle.finish.specs.Writing.{conditionNumbers, Numbered, written}
-use Rattle.finish.proofs.GroupSizes.{groups-more, groups-size, sizes-by-terms}
-use Rattle.finish.proofs.Rooms.{length-laid, laid-append}
+use Rattle.groups.specs.declared.groups.Written.{Written}
+use Rattle.groups.specs.Added.{laidFrom, laid}
+use Rattle.groups.specs.Plans.{Plan, planOf, groups, next, plans, planAt}
+use Rattle.groups.specs.Sizes.{sizeOf, sizes}
+use Rattle.groups.specs.Writing.{conditionNumbers, Numbered, written}
+use Rattle.groups.proofs.GroupSizes.{groups-more, groups-size, sizes-by-terms}
+use Rattle.groups.proofs.Rooms.{length-laid, laid-append}
 
 -- Copying: the first i numbers of the table stand in front
 

@@ -39,12 +39,12 @@ use Rattle.judge.specs.declared.Judgement.the-variants.{Judged, NotJudged}
 use Rattle.judge.specs.Conditions.{ownMarks}
 use Rattle.judge.specs.Judgement.{ruleIn, ruleCondition, verdictBy}
 use Rattle.finish.specs.declared.Finishing.the-variants.{Finished}
-use Rattle.finish.specs.Added.{andT}
-use Rattle.finish.specs.Plans.{next, plans}
+use Rattle.groups.specs.Added.{andT}
+use Rattle.groups.specs.Plans.{next, plans}
 use Rattle.finish.specs.Finished.{conditionNumber, added, finished, extent, roomAfter}
 use Rattle.finish.specs.Laws.{FinishedAdmitted, KeepsValues, ConditionsAgree, LastIsConjunction, SettingsAgree, SameAnswers, Faithful, Promise}
 use Rattle.finish.proofs.Layouts.{Layout, count-is, last-at, finished-layout}
-use Rattle.finish.proofs.GroupSizes.{added-few}
+use Rattle.finish.proofs.AddedSizes.{added-few}
 use Rattle.finish.proofs.Settings.{check-same}
 use Rattle.finish.proofs.Admitted.{admitted-of}
 use Rattle.finish.proofs.Agreement.{keeps-values, scalar-stores, conditions-agree, last-agrees}

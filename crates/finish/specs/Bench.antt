@@ -12,8 +12,8 @@ use Rattle.table.specs.Terms.{terms, wordAt}
 use Rattle.table.specs.Faults.{typed, anyBelow, clash, chain, faultIf, fault}
 use Rattle.table.specs.Admission.{scan, admissionWithin, admission}
 use Rattle.evaluate.specs.Evaluation.{admits}
-use Rattle.finish.specs.Added.{flat}
-use Rattle.finish.specs.Plans.{planBy, groups}
+use Rattle.groups.specs.Added.{flat}
+use Rattle.groups.specs.Plans.{planBy, groups}
 use Rattle.finish.specs.Finished.{finished, extent}
 
 -- a table, and of the finished one what the paper says: the count of terms, the number of C(rule), the last term's six numbers

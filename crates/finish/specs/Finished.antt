@@ -14,8 +14,8 @@ use Rattle.judge.specs.Conditions.{ownMarks}
 use Rattle.finish.specs.declared.Extent.{Extent}
 use Rattle.finish.specs.declared.Finishing.{Finishing}
 use Rattle.finish.specs.declared.Finishing.the-variants.{Finished, NotFinished}
-use Rattle.finish.specs.Added.{andT, constantT, flat}
-use Rattle.finish.specs.Plans.{groups, plans, planAt}
+use Rattle.groups.specs.Added.{andT, constantT, flat}
+use Rattle.groups.specs.Plans.{groups, plans, planAt}
 
 -- the number of C(t), of term k
 abbrev pub conditionNumber : List ℕ → ℕ → ℕ

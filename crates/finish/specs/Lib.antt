@@ -1,8 +1,3 @@
-pub mod Added
-pub mod Groups
-pub mod Plans
-pub mod Sizes
-pub mod Writing
 pub mod Finished
 pub mod Laws
 pub mod Bench

@@ -1,11 +1,6 @@
 // Finishing a table: the condition as terms (paper 01, "The condition of each term", "A finished table is"; 21).
-mod added; // the kinds of terms that are added
-mod groups; // writing each group
-mod lines; // which group an operator's condition has
-mod reads; // writing the group of a read
 mod room; // writing the finished table
 mod sizes; // how many terms it has
-mod terms; // writing the group of one term
 
 use table::Admission;
 use table::Refusal;

@@ -6,14 +6,14 @@ ghost use lib.ListN.{length, drop};
 ghost use Rattle.table.specs.Terms.{words, terms};
 ghost use Rattle.table.specs.WellFormed.{WellFormed};
 ghost use Rattle.judge.specs.Conditions.{ownMarks};
-ghost use Rattle.finish.specs.Added.{laid};
-ghost use Rattle.finish.specs.Plans.{groups, plans};
-ghost use Rattle.finish.specs.Writing.{written};
+ghost use Rattle.groups.specs.Added.{laid};
+ghost use Rattle.groups.specs.Plans.{groups, plans};
+ghost use Rattle.groups.specs.Writing.{written};
 ghost use Rattle.finish.specs.Finished.{conditionNumber, finished};
-use crate::added::put_and;
-use crate::added::put_constant;
-use crate::groups::Written;
-use crate::terms::write_group;
+use groups::Written;
+use groups::put_and;
+use groups::put_constant;
+use groups::write_group;
 
 // The table's numbers, at the room's front.
 fn copy(table: &[u32], room: &mut [u32])

@@ -2,10 +2,10 @@
 ghost use mathlib.Core.Path.{_≡_};
 ghost use Rattle.table.specs.Terms.{terms};
 ghost use Rattle.table.specs.WellFormed.{WellFormed};
-ghost use Rattle.finish.specs.Sizes.{sizeOf, sizes};
+ghost use Rattle.groups.specs.Sizes.{sizeOf, sizes};
 ghost use Rattle.finish.specs.Finished.{finished};
-use crate::lines::Line;
-use crate::lines::line_of;
+use groups::Line;
+use groups::line_of;
 use table::Term;
 
 // The terms of a term's group.

@@ -1,6 +1,6 @@
 use mathlib.Core.Path.{ap}
 use lib.ListN.{length}
-use Rattle.finish.specs.declared.groups.Written.{Written}
+use Rattle.groups.specs.declared.groups.Written.{Written}
 use Rattle.finish.proofs.Fills.{own-fits, filled}
 use borrow.Author.Needs.{needs}
 use Rattle.finish.proofs.room.fill.Statement.{statement}

@@ -3,8 +3,8 @@ use mathlib.Core.Path.{sym, ap, _∙_}
 use native.Mathlib.Omega.{arith}
 use Rattle.table.specs.Faults.{chain}
 use Rattle.evaluate.proofs.Sums.{chain-most}
-use Rattle.finish.specs.declared.lines.Line.{Line}
-use Rattle.finish.specs.Sizes.{sizeBy}
+use Rattle.groups.specs.declared.lines.Line.{Line}
+use Rattle.groups.specs.Sizes.{sizeBy}
 use borrow.Author.Needs.{needs}
 use Rattle.finish.proofs.sizes.size_of.Statement.{statement}
 use Rattle.finish.proofs.sizes.size_of.Tie as tie

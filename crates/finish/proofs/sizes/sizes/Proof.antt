@@ -3,7 +3,7 @@ use mathlib.Core.Path.{_≡_, ap, _∙_}
 use native.Mathlib.Omega.{arith}
 use borrow.Author.Needs.{needs}
 use Rattle.table.specs.Terms.{termAt}
-use Rattle.finish.specs.Sizes.{sizeOf, sizes}
+use Rattle.groups.specs.Sizes.{sizeOf, sizes}
 use Rattle.finish.proofs.Loops.{Counted, none-counted, one-counted, one-more-fits, all-counted}
 use Rattle.finish.proofs.sizes.sizes.Statement.{statement}
 use Rattle.finish.proofs.sizes.sizes.Tie as tie

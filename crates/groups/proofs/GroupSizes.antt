@@ -1,0 +1,218 @@
+-- How many terms a group has, and all of them.
+-- Assumes nothing.
+use mathlib.Core.Path.{_≡_, refl, sym, ap, ap₂, subst, _∙_}
+use mathlib.Core.Bool.{Bool, true, false, cond}
+use mathlib.Core.List.{List, [], _∷_, _++_, append-nil, append-assoc}
+use Prim.Native.Nat.{ℕ, zero, suc, _+_, _*_, _≤_, _<_}
+use native.Mathlib.Decide.{decLt}
+use native.Mathlib.Nat.{not-suc-le-zero, le-refl, le-trans}
+use native.Mathlib.Omega.{arith}
+use lib.ListN.{length, length-append}
+use Rattle.ops.specs.declared.Op.{Op}
+use Rattle.ops.specs.declared.Op.the-variants.{Constant, Variable, Not, And, Or, Implies, Equal, Ite, BvNot, BvAnd, BvOr, BvAdd, BvMul, BvShl, BvUlt, Select, Store, Unknown}
+use Rattle.ops.specs.Numbers.{opOf}
+use Rattle.ops.proofs.Booleans.{never}
+use Rattle.table.specs.declared.words.Term.{Term}
+use Rattle.table.specs.Folds.{fold}
+use Rattle.table.specs.Terms.{terms, termAt}
+use Rattle.table.specs.Ranks.{rankOf, fieldsOf, reads, writes}
+use Rattle.table.specs.Faults.{storing, reading, placedAs, chain}
+use Rattle.table.specs.WellFormed.{WellFormed}
+use Rattle.table.proofs.FoldLaws.{fold-below}
+use Rattle.table.proofs.SoundTerms.{past-end}
+use Rattle.evaluate.specs.Steps.{stepsOf, steps}
+use Rattle.evaluate.proofs.Operands.{isKnown, op-at, two-placed, three-placed}
+use Rattle.judge.specs.Conditions.{ownMarks}
+use Rattle.groups.specs.Groups.{storeGroup}
+use Rattle.groups.specs.Plans.{Plan, lineOf, lastOf, taken, cq, cr, planBy, planIn, planOf, groups, next, plans, planAt}
+use Rattle.groups.specs.Sizes.{sizeBy, sizeOf, sizes}
+
+-- The stores of a chain
+
+module _ (w : List ℕ) where
+  chain-on : (left k : ℕ) → storing (termAt w k) ≡ true → chain (suc left) w k ≡ suc (chain left w (termAt w k .p))
+  unfolding chain
+  chain-on left k s = rw s
+
+  chain-stop : (left k : ℕ) → storing (termAt w k) ≡ false → chain (suc left) w k ≡ 0
+  unfolding chain
+  chain-stop left k s = rw s
+
+  -- a count below its fuel is the same with one more
+  chain-enough : (left k : ℕ) → chain left w k < left → chain (suc left) w k ≡ chain left w k
+  chain-enough zero k b = absurd (not-suc-le-zero b)
+  chain-enough (suc left) k b = go (storing (termAt w k)) refl (chain-enough left (termAt w k .p))
+    where
+      go : (z : Bool) → storing (termAt w k) ≡ z → (chain left w (termAt w k .p) < left → chain (suc left) w (termAt w k .p) ≡ chain left w (termAt w k .p))
+          → chain (suc (suc left)) w k ≡ chain (suc left) w k
+      go true s before = chain-on (suc left) k s ∙ ap suc (before (omega (arith, chain-on left k s))) ∙ sym (chain-on left k s)
+      go false s before = chain-stop (suc left) k s ∙ sym (chain-stop left k s)
+
+-- a store's count is one more than that of the array beneath
+pub chain-store : (w : List ℕ) (limit : ℕ) → WellFormed limit w → (k : ℕ) → k < terms w → storing (termAt w k) ≡ true → chain 17 w k ≡ suc (chain 17 w (termAt w k .p))
+chain-store w limit f k b s =
+    let short : chain 17 w k ≤ 16 = f .sound k b .short in
+    chain-on w 16 k s ∙ ap suc (sym (chain-enough w 16 (termAt w k .p) (omega (arith, chain-on w 16 k s))))
+
+-- any other term's is 0
+pub chain-end : (w : List ℕ) (k : ℕ) → storing (termAt w k) ≡ false → chain 17 w k ≡ 0
+chain-end w k s = chain-stop w 16 k s
+
+module _ (w : List ℕ) (limit : ℕ) (f : WellFormed limit w) (k : ℕ) where
+  chain-is : k < terms w → chain 17 w k ≡ cond (storing (termAt w k)) (suc (chain 17 w (termAt w k .p))) 0
+  chain-is b = go (storing (termAt w k)) refl
+    where
+      go : (z : Bool) → storing (termAt w k) ≡ z → chain 17 w k ≡ cond z (suc (chain 17 w (termAt w k .p))) 0
+      go true s = chain-store w limit f k b s
+      go false s = chain-end w k s
+
+  -- at most 16, past the table's end too
+  chain-most : chain 17 w k ≤ 16
+  chain-most = go (decLt k (terms w))
+    where
+      go : Dec (k < terms w) → chain 17 w k ≤ 16
+      go (yes b) = f .sound k b .short
+      go (no b) = omega (arith, chain-end w k (ap (λ (op : ℕ). writes (rankOf (opOf op))) (past-end limit w f k 0 (omega arith))))
+
+-- The groups of one term
+
+record Sized (x : Plan) (size readSize : ℕ) : Type 0 where
+  whole : length (x .group) ≡ size
+  read : (s j cj : ℕ) → length (x .readGroup s j cj) ≡ readSize
+
+-- by its operator: i is its number, c the count of stores from its first operand inward
+module _ (marked : Term → Bool) (yes no : ℕ) (plan : ℕ → Plan) (b : ℕ) (t : Term) (i c : ℕ)
+    (below : t .p < i → (s j cj : ℕ) → length (plan (t .p) .readGroup s j cj) ≡ 1 + 9 * c) where
+  store-size : (s j cj : ℕ) → t .p < i → length (planBy marked yes no plan b t (lineOf Store) .readGroup s j cj) ≡ 1 + 9 * suc c
+  unfolding planBy
+  store-size s j cj l =
+      let under : List Term = plan (t .p) .readGroup s j cj in
+      length-append under (storeGroup (s + length under) (t .sort .n) (t .p) (t .q) (t .r) j (cq marked yes no plan b t) (cr marked yes no plan b t) cj (lastOf s under))
+      ∙ omega (arith, below l s j cj)
+
+  sized-by : (op : Op) → isKnown op ≡ true → placedAs (fieldsOf (rankOf op)) i t ≡ true → Sized (planBy marked yes no plan b t (lineOf op)) (sizeBy (lineOf op) c) (1 + 9 * cond (writes (rankOf op)) (suc c) 0)
+  unfolding planBy isKnown
+  sized-by Constant k place = record { whole = refl; read = λ s j cj. refl }
+  sized-by Variable k place = record { whole = refl; read = λ s j cj. refl }
+  sized-by Not k place = record { whole = refl; read = λ s j cj. refl }
+  sized-by And k place = record { whole = refl; read = λ s j cj. refl }
+  sized-by Or k place = record { whole = refl; read = λ s j cj. refl }
+  sized-by Implies k place = record { whole = refl; read = λ s j cj. refl }
+  sized-by Equal k place = record { whole = refl; read = λ s j cj. refl }
+  sized-by Ite k place = record { whole = refl; read = λ s j cj. refl }
+  sized-by BvNot k place = record { whole = refl; read = λ s j cj. refl }
+  sized-by BvAnd k place = record { whole = refl; read = λ s j cj. refl }
+  sized-by BvOr k place = record { whole = refl; read = λ s j cj. refl }
+  sized-by BvAdd k place = record { whole = refl; read = λ s j cj. refl }
+  sized-by BvMul k place = record { whole = refl; read = λ s j cj. refl }
+  sized-by BvShl k place = record { whole = refl; read = λ s j cj. refl }
+  sized-by BvUlt k place = record { whole = refl; read = λ s j cj. refl }
+  sized-by Select k place = record { whole = below (two-placed i t place .0) b (t .q) (cq marked yes no plan b t); read = λ s j cj. refl }
+  sized-by Store k place = record { whole = refl; read = λ s j cj. store-size s j cj (three-placed i t place .0) }
+  sized-by Unknown k place = never k
+
+-- Every term of the table
+
+groups-append : (xs ys : List Plan) → groups (xs ++ ys) ≡ groups xs ++ groups ys
+unfolding groups
+groups-append [] ys = refl
+groups-append (x ∷ xs) ys = ap (λ (l : List Term). x .group ++ l) (groups-append xs ys) ∙ sym (append-assoc (x .group) (groups xs) (groups ys))
+
+groups-one : (x : Plan) → groups (x ∷ []) ≡ x .group
+unfolding groups
+groups-one x = append-nil (x .group)
+
+module _ (w : List ℕ) (marked : Term → Bool) where
+  -- of a term that is passed the list has its plan
+  pub plan-below : (k i : ℕ) → i < k → planIn (plans w marked k) i ≡ planAt w marked i
+  plan-below k i b = fold-below (λ ps j. planOf w marked ps (termAt w j)) (taken 0) k i b
+
+  pub groups-more : (k : ℕ) → groups (plans w marked (suc k)) ≡ groups (plans w marked k) ++ planAt w marked k .group
+  unfolding fold
+  groups-more k = groups-append (plans w marked k) (planAt w marked k ∷ []) ∙ ap (λ (l : List Term). groups (plans w marked k) ++ l) (groups-one (planAt w marked k))
+
+  module _ (f : WellFormed 512 w) where
+    sized-step : (k : ℕ) → k < terms w → ((i : ℕ) → i < k → (s j cj : ℕ) → length (planAt w marked i .readGroup s j cj) ≡ 1 + 9 * chain 17 w i)
+        → Sized (planAt w marked k) (sizeOf w (termAt w k)) (1 + 9 * chain 17 w k)
+    sized-step k b before =
+        let x = termAt w k in
+        subst (λ (c : ℕ). Sized (planAt w marked k) (sizeOf w x) (1 + 9 * c)) (sym (chain-is w 512 f k b))
+        (sized-by marked (terms w) (terms w + 1) (planIn (plans w marked k)) (next w (plans w marked k)) x k (chain 17 w (x .p))
+        (λ l s j cj. ap (λ (y : Plan). length (y .readGroup s j cj)) (plan-below k (x .p) l) ∙ before (x .p) l s j cj)
+        (opOf (x .op)) (op-at w k (f .sound k b)) (f .sound k b .is-placed))
+
+    sized-within : (n k : ℕ) → k < n → k < terms w → Sized (planAt w marked k) (sizeOf w (termAt w k)) (1 + 9 * chain 17 w k)
+    sized-within zero k b l = absurd (not-suc-le-zero b)
+    sized-within (suc n) k b l = sized-step k l (λ i m. sized-within n i (omega arith) (omega arith) .read)
+
+    module _ (k : ℕ) (b : k < terms w) where
+      pub read-size : (s j cj : ℕ) → length (planAt w marked k .readGroup s j cj) ≡ 1 + 9 * chain 17 w k
+      read-size = sized-within (suc k) k (omega arith) b .read
+
+      pub read-most : (s j cj : ℕ) → length (planAt w marked k .readGroup s j cj) ≤ 145
+      read-most s j cj = omega (arith, read-size s j cj, chain-most w 512 f k)
+
+      pub group-size : length (planAt w marked k .group) ≡ sizeOf w (termAt w k)
+      group-size = sized-within (suc k) k (omega arith) b .whole
+
+    pub groups-size : (k : ℕ) → k ≤ terms w → length (groups (plans w marked k)) ≡ sizes w k
+    unfolding fold groups sizes
+    groups-size zero b = refl
+    groups-size (suc k) b =
+        ap length (groups-more k) ∙ length-append (groups (plans w marked k)) (planAt w marked k .group)
+        ∙ ap₂ _+_ (groups-size k (omega arith)) (group-size k (omega arith))
+
+-- the next group begins where this one ends
+pub next-more : (w : List ℕ) (k : ℕ) → next w (plans w ownMarks (suc k)) ≡ next w (plans w ownMarks k) + length (planAt w ownMarks k .group)
+next-more w k = ap (λ (g : List Term). terms w + 2 + length g) (groups-more w ownMarks k) ∙ rw length-append (omega arith)
+
+-- How many they are at most
+
+-- eight terms, but for a read
+size-most : (op : Op) (c : ℕ) → sizeBy (lineOf op) c ≤ cond (reads (rankOf op)) (1 + 9 * c) 8
+size-most Constant c = omega arith
+size-most Variable c = omega arith
+size-most Not c = omega arith
+size-most And c = omega arith
+size-most Or c = omega arith
+size-most Implies c = omega arith
+size-most Equal c = omega arith
+size-most Ite c = omega arith
+size-most BvNot c = omega arith
+size-most BvAnd c = omega arith
+size-most BvOr c = omega arith
+size-most BvAdd c = omega arith
+size-most BvMul c = omega arith
+size-most BvShl c = omega arith
+size-most BvUlt c = omega arith
+size-most Select c = omega arith
+size-most Store c = omega arith
+size-most Unknown c = omega arith
+
+most-by-steps : (z : Bool) (c : ℕ) → cond z (1 + 9 * c) 8 ≤ 8 + 9 * cond z c 0
+most-by-steps true c = omega arith
+most-by-steps false c = omega arith
+
+most-by-terms : (z : Bool) (c : ℕ) → c ≤ 16 → cond z (1 + 9 * c) 8 ≤ 145
+most-by-terms true c b = omega arith
+most-by-terms false c b = omega arith
+
+pub sizes-by-steps : (w : List ℕ) → WellFormed 512 w → (k : ℕ) → k ≤ terms w → sizes w k ≤ 8 * k + 9 * steps w k
+unfolding sizes steps
+sizes-by-steps w f zero b = omega arith
+sizes-by-steps w f (suc k) b =
+    let x = termAt w k in
+    let c = chain 17 w (x .p) in
+    let before : sizes w k ≤ 8 * k + 9 * steps w k = sizes-by-steps w f k (omega arith) in
+    let here : sizeOf w x ≤ 8 + 9 * stepsOf w x = le-trans (size-most (opOf (x .op)) c) (most-by-steps (reading x) c) in
+    omega arith
+
+pub sizes-by-terms : (w : List ℕ) → WellFormed 512 w → (k : ℕ) → k ≤ terms w → sizes w k ≤ 145 * k
+unfolding sizes
+sizes-by-terms w f zero b = omega arith
+sizes-by-terms w f (suc k) b =
+    let x = termAt w k in
+    let c = chain 17 w (x .p) in
+    let before : sizes w k ≤ 145 * k = sizes-by-terms w f k (omega arith) in
+    let here : sizeOf w x ≤ 145 = le-trans (size-most (opOf (x .op)) c) (most-by-terms (reading x) c (chain-most w 512 f (x .p))) in
+    omega arith

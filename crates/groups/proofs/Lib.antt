@@ -1,0 +1,5 @@
+pub mod GroupSizes
+pub mod Laying
+pub mod Rooms
+pub mod ReadGroups
+pub mod TermGroups

@@ -1,0 +1,100 @@
+-- The groups: paper 01, "The condition of each term", line by line. b is the number of a group's first term; p, q, r the operands'
+-- numbers and cp, cq, cr those of C(p), C(q), C(r). "It" is the term before.
+-- Assumes nothing.
+use mathlib.Core.List.{List, [], _∷_}
+use Prim.Native.Nat.{ℕ, _+_}
+use Rattle.table.specs.declared.words.Term.{Term}
+use Rattle.groups.specs.Added.{notT, andT, orT, equalT, choiceT, lessT, constantT, readT}
+
+-- Equal, sum, less: and(C(p), C(q)).
+abbrev pub strictGroup : ℕ → ℕ → List Term
+strictGroup cp cq = andT cp cq ∷ []
+
+-- And: not p; and(C(p), it); not q; and(C(q), it); or of the second and fourth; and(C(p), C(q)); or of the last two. 7 terms.
+abbrev pub andGroup : ℕ → ℕ → ℕ → ℕ → ℕ → List Term
+andGroup b p q cp cq =
+    notT p
+    ∷ andT cp b
+    ∷ notT q
+    ∷ andT cq (b + 2)
+    ∷ orT (b + 1) (b + 3)
+    ∷ andT cp cq
+    ∷ orT (b + 4) (b + 5)
+    ∷ []
+
+-- Or: and(C(p), p); and(C(q), q); or of both; and(C(p), C(q)); or of the last two. 5.
+abbrev pub orGroup : ℕ → ℕ → ℕ → ℕ → ℕ → List Term
+orGroup b p q cp cq =
+    andT cp p
+    ∷ andT cq q
+    ∷ orT b (b + 1)
+    ∷ andT cp cq
+    ∷ orT (b + 2) (b + 3)
+    ∷ []
+
+-- Implies: not p; and(C(p), it); and(C(q), q); or of the second and third; and(C(p), C(q)); or of the last two. 6.
+abbrev pub impliesGroup : ℕ → ℕ → ℕ → ℕ → ℕ → List Term
+impliesGroup b p q cp cq =
+    notT p
+    ∷ andT cp b
+    ∷ andT cq q
+    ∷ orT (b + 1) (b + 2)
+    ∷ andT cp cq
+    ∷ orT (b + 3) (b + 4)
+    ∷ []
+
+-- Vector and, product: constant 0 of width n; equal(p, it); and(C(p), it); equal(q, the constant); and(C(q), it); or of the third
+-- and fifth; and(C(p), C(q)); or of the last two. 8. Vector or: the same with the constant 2^n - 1.
+abbrev pub absorbingGroup : ℕ → ℕ → ℕ → ℕ → ℕ → ℕ → ℕ → List Term
+absorbingGroup b n value p q cp cq =
+    constantT n value
+    ∷ equalT p b
+    ∷ andT cp (b + 1)
+    ∷ equalT q b
+    ∷ andT cq (b + 3)
+    ∷ orT (b + 2) (b + 4)
+    ∷ andT cp cq
+    ∷ orT (b + 5) (b + 6)
+    ∷ []
+
+-- Shift: constant n of width n; less(q, it); not it; and(C(q), it); and(C(p), C(q)); or of the last two. 6.
+abbrev pub shiftGroup : ℕ → ℕ → ℕ → ℕ → ℕ → List Term
+shiftGroup b n q cp cq =
+    constantT n n
+    ∷ lessT q b
+    ∷ notT (b + 1)
+    ∷ andT cq (b + 2)
+    ∷ andT cp cq
+    ∷ orT (b + 3) (b + 4)
+    ∷ []
+
+-- Choice: choice(p, C(q), C(r)); and(C(p), it); and(C(q), C(r)); equal(q, r); and of the third and fourth; or of the second and
+-- fifth. 6.
+abbrev pub choiceGroup : ℕ → ℕ → ℕ → ℕ → ℕ → ℕ → ℕ → List Term
+choiceGroup b p q r cp cq cr =
+    choiceT p cq cr
+    ∷ andT cp b
+    ∷ andT cq cr
+    ∷ equalT q r
+    ∷ andT (b + 2) (b + 3)
+    ∷ orT (b + 1) (b + 4)
+    ∷ []
+
+-- Read at index j of variable v: and(C(v), C(j)), called D0.
+abbrev pub variableGroup : ℕ → ℕ → List Term
+variableGroup cv cj = andT cv cj ∷ []
+
+-- Then for each store, index i, value e, over array a: read(a, j); equal(i, j); choice(it, C(e), D below); and(C(i), C(j));
+-- and(it, the choice); equal(e, the read); and(C(e), D below); and(it, the equality); or of the fifth and eighth, the new D.
+abbrev pub storeGroup : ℕ → ℕ → ℕ → ℕ → ℕ → ℕ → ℕ → ℕ → ℕ → ℕ → List Term
+storeGroup b n a i e j ci ce cj d =
+    readT n a j
+    ∷ equalT i j
+    ∷ choiceT (b + 1) ce d
+    ∷ andT ci cj
+    ∷ andT (b + 3) (b + 2)
+    ∷ equalT e b
+    ∷ andT ce d
+    ∷ andT (b + 6) (b + 5)
+    ∷ orT (b + 4) (b + 7)
+    ∷ []

@@ -1,0 +1,5 @@
+pub mod Added
+pub mod Groups
+pub mod Plans
+pub mod Sizes
+pub mod Writing

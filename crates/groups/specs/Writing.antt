@@ -1,0 +1,28 @@
+-- What writing the groups keeps and answers.
+-- Assumes nothing.
+use mathlib.Core.Path.{_≡_}
+use mathlib.Core.List.{List, map}
+use Prim.Native.Nat.{ℕ, pred, suc, _+_, _≤_}
+use lib.ListN.{length}
+use Rattle.table.specs.declared.words.Term.{Term}
+use Rattle.table.specs.Terms.{terms}
+use Rattle.judge.specs.Conditions.{ownMarks}
+use Rattle.groups.specs.declared.groups.Written.{Written}
+use Rattle.groups.specs.Plans.{lastOf, next, plans, planAt}
+
+-- the numbers of the conditions of the first k terms
+abbrev pub conditionNumbers : List ℕ → ℕ → List ℕ
+conditionNumbers w k = map (λ x. x .condition) (plans w ownMarks k)
+
+-- conditions has those of the terms before this one
+pub record Numbered (w conditions : List ℕ) : Type 0 where
+  pub within : length conditions ≤ terms w
+  pub is : conditions ≡ conditionNumbers w (length conditions)
+
+-- after a group from b on: the number of its last term, and the number after it
+abbrev pub after : ℕ → List Term → Written
+after b group = record { condition = lastOf b group; next = b + length group }
+
+-- after term k: the number of its condition, and that of the next group's first term
+abbrev pub written : List ℕ → ℕ → Written
+written w k = record { condition = planAt w ownMarks k .condition; next = next w (plans w ownMarks (suc k)) }

@@ -1,0 +1,40 @@
+// Writing the group of a read: D0 of the variable, then nine terms for each store, from the inside.
+ghost use mathlib.Core.Path.{_≡_};
+ghost use Prim.Native.Nat.{_≤_, _<_};
+ghost use lib.ListN.{length};
+ghost use Rattle.table.specs.WellFormed.{WellFormed};
+ghost use Rattle.judge.specs.Conditions.{ownMarks};
+ghost use Rattle.groups.specs.Added.{laid};
+ghost use Rattle.groups.specs.Plans.{planAt};
+ghost use Rattle.groups.specs.Writing.{Numbered, after};
+use crate::groups::Written;
+use crate::groups::store;
+use crate::groups::strict;
+use setting::number_at;
+
+// The group of a read of array a at index j, whose condition is cj, from number b on.
+pub fn read_group(
+    table: &[u32],
+    conditions: &[u32],
+    room: &mut [u32],
+    b: u32,
+    a: u32,
+    j: u32,
+    cj: u32,
+) -> Written
+    requires { ⌜ WellFormed 512 (now table) ⌝ }
+    requires { ⌜ Numbered (now table) (now conditions) ⌝ }
+    requires { ⌜ (a < length (now conditions)) × (b ≤ 79000) ⌝ }
+    ensures { λ r. ⌜ r ≡ after b (planAt (now (table .entry)) ownMarks a .readGroup b j cj) ⌝ }
+    ensures { λ r. ⌜ now (room .exit) ≡ laid (now (room .entry)) b (planAt (now (table .entry)) ownMarks a .readGroup b j cj) ⌝ }
+{
+    let x = table::term_at(table, a);
+    if !table::storing(x) {
+        return strict(room, b, number_at(conditions, a), cj);
+    }
+    let below = read_group(table, conditions, room, b, x.p, j, cj);
+    let ci = number_at(conditions, x.q);
+    let ce = number_at(conditions, x.r);
+    let d = below.condition;
+    store(room, below.next, x.sort.n, x.p, x.q, x.r, j, ci, ce, cj, d)
+}

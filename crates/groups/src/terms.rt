@@ -1,0 +1,79 @@
+// Writing the group of one term.
+ghost use mathlib.Core.Path.{_≡_};
+ghost use mathlib.Core.Bool.{cond};
+ghost use Prim.Native.Nat.{_+_, _≤_, _<_};
+ghost use lib.ListN.{length};
+ghost use Rattle.table.specs.Terms.{terms};
+ghost use Rattle.table.specs.WellFormed.{WellFormed};
+ghost use Rattle.judge.specs.Conditions.{ownMarks};
+ghost use Rattle.groups.specs.Added.{laid};
+ghost use Rattle.groups.specs.Plans.{next, plans, planAt};
+ghost use Rattle.groups.specs.Writing.{Numbered, written};
+use crate::groups::Written;
+use crate::groups::absorbing;
+use crate::groups::choice;
+use crate::groups::conjunction;
+use crate::groups::disjunction;
+use crate::groups::implication;
+use crate::groups::shift;
+use crate::groups::strict;
+use crate::lines::Line;
+use crate::lines::line_of;
+use crate::reads::read_group;
+use setting::number_at;
+use table::Term;
+
+// Nothing added before number b: C(t) is the term of this number.
+fn taken(c: u32, b: u32) -> Written
+    ensures { λ r. ⌜ r ≡ record { condition = c; next = b } ⌝ }
+{
+    Written {
+        condition: c,
+        next: b,
+    }
+}
+
+// The number of a variable's condition: F if marked, else T, whose number is yes.
+fn input(x: Term, yes: u32) -> u32
+    requires { ⌜ yes ≤ 512 ⌝ }
+    ensures { λ r. ⌜ r ≡ cond (ownMarks x) (yes + 1) yes ⌝ }
+{
+    if x.q == 1 { yes + 1 } else { yes }
+}
+
+// The group of term i, from number b on; conditions has the numbers of the conditions before it.
+pub fn write_group(
+    table: &[u32],
+    conditions: &[u32],
+    room: &mut [u32],
+    b: u32,
+    i: u32,
+    yes: u32,
+) -> Written
+    requires { ⌜ WellFormed 512 (now table) ⌝ }
+    requires { ⌜ Numbered (now table) (now conditions) ⌝ }
+    requires { ⌜ (i ≡ length (now conditions)) × ((i < terms (now table)) × (yes ≡ terms (now table))) ⌝ }
+    requires { ⌜ (b ≡ next (now table) (plans (now table) ownMarks i)) × (b ≤ 79000) ⌝ }
+    ensures { λ r. ⌜ r ≡ written (now (table .entry)) i ⌝ }
+    ensures { λ r. ⌜ now (room .exit) ≡ laid (now (room .entry)) b (planAt (now (table .entry)) ownMarks i .group) ⌝ }
+{
+    let x = table::term_at(table, i);
+    let cp = number_at(conditions, x.p);
+    let cq = number_at(conditions, x.q);
+    let n = x.sort.n;
+    match line_of(x.op) {
+        Line::Literal => taken(yes, b),
+        Line::Input => taken(input(x, yes), b),
+        Line::Unary => taken(cp, b),
+        Line::Strict => strict(room, b, cp, cq),
+        Line::Conjunction => conjunction(room, b, x.p, x.q, cp, cq),
+        Line::Disjunction => disjunction(room, b, x.p, x.q, cp, cq),
+        Line::Implication => implication(room, b, x.p, x.q, cp, cq),
+        Line::Zero => absorbing(room, b, n, 0, x.p, x.q, cp, cq),
+        Line::Ones => absorbing(room, b, n, ops::ones(n), x.p, x.q, cp, cq),
+        Line::Shift => shift(room, b, n, x.q, cp, cq),
+        Line::Choice => choice(room, b, x.p, x.q, x.r, cp, cq, number_at(conditions, x.r)),
+        Line::Read => read_group(table, conditions, room, b, x.p, x.q, cq),
+        Line::Write => taken(0, b),
+    }
+}

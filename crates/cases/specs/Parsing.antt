@@ -1,0 +1,101 @@
+-- The parts of a case. A heading begins its part, and the numbers after it are the part's.
+-- Assumes nothing.
+use mathlib.Core.Bool.{Bool, true, false, cond, not, _&&_, _||_}
+use mathlib.Core.List.{List, [], _∷_}
+use Prim.Native.Nat.{ℕ, suc, _+_}
+use lib.Dec.{eqb, ltb, leb}
+use Rattle.cases.specs.declared.lexer.Token.{Token}
+use Rattle.cases.specs.declared.lexer.Token.the-variants.{Nothing, Number, Heading, Unknown, TooLarge}
+use Rattle.cases.specs.declared.parser.Run.{Run}
+use Rattle.cases.specs.declared.parser.Parser.{Parser}
+
+abbrev pub none : Run
+none = record { given = false; from = 0; to = 0 }
+
+abbrev pub start : Parser
+start = record { part = 0; total = 0; table = none; values = none; cells = none; allowance = none; fault = 0; at = 0 }
+
+abbrev pub failed : Parser → ℕ → ℕ → Parser
+failed p fault at =
+    record { part = p .part; total = p .total; table = p .table; values = p .values; cells = p .cells; allowance = p .allowance; fault = fault; at = at }
+
+-- the run of part k, where a part begins after total numbers, and where its numbers now go up to next
+abbrev pub begun : Run → ℕ → ℕ → ℕ → Run
+begun run k part total = cond (eqb part k) (record { given = true; from = total; to = total }) run
+
+abbrev pub extended : Run → ℕ → ℕ → ℕ → Run
+extended run k part next = cond (eqb part k) (record { given = run .given; from = run .from; to = next }) run
+
+-- the part was begun before
+abbrev pub isGiven : Parser → ℕ → Bool
+isGiven p part =
+    (((eqb part 1 && p .table .given) || (eqb part 2 && p .values .given)) || (eqb part 3 && p .cells .given)) || (eqb part 4 && p .allowance .given)
+
+-- the part is the allowance, which takes one number, and has it
+abbrev pub full : Parser → Bool
+full p = eqb (p .part) 4 && ltb (p .allowance .from) (p .allowance .to)
+
+-- a heading: 4 the part was given before
+unfoldable pub headed : Parser → ℕ → ℕ → Parser
+headed p part at =
+    cond (isGiven p part) (failed p 4 at)
+    (record {
+      part = part;
+      total = p .total;
+      table = begun (p .table) 1 part (p .total);
+      values = begun (p .values) 2 part (p .total);
+      cells = begun (p .cells) 3 part (p .total);
+      allowance = begun (p .allowance) 4 part (p .total);
+      fault = p .fault;
+      at = p .at;
+    })
+
+-- a number: 3 before any heading; 5 a second one of the allowance; 6 more numbers than the limit
+unfoldable pub counted : Parser → ℕ → ℕ → Parser
+counted p limit at =
+    cond (eqb (p .part) 0) (failed p 3 at)
+    (cond (full p) (failed p 5 at)
+    (cond (leb limit (p .total)) (failed p 6 at)
+    (record {
+      part = p .part;
+      total = p .total + 1;
+      table = extended (p .table) 1 (p .part) (p .total + 1);
+      values = extended (p .values) 2 (p .part) (p .total + 1);
+      cells = extended (p .cells) 3 (p .part) (p .total + 1);
+      allowance = extended (p .allowance) 4 (p .part) (p .total + 1);
+      fault = p .fault;
+      at = p .at;
+    })))
+
+-- a token that the byte at ends, where there was no fault: 1 no number and no heading; 2 a number of 2^32 or more
+abbrev pub takenBy : ℕ → ℕ → Parser → Token → Parser
+takenBy limit at p Nothing = p
+takenBy limit at p (Number n) = counted p limit at
+takenBy limit at p (Heading part) = headed p part at
+takenBy limit at p Unknown = failed p 1 at
+takenBy limit at p TooLarge = failed p 2 at
+
+-- the first fault stands
+abbrev pub taken : ℕ → ℕ → Parser → Token → Parser
+taken limit at p token = cond (eqb (p .fault) 0) (takenBy limit at p token) p
+
+-- the tokens in order, the first of which ends at the byte at
+unfoldable pub parse : ℕ → ℕ → Parser → List Token → Parser
+parse limit at p [] = p
+parse limit at p (token ∷ tokens) = parse limit (suc at) (taken limit at p token) tokens
+
+abbrev pub refuse : ℕ → Bool → ℕ → ℕ
+refuse number ok rest = cond ok rest number
+
+-- the first fault, 0 where there is none: of the tokens; 12 the text is not whole; 7, 8, 9, 10 a part is missing; 11 the allowance
+-- has no number
+unfoldable pub ended : Parser → Bool → ℕ
+ended p whole =
+    refuse (p .fault) (eqb (p .fault) 0)
+    (refuse 12 whole
+    (refuse 7 (p .table .given)
+    (refuse 8 (p .values .given)
+    (refuse 9 (p .cells .given)
+    (refuse 10 (p .allowance .given)
+    (refuse 11 (not (eqb (p .allowance .from) (p .allowance .to)))
+    0))))))

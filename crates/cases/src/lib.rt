@@ -1,0 +1,107 @@
+// Reading the text of a case: its table, values, cells and allowance.
+mod bytes; // what a byte is
+mod lexer; // tokens
+mod parser; // parts
+mod room; // numbers
+
+use parser::Parser;
+pub use parser::Run;
+ghost use mathlib.Core.Path.{_≡_};
+ghost use Prim.Native.Nat.{_≤_, _<_};
+ghost use lib.ListN.{length, take};
+ghost use Rattle.cases.specs.Lexing.{fresh, lex};
+ghost use Rattle.cases.specs.Reading.{lower, capped, lineAt, caseOf, readingWithin, reading, roomWithin, roomAfter, Inside};
+
+// The parts that are rows by their places among the numbers, and the place of the allowance.
+pub struct Case {
+    pub table: Run,
+    pub values: Run,
+    pub cells: Run,
+    pub allowance: u32,
+}
+
+// The number of a fault, and the line that it is on, counted from 1.
+pub struct Misread {
+    pub kind: u32,
+    pub line: u64,
+}
+
+pub enum Reading {
+    Read(Case),
+    Unread(Misread),
+}
+
+// How many bytes of a text are read.
+pub const LIMIT: usize = 2097152;
+
+fn lower(a: usize, b: usize) -> usize
+    ensures { λ r. ⌜ r ≡ lower a b ⌝ }
+{
+    if a < b { a } else { b }
+}
+
+fn capped(n: usize) -> u32
+    ensures { λ r. ⌜ r ≡ capped n ⌝ }
+{
+    if n < 4294967295 { n as u32 } else { 4294967295 }
+}
+
+// The line of the byte at, which is 1 and the line feeds before it.
+fn line_at(text: &[u8], at: usize) -> u64
+    requires { ⌜ length (now text) ≤ 2097152 ⌝ }
+    ensures { λ r. ⌜ r ≡ lineAt (now (text .entry)) at ⌝ }
+{
+    let end = lower(at, text.len());
+    let mut line = 1u64;
+    for i in 0..end {
+        if text[i] == b'\n' {
+            line += 1;
+        }
+    }
+    line
+}
+
+fn case_of(p: Parser) -> Case
+    ensures { λ r. ⌜ r ≡ caseOf p ⌝ }
+{
+    let table = p.table;
+    let values = p.values;
+    let cells = p.cells;
+    Case {
+        table,
+        values,
+        cells,
+        allowance: p.allowance.from,
+    }
+}
+
+// Reads the bytes of a text up to the limit, which are the whole text or not.
+fn read_within(text: &[u8], whole: bool, numbers: &mut [u32]) -> Reading
+    requires { ⌜ length (now text) ≤ 2097152 ⌝ }
+    ensures { λ r. ⌜ r ≡ readingWithin (now (text .entry)) whole (length (now (numbers .entry))) ⌝ }
+    ensures { λ r. ⌜ now (numbers .exit) ≡ roomWithin r (now (text .entry)) whole (now (numbers .entry)) ⌝ }
+    ensures { λ r. ⌜ Inside r (length (now (numbers .entry))) ⌝ }
+{
+    let p = parser::parse(text, whole, capped(numbers.len()));
+    let kind = parser::ended(p, whole);
+    if kind != 0 {
+        let at = if p.fault != 0 { p.at } else { text.len() };
+        return Reading::Unread(Misread {
+            kind,
+            line: line_at(text, at),
+        });
+    }
+    room::write(text, whole, numbers);
+    Reading::Read(case_of(p))
+}
+
+// Reads a case: the front of numbers holds the text's numbers, or else there is a fault and numbers is as it was.
+pub fn read_case(text: &[u8], numbers: &mut [u32]) -> Reading
+    ensures { λ r. ⌜ r ≡ reading (now (text .entry)) (length (now (numbers .entry))) ⌝ }
+    ensures { λ r. ⌜ now (numbers .exit) ≡ roomAfter r (now (text .entry)) (now (numbers .entry)) ⌝ }
+    ensures { λ r. ⌜ Inside r (length (now (numbers .entry))) ⌝ }
+{
+    let whole = text.len() <= LIMIT;
+    let end = lower(LIMIT, text.len());
+    read_within(&text[..end], whole, numbers)
+}

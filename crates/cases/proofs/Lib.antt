@@ -1,0 +1,4 @@
+pub mod Booleans
+pub mod Scans
+pub mod Lines
+pub mod Writing

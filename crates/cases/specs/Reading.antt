@@ -23,9 +23,12 @@ abbrev pub capped : ℕ → ℕ
 capped n = cond (ltb n 4294967295) n 4294967295
 
 -- the line feeds among bytes
+abbrev pub feed : ℕ → ℕ
+feed b = cond (eqb b 10) 1 0
+
 unfoldable pub feeds : List ℕ → ℕ
 feeds [] = 0
-feeds (b ∷ bs) = cond (eqb b 10) 1 0 + feeds bs
+feeds (b ∷ bs) = feed b + feeds bs
 
 -- the line of the byte at: 1 and the line feeds before it
 abbrev pub lineAt : List ℕ → ℕ → ℕ

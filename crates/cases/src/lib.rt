@@ -10,7 +10,7 @@ ghost use mathlib.Core.Path.{_≡_};
 ghost use Prim.Native.Nat.{_≤_, _<_};
 ghost use lib.ListN.{length, take};
 ghost use Rattle.cases.specs.Lexing.{fresh, lex};
-ghost use Rattle.cases.specs.Reading.{lower, capped, lineAt, caseOf, readingWithin, reading, roomWithin, roomAfter, Inside};
+ghost use Rattle.cases.specs.Reading.{lower, capped, feed, lineAt, caseOf, readingWithin, reading, roomWithin, roomAfter, Inside};
 
 // The parts that are rows by their places among the numbers, and the place of the allowance.
 pub struct Case {
@@ -46,6 +46,13 @@ fn capped(n: usize) -> u32
     if n < 4294967295 { n as u32 } else { 4294967295 }
 }
 
+// A line feed counts 1, any other byte 0.
+fn feed(b: u8) -> u64
+    ensures { λ r. ⌜ r ≡ feed b ⌝ }
+{
+    if b == b'\n' { 1 } else { 0 }
+}
+
 // The line of the byte at, which is 1 and the line feeds before it.
 fn line_at(text: &[u8], at: usize) -> u64
     requires { ⌜ length (now text) ≤ 2097152 ⌝ }
@@ -54,9 +61,7 @@ fn line_at(text: &[u8], at: usize) -> u64
     let end = lower(at, text.len());
     let mut line = 1u64;
     for i in 0..end {
-        if text[i] == b'\n' {
-            line += 1;
-        }
+        line += feed(text[i]);
     }
     line
 }

@@ -1,0 +1,11 @@
+use borrow.Author.Needs.{needs}
+use Rattle.cases.proofs.parser.start.Statement.{statement}
+use Rattle.cases.proofs.parser.start.Tie as tie
+
+returns : tie.Need-returns
+returns c =
+    rw (c .none4 .ensures, c .before .none3 .ensures, c .before .before .none2 .ensures, c .before .before .before .none .ensures)
+
+pub start-spec : {M : Type 1} → statement M
+start-spec =
+    tie.close (tie.spec (λ c κs. search needs) (λ c κs. search needs) (λ c κs. search needs) (λ c κs. search needs) returns)

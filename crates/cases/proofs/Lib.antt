@@ -2,3 +2,5 @@ pub mod Booleans
 pub mod Scans
 pub mod Lines
 pub mod Writing
+pub mod Totals
+pub mod Answers

@@ -41,8 +41,8 @@ module _ (text : List ℕ) (end line i : ℕ) (h : Lined text end line i) where
         within = omega arith;
         small = omega (arith, feed-most (getD text i 0), h .small);
         is =
-          let more : feeds (take (i + 1) text) ≡ feeds (take i text) + feed (getD text i 0) = ap (λ (k : ℕ). feeds (take k text)) (add-one i) ∙ ap feeds (take-suc text i 0 d) ∙ feeds-snoc (take i text) (getD text i 0) in
-          omega (arith, h .is);
+            let more : feeds (take (i + 1) text) ≡ feeds (take i text) + feed (getD text i 0) = ap (λ (k : ℕ). feeds (take k text)) (add-one i) ∙ ap feeds (take-suc text i 0 d) ∙ feeds-snoc (take i text) (getD text i 0) in
+            omega (arith, h .is);
       }
 
   pub lined-all : end ≤ i → line ≡ 1 + feeds (take end text)

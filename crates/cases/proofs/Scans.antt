@@ -41,11 +41,11 @@ module _ (whole : Bool) (limit : ℕ) (text : List ℕ) (l : Lexer) (p : Parser)
         record {
           within = omega arith;
           is =
-            h .is
-            ∙ ap (parse limit i p) (lex-turn whole text l i b)
-            ∙ ap (λ (n : ℕ). parse limit n (taken limit i p (tokenAt l (getD text i 0))) (lex whole (lexed l (getD text i 0)) (drop (i + 1) text))) (sym (add-one i))
-            ∙ ap (λ (r : Parser). parse limit (i + 1) r (lex whole (lexed l (getD text i 0)) (drop (i + 1) text))) (sym (e ∙ ap (taken limit i p) t))
-            ∙ ap (λ (r : Lexer). parse limit (i + 1) q (lex whole r (drop (i + 1) text))) (sym f);
+              h .is
+              ∙ ap (parse limit i p) (lex-turn whole text l i b)
+              ∙ ap (λ (n : ℕ). parse limit n (taken limit i p (tokenAt l (getD text i 0))) (lex whole (lexed l (getD text i 0)) (drop (i + 1) text))) (sym (add-one i))
+              ∙ ap (λ (r : Parser). parse limit (i + 1) r (lex whole (lexed l (getD text i 0)) (drop (i + 1) text))) (sym (e ∙ ap (taken limit i p) t))
+              ∙ ap (λ (r : Lexer). parse limit (i + 1) q (lex whole r (drop (i + 1) text))) (sym f);
         }
 
     pub parsed-all : length text ≤ i → taken limit (length text) p (tokenAtEnd l whole) ≡ parse limit 0 start (lex whole fresh text)

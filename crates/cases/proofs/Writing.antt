@@ -66,12 +66,12 @@ module _ (whole : Bool) (text begin : List ℕ) where
           within = omega arith;
           long = ap length e ∙ length-put room n token ∙ h .long;
           is =
-            h .is
-            ∙ ap (writes room n) (lex-turn whole text l i w)
-            ∙ ap (λ (u : Token). writes (put room n u) (next (length room) n u) rest) (sym t)
-            ∙ ap (λ (u : List ℕ). writes u (next (length room) n token) rest) (sym e)
-            ∙ ap (λ (u : ℕ). writes row u rest) (sym f)
-            ∙ ap (λ (u : Lexer). writes row m (lex whole u (drop (i + 1) text))) (sym g);
+              h .is
+              ∙ ap (writes room n) (lex-turn whole text l i w)
+              ∙ ap (λ (u : Token). writes (put room n u) (next (length room) n u) rest) (sym t)
+              ∙ ap (λ (u : List ℕ). writes u (next (length room) n token) rest) (sym e)
+              ∙ ap (λ (u : ℕ). writes row u rest) (sym f)
+              ∙ ap (λ (u : Lexer). writes row m (lex whole u (drop (i + 1) text))) (sym g);
         }
 
     pub written-all : length text ≤ i → put room n (tokenAtEnd l whole) ≡ writes begin 0 (lex whole fresh text)

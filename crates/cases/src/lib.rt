@@ -7,10 +7,9 @@ mod room; // numbers
 use parser::Parser;
 pub use parser::Run;
 ghost use mathlib.Core.Path.{_≡_};
-ghost use Prim.Native.Nat.{_≤_, _<_};
-ghost use lib.ListN.{length, take};
-ghost use Rattle.cases.specs.Lexing.{fresh, lex};
-ghost use Rattle.cases.specs.Reading.{lower, capped, feed, lineAt, caseOf, readingWithin, reading, roomWithin, roomAfter, Inside};
+ghost use Prim.Native.Nat.{_≤_};
+ghost use lib.ListN.{length};
+ghost use Rattle.cases.specs.Reading.{lower, capped, feed, lineAt, caseOf, faultAt, readingWithin, reading, roomWithin, roomAfter, Inside};
 
 // The parts that are rows by their places among the numbers, and the place of the allowance.
 pub struct Case {
@@ -80,6 +79,13 @@ fn case_of(p: Parser) -> Case
     }
 }
 
+// Where the first fault is: what is missing is so at the end.
+fn fault_at(p: Parser, end: usize) -> usize
+    ensures { λ r. ⌜ r ≡ faultAt p end ⌝ }
+{
+    if p.fault == 0 { end } else { p.at }
+}
+
 // Reads the bytes of a text up to the limit, which are the whole text or not.
 fn read_within(text: &[u8], whole: bool, numbers: &mut [u32]) -> Reading
     requires { ⌜ length (now text) ≤ 2097152 ⌝ }
@@ -90,10 +96,9 @@ fn read_within(text: &[u8], whole: bool, numbers: &mut [u32]) -> Reading
     let p = parser::parse(text, whole, capped(numbers.len()));
     let kind = parser::ended(p, whole);
     if kind != 0 {
-        let at = if p.fault != 0 { p.at } else { text.len() };
         return Reading::Unread(Misread {
             kind,
-            line: line_at(text, at),
+            line: line_at(text, fault_at(p, text.len())),
         });
     }
     room::write(text, whole, numbers);

@@ -1,6 +1,5 @@
 // The parts of a case, token by token.
 ghost use mathlib.Core.Path.{_≡_};
-ghost use Prim.Native.Nat.{_≤_, _<_};
 ghost use Rattle.cases.specs.Lexing.{fresh, lex};
 ghost use Rattle.cases.specs.Parsing.{none, start, failed, begun, extended, isGiven, full, headed, counted, taken, parse, refuse, ended};
 use crate::lexer::Lexer;

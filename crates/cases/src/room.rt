@@ -16,14 +16,19 @@ fn put(numbers: &mut [u32], n: usize, token: Token) -> usize
     ensures { λ r. ⌜ r ≡ next (length (now (numbers .entry))) n token ⌝ }
     ensures { λ r. ⌜ now (numbers .exit) ≡ put (now (numbers .entry)) n token ⌝ }
 {
-    let Token::Number(value) = token else {
-        return n;
-    };
-    if n < numbers.len() {
-        numbers[n] = value;
-        return n + 1;
+    match token {
+        Token::Nothing => n,
+        Token::Number(value) => {
+            if n < numbers.len() {
+                numbers[n] = value;
+                return n + 1;
+            }
+            n
+        }
+        Token::Heading(_) => n,
+        Token::Unknown => n,
+        Token::TooLarge => n,
     }
-    n
 }
 
 // The front of numbers holds the text's numbers.

@@ -1,6 +1,9 @@
 use Prim.Native.Nat.{_-_}
+use mathlib.Core.Path.{ap, _∙_}
 use lib.ListN.{length}
-use Rattle.cases.proofs.Writing.{Written, written-none, written-more}
+use Rattle.cases.specs.Lexing.{fresh, lex}
+use Rattle.cases.specs.Numbers.{put}
+use Rattle.cases.proofs.Writing.{Written, written-none, written-more, written-all, written, length-put}
 use borrow.Author.Needs.{needs}
 use native.Mathlib.Omega.{arith}
 use Rattle.cases.proofs.room.write.Statement.{statement}
@@ -26,10 +29,19 @@ loop-again c =
     written-more (a .whole) (a .text .now) (a .numbers .now) (l .numbers) (l .l) (l .n) (l .i) (l .inv) (c .before .before .before .before .before .before .before .loop-test .taken) (t .result) (t .ensures) _ (u .ensures .1) (u .result) (u .ensures .0) (c .lexed .result) (c .lexed .ensures)
 
 same-length : tie.Need-same-length Inv-loop μ-loop
-same-length c = ?
+same-length c =
+    let l = c .before .before .before .before .before .before .loop in
+    ap length (c .before .before .put2 .ensures .1) ∙ length-put (l .numbers) (l .n) (c .before .before .before .token-at-end .result) ∙ l .inv .long
 
 returns : tie.Need-returns Inv-loop μ-loop
-returns c = ?
+returns c =
+    let s = c .before .before .before .before .before .before .before .before .before .before in
+    let a = s .args in
+    let l = c .before .before .before .before .before .before .loop in
+    c .before .before .put2 .ensures .1
+    ∙ ap (put (l .numbers) (l .n)) (c .before .before .before .token-at-end .ensures)
+    ∙ written-all (a .whole) (a .text .now) (a .numbers .now) (l .numbers) (l .l) (l .n) (l .i) (l .inv) (c .before .before .before .before .before .loop-test .left)
+    ∙ written (a .numbers .now) (lex (a .whole) fresh (a .text .now)) (s .pre)
 
 pub write-spec : {M : Type 1} → statement M
 write-spec =

@@ -1,0 +1,205 @@
+-- What a parse keeps: the parts are among the numbers read, and where there is no fault these are all the text's numbers.
+-- Assumes nothing.
+use mathlib.Core.Path.{_≡_, refl, sym, ap, subst, _∙_}
+use mathlib.Core.Bool.{Bool, true, false, not, cond}
+use mathlib.Core.List.{List, [], _∷_, _++_}
+use Prim.Native.Nat.{ℕ, suc, _+_, _≤_, _<_}
+use native.Mathlib.Omega.{arith}
+use lib.Dec.{eqb, ltb, leb}
+use lib.ListN.{length, length-append}
+use borrow.Author.Tests.{eqb-true, eqb-false, leb-false, ltb-true, ltb-false, not-true}
+use Rattle.cases.specs.declared.lexer.Token.{Token}
+use Rattle.cases.specs.declared.lexer.Token.the-variants.{Nothing, Number, Heading, Unknown, TooLarge}
+use Rattle.cases.specs.declared.parser.Run.{Run}
+use Rattle.cases.specs.declared.parser.Parser.{Parser}
+use Rattle.cases.specs.Parsing.{none, start, failed, begun, extended, isGiven, full, headed, counted, takenBy, taken, parse, refuse, ended}
+use Rattle.cases.specs.Numbers.{numberIn, numbersIn}
+use Rattle.cases.specs.Reading.{capped, caseOf, Within, Placed}
+
+-- The parts
+
+pub record Sound (limit : ℕ) (p : Parser) : Type 0 where
+  pub table : Within (p .table) (p .total)
+  pub values : Within (p .values) (p .total)
+  pub cells : Within (p .cells) (p .total)
+  pub allowance : Within (p .allowance) (p .total)
+  pub few : p .total ≤ limit
+
+begun-within : (run : Run) (k part total : ℕ) → Within run total → Within (begun run k part total) total
+begun-within run k part total h = go (eqb part k)
+  where
+    go : (b : Bool) → Within (cond b (record { given = true; from = total; to = total }) run) total
+    go true = record { low = omega arith; high = omega arith }
+    go false = h
+
+extended-within : (run : Run) (k part total : ℕ) → Within run total → Within (extended run k part (total + 1)) (total + 1)
+extended-within run k part total h = go (eqb part k)
+  where
+    go : (b : Bool) → Within (cond b (record { given = run .given; from = run .from; to = total + 1 }) run) (total + 1)
+    go true = record { low = omega (arith, h .low, h .high); high = omega arith }
+    go false = record { low = h .low; high = omega (arith, h .high) }
+
+pick : (P : Parser → Type 0) (b : Bool) {x y : Parser} → (b ≡ true → P x) → (b ≡ false → P y) → P (cond b x y)
+pick P true f g = f refl
+pick P false f g = g refl
+
+start-sound : (limit : ℕ) → Sound limit start
+start-sound limit =
+    let empty : Within none 0 = record { low = omega arith; high = omega arith } in
+    record { table = empty; values = empty; cells = empty; allowance = empty; few = omega arith }
+
+module _ (limit at : ℕ) (p : Parser) (h : Sound limit p) where
+  failed-sound : (kind : ℕ) → Sound limit (failed p kind at)
+  failed-sound kind = record { table = h .table; values = h .values; cells = h .cells; allowance = h .allowance; few = h .few }
+
+  headed-sound : (part : ℕ) → Sound limit (headed p part at)
+  unfolding headed
+  headed-sound part =
+      pick (Sound limit) (isGiven p part) (λ _. failed-sound 4)
+      (λ _.
+      record {
+        table = begun-within (p .table) 1 part (p .total) (h .table);
+        values = begun-within (p .values) 2 part (p .total) (h .values);
+        cells = begun-within (p .cells) 3 part (p .total) (h .cells);
+        allowance = begun-within (p .allowance) 4 part (p .total) (h .allowance);
+        few = h .few;
+      })
+
+  counted-sound : Sound limit (counted p limit at)
+  unfolding counted
+  counted-sound =
+      pick (Sound limit) (eqb (p .part) 0) (λ _. failed-sound 3)
+      (λ _. pick (Sound limit) (full p) (λ _. failed-sound 5)
+      (λ _. pick (Sound limit) (leb limit (p .total)) (λ _. failed-sound 6)
+      (λ e.
+      record {
+        table = extended-within (p .table) 1 (p .part) (p .total) (h .table);
+        values = extended-within (p .values) 2 (p .part) (p .total) (h .values);
+        cells = extended-within (p .cells) 3 (p .part) (p .total) (h .cells);
+        allowance = extended-within (p .allowance) 4 (p .part) (p .total) (h .allowance);
+        few = omega (arith, leb-false limit (p .total) e);
+      })))
+
+  taken-by-sound : (token : Token) → Sound limit (takenBy limit at p token)
+  taken-by-sound Nothing = h
+  taken-by-sound (Number n) = counted-sound
+  taken-by-sound (Heading part) = headed-sound part
+  taken-by-sound Unknown = failed-sound 1
+  taken-by-sound TooLarge = failed-sound 2
+
+  taken-sound : (token : Token) → Sound limit (taken limit at p token)
+  taken-sound token = pick (Sound limit) (eqb (p .fault) 0) (λ _. taken-by-sound token) (λ _. h)
+
+parse-sound : (limit at : ℕ) (p : Parser) (tokens : List Token) → Sound limit p → Sound limit (parse limit at p tokens)
+unfolding parse
+parse-sound limit at p [] h = h
+parse-sound limit at p (token ∷ tokens) h = parse-sound limit (suc at) (taken limit at p token) tokens (taken-sound limit at p h token)
+
+-- The count
+
+-- where q has no fault it is n numbers after p
+Counts : Parser → ℕ → Parser → Type 0
+Counts p n q = q .fault ≡ 0 → q .total ≡ p .total + n
+
+module _ (limit at : ℕ) (p : Parser) where
+  failed-counts : (kind n : ℕ) → Counts p n (failed p (suc kind) at)
+  unfolding Counts
+  failed-counts kind n e = absurd (omega arith)
+
+  headed-counts : (part : ℕ) → Counts p 0 (headed p part at)
+  unfolding headed Counts
+  headed-counts part = pick (Counts p 0) (isGiven p part) (λ _. failed-counts 3 0) (λ _ _. omega arith)
+
+  counted-counts : Counts p 1 (counted p limit at)
+  unfolding counted Counts
+  counted-counts =
+      pick (Counts p 1) (eqb (p .part) 0) (λ _. failed-counts 2 1)
+      (λ _. pick (Counts p 1) (full p) (λ _. failed-counts 4 1)
+      (λ _. pick (Counts p 1) (leb limit (p .total)) (λ _. failed-counts 5 1) (λ _ _. refl)))
+
+  taken-by-counts : (token : Token) → Counts p (length (numberIn token)) (takenBy limit at p token)
+  unfolding Counts
+  taken-by-counts Nothing = λ _. omega arith
+  taken-by-counts (Number n) = counted-counts
+  taken-by-counts (Heading part) = headed-counts part
+  taken-by-counts Unknown = failed-counts 0 0
+  taken-by-counts TooLarge = failed-counts 1 0
+
+  taken-counts : (token : Token) → (taken limit at p token) .fault ≡ 0 → (p .fault ≡ 0) × ((taken limit at p token) .total ≡ p .total + length (numberIn token))
+  unfolding Counts
+  taken-counts token =
+      pick (λ q. q .fault ≡ 0 → (p .fault ≡ 0) × (q .total ≡ p .total + length (numberIn token))) (eqb (p .fault) 0)
+      (λ e d. (eqb-true (p .fault) 0 e, taken-by-counts token d))
+      (λ e d. absurd (eqb-false (p .fault) 0 e d))
+
+parse-counts : (limit at : ℕ) (p : Parser) (tokens : List Token) → (parse limit at p tokens) .fault ≡ 0
+    → (p .fault ≡ 0) × ((parse limit at p tokens) .total ≡ p .total + length (numbersIn tokens))
+unfolding parse numbersIn
+parse-counts limit at p [] e = (e, omega arith)
+parse-counts limit at p (token ∷ tokens) e =
+    let later = parse-counts limit (suc at) (taken limit at p token) tokens e in
+    let now = taken-counts limit at p token (later .0) in
+    (now .0, omega (arith, later .1, now .1, length-append (numberIn token) (numbersIn tokens)))
+
+-- The end
+
+no-refusal : (number : ℕ) (ok : Bool) (rest : ℕ) → refuse (suc number) ok rest ≡ 0 → (ok ≡ true) × (rest ≡ 0)
+no-refusal number true rest e = (refl, e)
+no-refusal number false rest e = absurd (omega arith)
+
+no-fault : (fault rest : ℕ) → refuse fault (eqb fault 0) rest ≡ 0 → (fault ≡ 0) × (rest ≡ 0)
+no-fault fault rest = go (eqb fault 0) refl
+  where
+    go : (b : Bool) → eqb fault 0 ≡ b → cond b rest fault ≡ 0 → (fault ≡ 0) × (rest ≡ 0)
+    go true e h = (eqb-true fault 0 e, h)
+    go false e h = absurd (eqb-false fault 0 e h)
+
+-- a parse that is refused nothing
+pub record Passed (p : Parser) : Type 0 where
+  pub clear : p .fault ≡ 0
+  pub one : p .allowance .from ≡ p .allowance .to → ⊥
+
+pub passed : (p : Parser) (whole : Bool) → ended p whole ≡ 0 → Passed p
+unfolding ended
+passed p whole e =
+    let first = no-fault (p .fault) _ e in
+    let second = no-refusal 11 whole _ (first .1) in
+    let third = no-refusal 6 (p .table .given) _ (second .1) in
+    let fourth = no-refusal 7 (p .values .given) _ (third .1) in
+    let fifth = no-refusal 8 (p .cells .given) _ (fourth .1) in
+    let sixth = no-refusal 9 (p .allowance .given) _ (fifth .1) in
+    let last = no-refusal 10 (not (eqb (p .allowance .from) (p .allowance .to))) 0 (sixth .1) in
+    record { clear = first .0; one = eqb-false (p .allowance .from) (p .allowance .to) (not-true (eqb (p .allowance .from) (p .allowance .to)) (last .0)) }
+
+pub capped-most : (n : ℕ) → capped n ≤ n
+capped-most n = go (ltb n 4294967295) refl
+  where
+    go : (b : Bool) → ltb n 4294967295 ≡ b → cond b n 4294967295 ≤ n
+    go true e = omega arith
+    go false e = ltb-false n 4294967295 e
+
+wider : (run : Run) (n m : ℕ) → n ≤ m → Within run n → Within run m
+wider run n m b h = record { low = h .low; high = omega (arith, h .high) }
+
+-- the tokens are read with nothing refused: their numbers are within the limit, and the parts are among them
+module _ (limit : ℕ) (tokens : List Token) (p : Parser) (is : p ≡ parse limit 0 start tokens) (whole : Bool) (e : ended p whole ≡ 0) where
+  sound : Sound limit p
+  sound = subst (Sound limit) (sym is) (parse-sound limit 0 start tokens (start-sound limit))
+
+  all : p .total ≡ length (numbersIn tokens)
+  all =
+      let clear : (parse limit 0 start tokens) .fault ≡ 0 = sym (ap (λ (q : Parser). q .fault) is) ∙ passed p whole e .clear in
+      omega (arith, ap (λ (q : Parser). q .total) is, parse-counts limit 0 start tokens clear .1)
+
+  pub held : length (numbersIn tokens) ≤ limit
+  held = omega (arith, all, sound .few)
+
+  pub placed : (n : ℕ) → length (numbersIn tokens) ≤ n → Placed (caseOf p) n
+  placed n b =
+      let t : p .total ≤ n = omega (arith, all) in
+      record {
+        table = wider (p .table) (p .total) n t (sound .table);
+        values = wider (p .values) (p .total) n t (sound .values);
+        cells = wider (p .cells) (p .total) n t (sound .cells);
+        allowance = omega (arith, sound .allowance .low, sound .allowance .high, passed p whole e .one);
+      }

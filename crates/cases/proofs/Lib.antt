@@ -4,3 +4,4 @@ pub mod Lines
 pub mod Writing
 pub mod Totals
 pub mod Answers
+pub mod Inside

@@ -1,0 +1,4 @@
+pub mod Operands
+pub mod Chains
+pub mod Blames
+pub mod Ways

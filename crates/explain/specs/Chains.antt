@@ -38,7 +38,7 @@ culpritWithin (suc left) w values truths a j =
 
 -- an array's number falls along its chain, so its own is terms enough
 abbrev pub culpritAt : List ℕ → List ℕ → List ℕ → ℕ → ℕ → Culprit
-culpritAt w values truths a j = culpritWithin a w values truths a j
+culpritAt w values truths a j = culpritWithin (suc a) w values truths a j
 
 -- the culprit's own term
 abbrev pub termOf : Culprit → ℕ

@@ -40,7 +40,7 @@ pub fn would_settle(op: Op, n: u32, x: u32, second: bool) -> bool
         Op::Not => false,
         Op::And => x != 1,
         Op::Or => x == 1,
-        Op::Implies => (x == 1) == second,
+        Op::Implies => (second & (x == 1)) | (!second & (x != 1)),
         Op::Equal => false,
         Op::Ite => false,
         Op::BvNot => false,

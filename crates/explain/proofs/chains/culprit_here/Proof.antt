@@ -1,37 +1,27 @@
+use mathlib.Core.Path.{sym, _∙_}
+use borrow.Author.Tests.{not-true, not-false}
+use Rattle.explain.proofs.Walks.{here-end, here-stored, here-index}
 use borrow.Author.Needs.{needs}
 use Rattle.explain.proofs.chains.culprit_here.Statement.{statement}
 use Rattle.explain.proofs.chains.culprit_here.Tie as tie
-use Rattle.explain.proofs.chains.culprit_here.Reads as reads
-use Rattle.explain.proofs.chains.culprit_here.Lts as lts
-use Rattle.explain.proofs.chains.stacked.Reads as stacked-reads
-use Rattle.explain.proofs.operands.free_at.Reads as free-at-reads
-use Rattle.table.proofs.term_at.Reads as term-at-reads
 
--- src/chains.rt:29:9
-term-at-requires : tie.Need-term-at-requires
-term-at-requires c κs = search needs
-
--- src/chains.rt:30:9
-stacked-requires : tie.Need-stacked-requires
-stacked-requires c κs = search needs
-
--- src/chains.rt:31:9
 returns : tie.Need-returns
-returns c = ?
+returns c =
+    let s = c .before .before .before .before .before in
+    let x = c .before .before .term-at in
+    here-end (s .args .table .now) (s .args .truths .now) (s .args .a) (x .result) (x .ensures) (sym (c .before .stacked .ensures) ∙ not-true _ (c .if1 .taken))
 
--- src/chains.rt:33:8
-free-at-requires : tie.Need-free-at-requires
-free-at-requires c κs = search needs
-
--- src/chains.rt:34:9
 returns-2 : tie.Need-returns-2
-returns-2 c = ?
+returns-2 c =
+    let s = c .before .before .before .before .before .before .before in
+    let x = c .before .before .before .before .term-at in
+    here-stored (s .args .table .now) (s .args .truths .now) (s .args .a) (x .result) (x .ensures) (sym (c .before .before .before .stacked .ensures) ∙ not-false _ (c .before .before .if1 .left)) (sym (c .before .free-at .ensures) ∙ c .if2 .taken)
 
--- src/chains.rt:26:1
 returns-3 : tie.Need-returns-3
-returns-3 c = ?
+returns-3 c =
+    let s = c .before .before .before .before .before .before .before in
+    let x = c .before .before .before .before .term-at in
+    here-index (s .args .table .now) (s .args .truths .now) (s .args .a) (x .result) (x .ensures) (sym (c .before .before .before .stacked .ensures) ∙ not-false _ (c .before .before .if1 .left)) (sym (c .before .free-at .ensures) ∙ c .if2 .left)
 
 pub culprit-here-spec : {M : Type 1} → statement M
-culprit-here-spec =
-    tie.close
-    (tie.spec term-at-requires stacked-requires returns free-at-requires returns-2 returns-3)
+culprit-here-spec = tie.close (tie.spec (λ c κs. search needs) (λ c κs. search needs) returns (λ c κs. search needs) returns-2 returns-3)

@@ -1,21 +1,15 @@
+use native.Mathlib.Omega.{arith}
+use mathlib.Core.Path.{sym}
+use Rattle.explain.proofs.Booleans.{no-ones}
 use borrow.Author.Needs.{needs}
 use Rattle.explain.proofs.operands.all_ones.Statement.{statement}
 use Rattle.explain.proofs.operands.all_ones.Tie as tie
-use Rattle.explain.proofs.operands.all_ones.Reads as reads
-use Rattle.explain.proofs.operands.all_ones.Lts as lts
-use Rattle.ops.proofs.ones.Reads as ones-reads
 
--- src/operands.rt:30:23
-ones-requires : tie.Need-ones-requires
-ones-requires c κs = search needs
-
--- src/operands.rt:27:1
 returns : tie.Need-returns
-returns c = ?
+returns c = rw (c .ones .ensures)
 
--- src/operands.rt:27:1
 returns-2 : tie.Need-returns-2
-returns-2 c = ?
+returns-2 c = sym (no-ones (c .before .args .n) (c .before .args .x) (omega arith) (omega (arith, c .before .fits .x)))
 
 pub all-ones-spec : {M : Type 1} → statement M
-all-ones-spec = tie.close (tie.spec ones-requires returns returns-2)
+all-ones-spec = tie.close (tie.spec (λ c κs. search needs) returns returns-2)

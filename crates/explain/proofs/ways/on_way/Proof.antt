@@ -1,24 +1,14 @@
+use native.Mathlib.Omega.{arith}
+use borrow.Author.Tests.{lt-ltb, le-ltb}
 use borrow.Author.Needs.{needs}
 use Rattle.explain.proofs.ways.on_way.Statement.{statement}
 use Rattle.explain.proofs.ways.on_way.Tie as tie
-use Rattle.explain.proofs.ways.on_way.Reads as reads
-use Rattle.explain.proofs.ways.on_way.Lts as lts
 
--- src/ways.rt:23:16
-mul-result : tie.Need-mul-result
-mul-result c = search needs
-
--- src/ways.rt:23:16
-element-copy-out-result : tie.Need-element-copy-out-result
-element-copy-out-result c = search needs
-
--- src/ways.rt:23:9
 returns : tie.Need-returns
-returns c = ?
+returns c = rw (lt-ltb (c .before .before .args .k) 512 (c .before .if1 .taken))
 
--- src/ways.rt:19:1
 returns-2 : tie.Need-returns-2
-returns-2 c = ?
+returns-2 c = rw (le-ltb (c .before .args .k) 512 (omega arith))
 
 pub on-way-spec : {M : Type 1} → statement M
-on-way-spec = tie.close (tie.spec mul-result element-copy-out-result returns returns-2)
+on-way-spec = tie.close (tie.spec (λ c. search needs) (λ c. search needs) returns returns-2)

@@ -1,0 +1,4 @@
+pub mod Booleans
+pub mod Walks
+pub mod Downward
+pub mod Suspects

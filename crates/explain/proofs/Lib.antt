@@ -2,3 +2,5 @@ pub mod Booleans
 pub mod Walks
 pub mod Downward
 pub mod Suspects
+pub mod Marks
+pub mod Causes

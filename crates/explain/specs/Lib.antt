@@ -2,3 +2,4 @@ pub mod Operands
 pub mod Chains
 pub mod Blames
 pub mod Ways
+pub mod Laws

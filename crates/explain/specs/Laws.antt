@@ -1,0 +1,40 @@
+-- What is proved of the way down, as named statements. The proofs are in proofs/.
+-- Assumes nothing.
+use mathlib.Core.Path.{_≡_}
+use mathlib.Core.Bool.{true, false}
+use mathlib.Core.List.{List}
+use mathlib.Core.Logic.{_⊎_}
+use Prim.Native.Nat.{ℕ, _<_}
+use Rattle.table.specs.Terms.{terms, termAt}
+use Rattle.table.specs.Faults.{variable, storing}
+use Rattle.table.specs.WellFormed.{WellFormed}
+use Rattle.setting.specs.Interpretation.{Interpretation}
+use Rattle.evaluate.specs.Values.{numbers}
+use Rattle.judge.specs.Conditions.{ownMarks, truths}
+use Rattle.judge.specs.Readings.{truthIn}
+use Rattle.explain.specs.Blames.{blameAt}
+use Rattle.explain.specs.Ways.{onWay, wayOf}
+
+-- No term on the way is free.
+abbrev pub OnlyUnfree : Type 0
+OnlyUnfree = (w values truths : List ℕ) (n k : ℕ) → onWay (wayOf w values truths n) k ≡ true → truthIn truths k ≡ false
+
+-- Term i, which term k blames: an earlier term, no store, and not free.
+pub record Beneath (w truths : List ℕ) (k i : ℕ) : Type 0 where
+  pub below : i < k
+  pub no-store : storing (termAt w i) ≡ false
+  pub unfree : truthIn truths i ≡ false
+
+-- Term k is a marked variable or blames a term; and what it blames is beneath it.
+pub record GoesOn (w values truths : List ℕ) (k : ℕ) : Type 0 where
+  pub on : ((variable (termAt w k) ≡ true) × (ownMarks (termAt w k) ≡ true)) ⊎ (0 < blameAt w values truths k .count)
+  pub first : 0 < blameAt w values truths k .count → Beneath w truths k (blameAt w values truths k .first)
+  pub second : 1 < blameAt w values truths k .count → Beneath w truths k (blameAt w values truths k .second)
+
+-- So the way ends at marked variables only: of a well-formed table, by the values and truths of any interpretation, each term
+-- on the way goes on.
+abbrev pub WayGoesOn : Type 0
+WayGoesOn =
+    (limit : ℕ) (w : List ℕ) (I : Interpretation) → WellFormed limit w
+    → (k : ℕ) → onWay (wayOf w (numbers w I (terms w)) (truths w ownMarks I (terms w)) (terms w)) k ≡ true
+    → GoesOn w (numbers w I (terms w)) (truths w ownMarks I (terms w)) k

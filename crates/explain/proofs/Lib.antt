@@ -4,3 +4,4 @@ pub mod Downward
 pub mod Suspects
 pub mod Marks
 pub mod Causes
+pub mod Alone

@@ -1,10 +1,12 @@
--- What is proved of the way down, as named statements. The proofs are in proofs/.
+-- What is proved of operands and of the way down, as named statements. The proofs are in proofs/.
 -- Assumes nothing.
 use mathlib.Core.Path.{_≡_}
-use mathlib.Core.Bool.{true, false}
+use mathlib.Core.Bool.{Bool, true, false, cond}
 use mathlib.Core.List.{List}
 use mathlib.Core.Logic.{_⊎_}
 use Prim.Native.Nat.{ℕ, _<_}
+use Rattle.ops.specs.declared.Op.{Op}
+use Rattle.ops.specs.Condition.{settles}
 use Rattle.table.specs.Terms.{terms, termAt}
 use Rattle.table.specs.Faults.{variable, storing}
 use Rattle.table.specs.WellFormed.{WellFormed}
@@ -12,8 +14,15 @@ use Rattle.setting.specs.Interpretation.{Interpretation}
 use Rattle.evaluate.specs.Values.{numbers}
 use Rattle.judge.specs.Conditions.{ownMarks, truths}
 use Rattle.judge.specs.Readings.{truthIn}
+use Rattle.explain.specs.Operands.{wouldSettle}
 use Rattle.explain.specs.Blames.{blameAt}
 use Rattle.explain.specs.Ways.{onWay, wayOf}
+
+-- An operand that is free and whose value settles the operator by itself makes the operator free.
+abbrev pub FreeSettles : Type 0
+FreeSettles =
+    (op : Op) (n x y z : ℕ) (c d e second : Bool) → cond second d c ≡ true → wouldSettle op n (cond second y x) second ≡ true
+    → settles op n x y z c d e ≡ true
 
 -- No term on the way is free.
 abbrev pub OnlyUnfree : Type 0

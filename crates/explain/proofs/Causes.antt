@@ -118,10 +118,10 @@ some-two P ts p q h = go (truthIn ts p) (truthIn ts q) h
     go false false e hp hq = record { some = omega arith; both = record { first = λ _. hp refl; second = λ _. hq refl } }
 
 module _ (limit : ℕ) (w : List ℕ) (I : Interpretation) (f : WellFormed limit w) where
-  abbrev vs : List ℕ
+  abbrev pub vs : List ℕ
   vs = numbers w I (terms w)
 
-  abbrev ts : List ℕ
+  abbrev pub ts : List ℕ
   ts = truths w ownMarks I (terms w)
 
   abbrev K : ℕ → Condition
@@ -395,10 +395,10 @@ module _ (limit : ℕ) (w : List ℕ) (I : Interpretation) (f : WellFormed limit
     pub plain : storing (termAt w k) ≡ false
     pub unfree : truthIn ts k ≡ false
 
-  goes-from : (k : ℕ) → Way k → GoesOn w vs ts k
+  pub goes-from : (k : ℕ) → Way k → GoesOn w vs ts k
   goes-from k y = goes-by k (y .inside) (y .unfree) (opOf (termAt w k .op)) refl (y .plain)
 
-  onto : (k : ℕ) → Way k → Both Way (blameAt w vs ts k)
+  pub onto : (k : ℕ) → Way k → Both Way (blameAt w vs ts k)
   onto k y =
       let g = goes-from k y in
       record {
@@ -409,11 +409,16 @@ module _ (limit : ℕ) (w : List ℕ) (I : Interpretation) (f : WellFormed limit
       from-k : (i : ℕ) → Beneath w ts k i → Way i
       from-k i g = let b = g .below in let c = y .inside in record { inside = omega arith; plain = g .no-store; unfree = g .unfree }
 
+  pub rule-way : truthIn ts (pred (terms w)) ≡ false → Way (pred (terms w))
+  rule-way u =
+      let last : pred (terms w) < terms w = pred-below (terms w) (f .some) in
+      record { inside = last; plain = no-store (pred (terms w)) last (boolean-scalar (sortAt w (pred (terms w))) (f .rule)); unfree = u }
+
   pub on-way-goes-on : (k : ℕ) → onWay (wayOf w vs ts (terms w)) k ≡ true → GoesOn w vs ts k
   on-way-goes-on k o =
       goes-from k
       (all-way Way w vs ts onto (terms w)
-      (λ n u. let last : pred (terms w) < terms w = pred-below (terms w) (f .some) in record { inside = last; plain = no-store (pred (terms w)) last (boolean-scalar (sortAt w (pred (terms w))) (f .rule)); unfree = u })
+      (λ n u. rule-way u)
       k o)
 
 pub way-goes-on : WayGoesOn

@@ -5,3 +5,4 @@ pub mod Suspects
 pub mod Marks
 pub mod Causes
 pub mod Alone
+pub mod Wholeness

@@ -17,13 +17,13 @@ use Rattle.explain.specs.Ways.{marked, onWay, blamed, lookedAt, wayDown,
 use Rattle.explain.specs.Laws.{OnlyUnfree}
 use Rattle.table.specs.Terms.{termAt}
 
-zeros : (n k : ℕ) → _≡_ {A = ℕ} (getD (replicate n 0) k 0) 0
+pub zeros : (n k : ℕ) → _≡_ {A = ℕ} (getD (replicate n 0) k 0) 0
 zeros zero k = refl
 zeros (suc n) zero = refl
 zeros (suc n) (suc k) = zeros n k
 
 -- a mark is the one that is set, or was there
-set-one : (l : List ℕ) (k i : ℕ) → holds (getD (set l k 1) i 0) ≡ true → (i ≡ k) ⊎ (holds (getD l i 0) ≡ true)
+pub set-one : (l : List ℕ) (k i : ℕ) → holds (getD (set l k 1) i 0) ≡ true → (i ≡ k) ⊎ (holds (getD l i 0) ≡ true)
 set-one [] k i h = inr h
 set-one (x ∷ l) zero zero h = inl refl
 set-one (x ∷ l) zero (suc i) h = inr h
@@ -36,17 +36,17 @@ pub record Both (P : ℕ → Type 0) (b : Blame) : Type 0 where
   pub second : ltb 1 (b .count) ≡ true → P (b .second)
 
 module _ (P : ℕ → Type 0) where
-  abbrev All : List ℕ → Type 0
+  abbrev pub All : List ℕ → Type 0
   All marks = (i : ℕ) → holds (getD marks i 0) ≡ true → P i
 
-  all-marked : (on : Bool) (k : ℕ) (marks : List ℕ) → All marks → (on ≡ true → P k) → All (marked on k marks)
+  pub all-marked : (on : Bool) (k : ℕ) (marks : List ℕ) → All marks → (on ≡ true → P k) → All (marked on k marks)
   all-marked on k marks all now = go (on && ltb k 512) refl
     where
       go : (z : Bool) → (on && ltb k 512) ≡ z → All (cond z (set marks k 1) marks)
       go true e i h = ⊎-elim (λ (same : i ≡ k). subst P (sym same) (now (and-parts on (ltb k 512) e .0))) (all i) (set-one marks k i h)
       go false e i h = all i h
 
-  all-blamed : (on : Bool) (b : Blame) (marks : List ℕ) → All marks → (on ≡ true → Both P b) → All (blamed on b marks)
+  pub all-blamed : (on : Bool) (b : Blame) (marks : List ℕ) → All marks → (on ≡ true → Both P b) → All (blamed on b marks)
   all-blamed on b marks all both =
       all-marked (on && ltb 1 (b .count)) (b .second) (marked (on && ltb 0 (b .count)) (b .first) marks)
       (all-marked (on && ltb 0 (b .count)) (b .first) marks all (λ e. let parts = and-parts on (ltb 0 (b .count)) e in both (parts .0) .first (parts .1)))

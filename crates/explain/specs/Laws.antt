@@ -4,7 +4,7 @@ use mathlib.Core.Path.{_≡_}
 use mathlib.Core.Bool.{Bool, true, false, cond}
 use mathlib.Core.List.{List}
 use mathlib.Core.Logic.{_⊎_}
-use Prim.Native.Nat.{ℕ, _<_}
+use Prim.Native.Nat.{ℕ, pred, _<_}
 use Rattle.ops.specs.declared.Op.{Op}
 use Rattle.ops.specs.Condition.{settles}
 use Rattle.table.specs.Terms.{terms, termAt}
@@ -47,3 +47,13 @@ WayGoesOn =
     (limit : ℕ) (w : List ℕ) (I : Interpretation) → WellFormed limit w
     → (k : ℕ) → onWay (wayOf w (numbers w I (terms w)) (truths w ownMarks I (terms w)) (terms w)) k ≡ true
     → GoesOn w (numbers w I (terms w)) (truths w ownMarks I (terms w)) k
+
+-- The way is whole: the rule is on it, where it is not free, and so is what each term on it blames.
+pub record Whole (w values truths : List ℕ) (n : ℕ) : Type 0 where
+  pub rule : truthIn truths (pred n) ≡ false → onWay (wayOf w values truths n) (pred n) ≡ true
+  pub first : (k : ℕ) → onWay (wayOf w values truths n) k ≡ true → 0 < blameAt w values truths k .count → onWay (wayOf w values truths n) (blameAt w values truths k .first) ≡ true
+  pub second : (k : ℕ) → onWay (wayOf w values truths n) k ≡ true → 1 < blameAt w values truths k .count → onWay (wayOf w values truths n) (blameAt w values truths k .second) ≡ true
+
+-- Of a table that judging takes, by the values and truths of any interpretation.
+abbrev pub WayIsWhole : Type 0
+WayIsWhole = (w : List ℕ) (I : Interpretation) → WellFormed 512 w → Whole w (numbers w I (terms w)) (truths w ownMarks I (terms w)) (terms w)

@@ -18,15 +18,15 @@ use Rattle.cases.specs.Lexing.{fresh, lex}
 use Rattle.cases.specs.Parsing.{ended}
 use Rattle.cases.specs.Numbers.{numbersIn}
 use Rattle.cases.specs.Reading.{capped, lineAt, caseOf, faultAt, parsed, seen, wholly, Placed}
-use Rattle.cases.specs.Laws.{ReadInside}
+use Rattle.cases.specs.Laws.{RunsInside}
 use Rattle.cases.proofs.Totals.{capped-most, held, placed}
 
 picked : (b : Bool) (x c : Case) (m : Misread) → cond b (Read x) (Unread m) ≡ Read c → (b ≡ true) × (x ≡ c)
 picked true x c m e = (refl, cc)
 picked false x c m e = absurd (let z : _≡_ {A = ℕ} 0 1 = cc in omega arith)
 
-pub read-inside : ReadInside
-read-inside text room c e =
+pub runs-inside : RunsInside
+runs-inside text room c e =
     let whole : Bool = wholly text in
     let p : Parser = parsed (seen text) whole room in
     let tokens : List Token = lex whole fresh (seen text) in

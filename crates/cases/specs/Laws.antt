@@ -8,10 +8,11 @@ use Rattle.cases.specs.declared.Case.{Case}
 use Rattle.cases.specs.declared.Reading.the-variants.{Read}
 use Rattle.cases.specs.Reading.{reading, numbersOf, Placed}
 
--- where a text is read, the room has its numbers, and the parts are among them
-pub record RunsInside (text : List ℕ) (room : ℕ) (c : Case) : Type 0 where
+-- the room has the text's numbers, and the parts are among them
+pub record Held (text : List ℕ) (room : ℕ) (c : Case) : Type 0 where
   pub held : length (numbersOf text) ≤ room
   pub placed : Placed c (length (numbersOf text))
 
-abbrev pub ReadInside : Type 0
-ReadInside = (text : List ℕ) (room : ℕ) (c : Case) → reading text room ≡ Read c → RunsInside text room c
+-- it is so where a text is read
+abbrev pub RunsInside : Type 0
+RunsInside = (text : List ℕ) (room : ℕ) (c : Case) → reading text room ≡ Read c → Held text room c

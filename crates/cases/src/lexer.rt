@@ -26,13 +26,17 @@ pub enum Token {
 }
 
 // The letters of the headings, a 1 to z 26, as digits in base 32.
-const TABLE: u64 = 21006725;
+const TABLE: u64 = (((20 * 32 + 1) * 32 + 2) * 32 + 12) * 32 + 5; // t a b l e
 
-const VALUES: u64 = 739660979;
+const VALUES: u64 = ((((22 * 32 + 1) * 32 + 12) * 32 + 21) * 32 + 5) * 32 + 19; // v a l u e s
 
-const CELLS: u64 = 3322259;
+const CELLS: u64 = (((3 * 32 + 5) * 32 + 12) * 32 + 12) * 32 + 19; // c e l l s
 
-const ALLOWANCE: u64 = 1525240871013;
+const ALLOWANCE: u64 = (((((((1 * 32 + 12) * 32 + 12) * 32 + 15) * 32 + 23) * 32 + 1) * 32 + 14)
+    * 32
+    + 3)
+    * 32
+    + 5; // a l l o w a n c e
 
 // A word that is none of lower-case letters alone, or longer than eleven.
 const OTHER: u64 = 1152921504606846976;

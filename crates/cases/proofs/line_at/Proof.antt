@@ -4,7 +4,6 @@ use mathlib.Core.List.{List}
 use lib.ListN.{length, take, getD}
 use Rattle.cases.specs.Reading.{feeds}
 use Rattle.cases.proofs.Lines.{Lined, lined-none, lined-more, lined-all, feed-most, take-lower, lower-most}
-use borrow.Author.Needs.{needs}
 use native.Mathlib.Omega.{arith}
 use Rattle.cases.proofs.line_at.Statement.{statement}
 use Rattle.cases.proofs.line_at.Tie as tie
@@ -50,10 +49,10 @@ line-at-spec =
     (tie.spec
     Inv-loop
     μ-loop
-    (λ c κs. search needs)
+    (λ c κs. tt)
     loop-holds
     shared-slice-read-feed
-    (λ c κs. search needs)
+    (λ c κs. tt)
     add-line
     (λ c. omega arith)
     (λ c. omega arith)

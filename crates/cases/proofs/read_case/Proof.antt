@@ -36,4 +36,4 @@ returns c =
 pub read-case-spec : {M : Type 1} → statement M
 read-case-spec =
     tie.close
-    (tie.spec (λ c κs. search needs) slice-aggregate-read-within read-within-requires (λ c. search needs) returns)
+    (tie.spec (λ c κs. tt) slice-aggregate-read-within read-within-requires (λ c. search needs) returns)

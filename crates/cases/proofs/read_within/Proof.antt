@@ -15,28 +15,36 @@ use Rattle.cases.proofs.read_within.Tie as tie
 returns : tie.Need-returns
 returns c =
     let a = c .before .before .before .before .before .before .before .before .args in
-    let is = c .before .before .before .before .parse .ensures ∙ ap (λ (k : ℕ). parse k 0 start (lex (a .whole) fresh (a .text .now))) (c .before .before .before .before .before .capped .ensures) in
-    (unread-is (a .text .now) (a .whole) (length (a .numbers .now)) (c .before .before .before .before .parse .result) is (c .before .before .before .ended .result) (c .before .before .before .ended .ensures) (c .before .before .if1 .taken) (c .before .fault-at .result) (c .before .fault-at .ensures) (c .line-at .result) (c .line-at .ensures), (refl, tt))
+    let q = c .before .before .before .before .parse in
+    let d = c .before .before .before .ended in
+    let f = c .before .fault-at in
+    let is = q .ensures ∙ ap (λ (k : ℕ). parse k 0 start (lex (a .whole) fresh (a .text .now))) (c .before .before .before .before .before .capped .ensures) in (
+      unread-is (a .text .now) (a .whole) (length (a .numbers .now)) (q .result) is (d .result) (d .ensures) (c .before .before .if1 .taken) (f .result) (f .ensures) (c .line-at .result) (c .line-at .ensures),
+      (refl, tt),
+    )
 
 write-requires : tie.Need-write-requires
 write-requires c κs =
     let a = c .before .before .before .before .before .before .before .args in
     let k = c .before .before .before .before .capped in
-    omega (arith, held (k .result) (lex (a .whole) fresh (a .text .now)) (c .before .before .before .parse .result) (c .before .before .before .parse .ensures) (a .whole) (sym (c .before .before .ended .ensures) ∙ c .before .if1 .left), k .ensures, capped-most (length (a .numbers .now)))
+    let q = c .before .before .before .parse in
+    omega (arith, held (k .result) (lex (a .whole) fresh (a .text .now)) (q .result) (q .ensures) (a .whole) (sym (c .before .before .ended .ensures) ∙ c .before .if1 .left), k .ensures, capped-most (length (a .numbers .now)))
 
 returns-2 : tie.Need-returns-2
 returns-2 c =
     let a = c .before .before .before .before .before .before .before .before .before .before .before .args in
     let k = c .before .before .before .before .before .before .before .before .capped in
+    let q = c .before .before .before .before .before .before .before .parse in
+    let d = c .before .before .before .before .before .before .ended in
     let n = length (a .numbers .now) in
-    let is = c .before .before .before .before .before .before .before .parse .ensures ∙ ap (λ (k : ℕ). parse k 0 start (lex (a .whole) fresh (a .text .now))) (c .before .before .before .before .before .before .before .before .capped .ensures) in
     let tokens = lex (a .whole) fresh (a .text .now) in
-    let none = sym (c .before .before .before .before .before .before .ended .ensures) ∙ c .before .before .before .before .before .if1 .left in
-    let enough = held (k .result) tokens (c .before .before .before .before .before .before .before .parse .result) (c .before .before .before .before .before .before .before .parse .ensures) (a .whole) none in (
-      read-is (a .text .now) (a .whole) n (c .before .before .before .before .before .before .before .parse .result) is (c .before .before .before .before .before .before .ended .result) (c .before .before .before .before .before .before .ended .ensures) (c .before .before .before .before .before .if1 .left) (c .case-of .result) (c .case-of .ensures),
+    let is = q .ensures ∙ ap (λ (limit : ℕ). parse limit 0 start tokens) (k .ensures) in
+    let none = sym (d .ensures) ∙ c .before .before .before .before .before .if1 .left in
+    let enough = held (k .result) tokens (q .result) (q .ensures) (a .whole) none in (
+      read-is (a .text .now) (a .whole) n (q .result) is (d .result) (d .ensures) (c .before .before .before .before .before .if1 .left) (c .case-of .result) (c .case-of .ensures),
       (
         c .before .before .before .write .ensures,
-        subst (λ (x : Case). Placed x n) (sym (c .case-of .ensures)) (placed (k .result) tokens (c .before .before .before .before .before .before .before .parse .result) (c .before .before .before .before .before .before .before .parse .ensures) (a .whole) none n (omega (arith, enough, k .ensures, capped-most n))),
+        subst (λ (x : Case). Placed x n) (sym (c .case-of .ensures)) (placed (k .result) tokens (q .result) (q .ensures) (a .whole) none n (omega (arith, enough, k .ensures, capped-most n))),
       ),
     )
 
@@ -44,13 +52,13 @@ pub read-within-spec : {M : Type 1} → statement M
 read-within-spec =
     tie.close
     (tie.spec
-    (λ c κs. search needs)
-    (λ c κs. search needs)
-    (λ c κs. search needs)
-    (λ c κs. search needs)
-    (λ c κs. search needs)
+    (λ c κs. tt)
+    (λ c κs. tt)
+    (λ c κs. tt)
+    (λ c κs. tt)
+    (λ c κs. c .before .before .before .before .before .before .before .pre)
     returns
     write-requires
-    (λ c κs. search needs)
+    (λ c κs. tt)
     (λ c. search needs)
     returns-2)

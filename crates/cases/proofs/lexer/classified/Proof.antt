@@ -19,4 +19,4 @@ returns-3 c =
     rw (not-false (c .before .before .before .before .args .l .digits) (c .before .before .if1 .left), le-ltb _ _ (c .if2 .left))
 
 pub classified-spec : {M : Type 1} → statement M
-classified-spec = tie.close (tie.spec (λ c κs. search needs) returns (λ c. search needs) returns-2 returns-3)
+classified-spec = tie.close (tie.spec (λ c κs. tt) returns (λ c. search needs) returns-2 returns-3)

@@ -1,7 +1,6 @@
 use mathlib.Core.Path.{sym, _∙_}
 use borrow.Author.Tests.{eq-eqb, ne-eqb}
 use Rattle.cases.specs.Lexing.{lexed}
-use borrow.Author.Needs.{needs}
 use Rattle.cases.proofs.lexer.lexed.Statement.{statement}
 use Rattle.cases.proofs.lexer.lexed.Tie as tie
 
@@ -32,13 +31,13 @@ pub lexed-spec : {M : Type 1} → statement M
 lexed-spec =
     tie.close
     (tie.spec
-    (λ c κs. search needs)
+    (λ c κs. tt)
     returns
     returns-2
-    (λ c κs. search needs)
+    (λ c κs. tt)
     returns-3
-    (λ c κs. search needs)
-    (λ c κs. search needs)
+    (λ c κs. tt)
+    (λ c κs. tt)
     returns-4
-    (λ c κs. search needs)
+    (λ c κs. tt)
     returns-5)

@@ -36,4 +36,4 @@ returns-2 c =
 pub next-value-spec : {M : Type 1} → statement M
 next-value-spec =
     tie.close
-    (tie.spec (λ c κs. search needs) mul-result sub-result (λ c. search needs) add-result returns returns-2)
+    (tie.spec (λ c κs. tt) mul-result sub-result (λ c. search needs) add-result returns returns-2)

@@ -1,5 +1,4 @@
 use Rattle.cases.specs.Parsing.{ended}
-use borrow.Author.Needs.{needs}
 use Rattle.cases.proofs.parser.ended.Statement.{statement}
 use Rattle.cases.proofs.parser.ended.Tie as tie
 
@@ -12,11 +11,11 @@ pub ended-spec : {M : Type 1} → statement M
 ended-spec =
     tie.close
     (tie.spec
-    (λ c κs. search needs)
-    (λ c κs. search needs)
-    (λ c κs. search needs)
-    (λ c κs. search needs)
-    (λ c κs. search needs)
-    (λ c κs. search needs)
-    (λ c κs. search needs)
+    (λ c κs. tt)
+    (λ c κs. tt)
+    (λ c κs. tt)
+    (λ c κs. tt)
+    (λ c κs. tt)
+    (λ c κs. tt)
+    (λ c κs. tt)
     returns)

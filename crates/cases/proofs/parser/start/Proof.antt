@@ -1,4 +1,3 @@
-use borrow.Author.Needs.{needs}
 use Rattle.cases.proofs.parser.start.Statement.{statement}
 use Rattle.cases.proofs.parser.start.Tie as tie
 
@@ -8,4 +7,4 @@ returns c =
 
 pub start-spec : {M : Type 1} → statement M
 start-spec =
-    tie.close (tie.spec (λ c κs. search needs) (λ c κs. search needs) (λ c κs. search needs) (λ c κs. search needs) returns)
+    tie.close (tie.spec (λ c κs. tt) (λ c κs. tt) (λ c κs. tt) (λ c κs. tt) returns)

@@ -4,7 +4,6 @@ use lib.ListN.{length}
 use Rattle.cases.specs.Lexing.{fresh, lex}
 use Rattle.cases.specs.Numbers.{put}
 use Rattle.cases.proofs.Writing.{Written, written-none, written-more, written-all, written, length-put}
-use borrow.Author.Needs.{needs}
 use native.Mathlib.Omega.{arith}
 use Rattle.cases.proofs.room.write.Statement.{statement}
 use Rattle.cases.proofs.room.write.Tie as tie
@@ -49,16 +48,16 @@ write-spec =
     (tie.spec
     Inv-loop
     μ-loop
-    (λ c κs. search needs)
+    (λ c κs. tt)
     loop-holds
     (λ c. omega arith)
-    (λ c κs. search needs)
-    (λ c κs. search needs)
-    (λ c κs. search needs)
+    (λ c κs. tt)
+    (λ c κs. tt)
+    (λ c κs. tt)
     (λ c. omega arith)
     (λ c. omega arith)
     loop-again
-    (λ c κs. search needs)
-    (λ c κs. search needs)
+    (λ c κs. tt)
+    (λ c κs. tt)
     same-length
     returns)

@@ -5,3 +5,4 @@ pub mod Writing
 pub mod Totals
 pub mod Answers
 pub mod Inside
+pub mod Samples

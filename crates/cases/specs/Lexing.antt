@@ -20,7 +20,7 @@ commenting = record { comment = true; token = false; digits = true; value = 0; w
 abbrev pub nextValue : ℕ → ℕ → ℕ
 nextValue value b = cond (digit b && ltb value 4294967296) (value * 10 + (b - 48)) value
 
--- a word with one letter more, a 1 to z 26: up to eleven lower-case letters it is a number of its own in base 32, and every other
+-- a word with one letter more, a 1 to z 26: up to twelve lower-case letters it is a number of its own in base 32, and every other
 -- word is 2^60
 abbrev pub nextWord : ℕ → ℕ → ℕ
 nextWord word b = cond (letter b && ltb word 36028797018963968) (word * 32 + (b - 96)) 1152921504606846976

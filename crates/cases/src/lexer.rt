@@ -32,13 +32,11 @@ const VALUES: u64 = ((((22 * 32 + 1) * 32 + 12) * 32 + 21) * 32 + 5) * 32 + 19; 
 
 const CELLS: u64 = (((3 * 32 + 5) * 32 + 12) * 32 + 12) * 32 + 19; // c e l l s
 
-const ALLOWANCE: u64 = (((((((1 * 32 + 12) * 32 + 12) * 32 + 15) * 32 + 23) * 32 + 1) * 32 + 14)
-    * 32
-    + 3)
-    * 32
-    + 5; // a l l o w a n c e
+const ALLOW: u64 = (((1 * 32 + 12) * 32 + 12) * 32 + 15) * 32 + 23; // a l l o w
 
-// A word that is none of lower-case letters alone, or longer than eleven.
+const ALLOWANCE: u64 = (((ALLOW * 32 + 1) * 32 + 14) * 32 + 3) * 32 + 5; // and a n c e
+
+// Every word that has another byte than lower-case letters, or over twelve of them.
 const OTHER: u64 = 1152921504606846976;
 
 pub fn fresh() -> Lexer

@@ -2,15 +2,15 @@
 -- variable or blames a term beneath it.
 -- Assumes nothing.
 use mathlib.Core.Path.{_≡_, refl, sym, ap, ap₂, subst, _∙_}
-use mathlib.Core.Bool.{Bool, true, false, cond, not, _&&_, _||_}
+use mathlib.Core.Bool.{Bool, true, false, cond, not, _&&_}
 use mathlib.Core.List.{List}
-use mathlib.Core.Logic.{_⊎_, inl, inr, ⊎-elim}
-use Prim.Native.Nat.{ℕ, zero, suc, pred, _≤_, _<_}
+use mathlib.Core.Logic.{inl, inr, ⊎-elim}
+use Prim.Native.Nat.{ℕ, zero, suc, pred, _<_}
 use native.Mathlib.Nat.{not-suc-le-zero}
 use native.Mathlib.Omega.{arith}
 use lib.Dec.{eqb, ltb, leb}
 use lib.ListN.{getD}
-use borrow.Author.Tests.{ltb-true, lt-ltb, eqb-true, not-false}
+use borrow.Author.Tests.{ltb-true, lt-ltb, not-false}
 use Rattle.ops.specs.declared.Op.{Op}
 use Rattle.ops.specs.declared.Op.the-variants.{Constant, Variable, Not, And, Or, Implies, Equal, Ite, BvNot, BvAnd, BvOr, BvAdd, BvMul, BvShl, BvUlt, Select, Store, Unknown}
 use Rattle.ops.specs.Numbers.{opOf}
@@ -24,10 +24,9 @@ use Rattle.table.specs.declared.words.Term.{Term}
 use Rattle.table.specs.Terms.{terms, termAt, sortAt, boolean, vector, scalar, array, vectorOf, sameSort}
 use Rattle.table.specs.Ranks.{rankOf, fieldsOf, slotted, writes}
 use Rattle.table.specs.Faults.{rank, variable, storing, typedAs}
-use Rattle.table.specs.WellFormed.{Sound, WellFormed}
-use Rattle.table.proofs.SoundTerms.{store-below}
+use Rattle.table.specs.WellFormed.{WellFormed}
 use Rattle.setting.specs.Interpretation.{Value, Interpretation}
-use Rattle.evaluate.specs.Values.{valueIn, values, valueAt, numbers}
+use Rattle.evaluate.specs.Values.{valueIn, values, numbers}
 use Rattle.evaluate.proofs.Folds.{value-below, number-in}
 use Rattle.evaluate.proofs.Meaning.{same-array}
 use Rattle.evaluate.proofs.Operands.{isKnown, not-array, boolean-scalar, vector-scalar, same-sort, three, four, array-op, op-at, typing, typing-as, placing-as, two-placed, three-placed}
@@ -37,7 +36,7 @@ use Rattle.judge.proofs.Alike.{condition-below}
 use Rattle.judge.proofs.Meaning.{truth-in}
 use Rattle.explain.specs.declared.answers.Blame.{Blame}
 use Rattle.explain.specs.declared.answers.Culprit.{Culprit}
-use Rattle.explain.specs.declared.answers.Culprit.the-variants.{Index, Stored, Variable as Beneath-all}
+use Rattle.explain.specs.declared.answers.Culprit.the-variants.{Index, Stored, Variable as Input-array}
 use Rattle.explain.specs.Chains.{stacked, passed, culpritHere, culpritAt, termOf}
 use Rattle.explain.specs.Blames.{one, two, listed, unfree, pickedOf, readOf, suspectsBy, suspectsOf, blameAt}
 use Rattle.explain.specs.Ways.{onWay, wayOf}
@@ -177,7 +176,7 @@ module _ (limit : ℕ) (w : List ℕ) (I : Interpretation) (f : WellFormed limit
           let at-j : K a .readFree j true ≡ not (ownMarks x) && true = ap (λ (o : Op). conditionBy ownMarks v co (sortAt w (x .p) .n) x o .readFree j true) e in
           led-here a
           (ap (λ (z : Bool). (z && ltb (x .p) a) && truthIn ts (x .q) && not (eqb (getD vs (x .q) 0) j)) no)
-          (ap (λ (z : Bool). termOf (cond (z && ltb (x .p) a) (cond (truthIn ts (x .q)) (Stored (record { store = a; term = x .r })) (Index (record { store = a; term = x .q }))) (Beneath-all a))) no)
+          (ap (λ (z : Bool). termOf (cond (z && ltb (x .p) a) (cond (truthIn ts (x .q)) (Stored (record { store = a; term = x .r })) (Index (record { store = a; term = x .q }))) (Input-array a))) no)
           (record { below = c; no-store = no; unfree = truth-at a (omega arith) ∙ own ∙ sym (and-open (not (ownMarks x))) ∙ sym at-j ∙ h })
 
       module _ (e : opOf (x .op) ≡ Store) (pb : x .p < a) (qb : x .q < a) (rb : x .r < a) (qs : scalar (sortAt w (x .q)) ≡ true) (rs : scalar (sortAt w (x .r)) ≡ true)
@@ -204,7 +203,7 @@ module _ (limit : ℕ) (w : List ℕ) (I : Interpretation) (f : WellFormed limit
         passing cq hit tq th = λ i. (stacks i && tq i) && not (th i)
 
         at-culprit : (cq : Bool) → truthIn ts (x .q) ≡ cq → termOf (culpritHere w ts a) ≡ termOf (cond cq (Stored (record { store = a; term = x .r })) (Index (record { store = a; term = x .q })))
-        at-culprit cq tq = λ i. termOf (cond (stacks i) (cond (tq i) (Stored (record { store = a; term = x .r })) (Index (record { store = a; term = x .q }))) (Beneath-all a))
+        at-culprit cq tq = λ i. termOf (cond (stacks i) (cond (tq i) (Stored (record { store = a; term = x .r })) (Index (record { store = a; term = x .q }))) (Input-array a))
 
         led-store : (cq hit : Bool) → truthIn ts (x .q) ≡ cq → eqb (getD vs (x .q) 0) j ≡ hit → chosen (cq && true) hit (truthIn ts (x .r)) (K (x .p) .readFree j true) same ≡ false → Led a
         led-store false hit tq th h = led-here (x .q) (passing false hit tq th) (at-culprit false tq) (beneath k (x .q) b (omega arith) qs tq)

@@ -3,7 +3,7 @@
 use mathlib.Core.Path.{_≡_, refl, sym, ap, ap₂, subst, _∙_}
 use mathlib.Core.Bool.{Bool, true, false, cond, not, _&&_}
 use mathlib.Core.List.{List, [], _∷_}
-use mathlib.Core.Logic.{_⊎_, inl, inr, ⊎-elim}
+use mathlib.Core.Logic.{⊎-elim}
 use Prim.Native.Nat.{ℕ, zero, suc, pred, _≤_, _<_}
 use native.Mathlib.Decide.{ℕ-discrete}
 use native.Mathlib.Nat.{not-suc-le-zero, le-of-suc-le-suc}
@@ -14,13 +14,11 @@ use borrow.Author.Tests.{lt-ltb, ltb-true, not-true}
 use Rattle.ops.specs.Meaning.{holds}
 use Rattle.ops.proofs.Booleans.{never, and-parts}
 use Rattle.table.specs.Terms.{terms}
-use Rattle.table.specs.WellFormed.{WellFormed}
-use Rattle.setting.specs.Interpretation.{Interpretation}
 use Rattle.judge.specs.Readings.{truthIn}
 use Rattle.explain.specs.declared.answers.Blame.{Blame}
 use Rattle.explain.specs.Blames.{blameAt}
 use Rattle.explain.specs.Ways.{marked, onWay, blamed, lookedAt, wayDown, begun, wayOf}
-use Rattle.explain.specs.Laws.{Beneath, GoesOn, Whole, WayIsWhole}
+use Rattle.explain.specs.Laws.{Whole, WayIsWhole}
 use Rattle.explain.proofs.Marks.{zeros, set-one, Both, All, all-marked, all-blamed, all-way}
 use Rattle.explain.proofs.Causes.{vs, ts, Way, goes-from, onto, rule-way}
 

@@ -3,3 +3,4 @@ pub mod Chains
 pub mod Blames
 pub mod Ways
 pub mod Laws
+pub mod Bench

@@ -1,5 +1,5 @@
 use mathlib.Core.Path.{_≡_, refl, sym, ap, subst, _∙_}
-use Prim.Native.Nat.{ℕ, _<_}
+use Prim.Native.Nat.{_<_}
 use borrow.Author.Needs.{needs}
 use Rattle.table.specs.declared.words.Term.{Term}
 use Rattle.explain.specs.Chains.{culpritAt}
@@ -39,4 +39,8 @@ returns c =
     ∙ l .inv
 
 pub culprit-spec : {M : Type 1} → statement M
-culprit-spec = tie.close (tie.spec Inv-loop μ-loop (λ c. refl) (λ c κs. search needs) (λ c κs. search needs) loop-less loop-again (λ c κs. search needs) returns)
+culprit-spec =
+    tie.close
+    (tie.spec
+    Inv-loop μ-loop (λ c. refl) (λ c κs. search needs) (λ c κs. search needs) loop-less
+    loop-again (λ c κs. search needs) returns)

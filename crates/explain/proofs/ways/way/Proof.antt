@@ -1,4 +1,4 @@
-use mathlib.Core.Path.{_≡_, ap, _∙_}
+use mathlib.Core.Path.{_≡_, _∙_}
 use native.Mathlib.Omega.{arith}
 use Rattle.explain.specs.Ways.{wayDown, wayOf}
 use Rattle.explain.proofs.Downward.{down-one, down-none}
@@ -30,4 +30,8 @@ returns c =
     down-none (s .table .now) (s .values .now) (s .truths .now) (l .k) (l .marks) (omega (arith, c .loop-test .left)) ∙ l .inv
 
 pub way-spec : {M : Type 1} → statement M
-way-spec = tie.close (tie.spec Inv-loop μ-loop (λ c κs. search needs) (λ c κs. search needs) (λ c κs. search needs) loop-holds (λ c. omega arith) (λ c κs. search needs) (λ c. omega arith) loop-again returns)
+way-spec =
+    tie.close
+    (tie.spec
+    Inv-loop μ-loop (λ c κs. search needs) (λ c κs. search needs) (λ c κs. search needs) loop-holds
+    (λ c. omega arith) (λ c κs. search needs) (λ c. omega arith) loop-again returns)

@@ -1,0 +1,176 @@
+// Why a term is not free: which operand is not, and what would have settled the term all the same.
+ghost use mathlib.Core.Path.{_≡_};
+ghost use Rattle.cli.specs.Settling.{settlingValue};
+use crate::operators::say_name;
+use crate::operators::say_operator;
+use crate::print::say;
+use crate::print::say_of;
+use crate::print::say_term;
+use crate::print::say_value;
+use explain::Blame;
+use explain::Culprit;
+use explain::Operand;
+use setting::number_at;
+use table::Term;
+
+// The one or two operands that are not free.
+fn say_unfree(blame: Blame) {
+    say_term(blame.first);
+    if 1 < blame.count {
+        say_of(b" and ", blame.second, b" are not free.\n");
+    } else {
+        say(b" is not free.\n");
+    }
+}
+
+// The value of the first or second operand that settles an operator; of a shift the least.
+fn settling(op: u32, second: bool, width: u32) -> u32
+    ensures { λ r. ⌜ r ≡ settlingValue op second width ⌝ }
+{
+    if (op == 10) & (width <= 32) {
+        return ops::ones(width);
+    }
+    ops::ite(op == 13, width, ops::bit((op == 4) | ((op == 5) & second)))
+}
+
+fn say_settling(x: Term, second: bool, width: u32) {
+    say_value((2 < x.op) & (x.op < 6), settling(x.op, second, width));
+    if x.op == 13 {
+        say(b" or more");
+    }
+}
+
+// What an operand would have done.
+fn say_operand(x: Term, second: bool, width: u32, k: u32, value: u32, state: Operand) {
+    let boolean = (2 < x.op) & (x.op < 6);
+    say_of(b"    ", k, b" is ");
+    match state {
+        Operand::Settles => say_value(boolean, value),
+        Operand::Free => {
+            say(b"free, but it is ");
+            say_value(boolean, value);
+            say(b": a free ");
+            say_settling(x, second, width);
+            say(b" would have settled it");
+        }
+        Operand::Unfree => {
+            say_value(boolean, value);
+            say(b", and not free: a free ");
+            say_settling(x, second, width);
+            say(b" would have settled it");
+        }
+        Operand::WouldSettle => {
+            say_value(boolean, value);
+            say(b", but not free: only a free ");
+            say_settling(x, second, width);
+            say(b" settles it");
+        }
+    }
+    say(b".\n");
+}
+
+// What each operand of an operator with two would have done. No value of a shift's first operand settles it.
+fn say_operands(table: &[u32], values: &[u32], truths: &[u32], x: Term) {
+    let width = table::sort_at(table, x.p).n;
+    if x.op != 13 {
+        let first = explain::operand_state(table, values, truths, x, false);
+        say_operand(x, false, width, x.p, number_at(values, x.p), first);
+    }
+    let second = explain::operand_state(table, values, truths, x, true);
+    say_operand(x, true, width, x.q, number_at(values, x.q), second);
+}
+
+// An operator on numbers.
+fn say_operation(table: &[u32], values: &[u32], truths: &[u32], x: Term, blame: Blame) {
+    say_unfree(blame);
+    if (x.op == 2) | (x.op == 8) {
+        say(b"    A free operand would have settled it.\n");
+    } else if (x.op == 6) | (x.op == 11) | (x.op == 14) {
+        say(b"    No value of one operand settles ");
+        say_name(x.op);
+        say(b": both must be free.\n");
+    } else {
+        say_operands(table, values, truths, x);
+    }
+}
+
+// A branch of a choice: its value, and whether it is free.
+fn say_branch(k: u32, boolean: bool, value: u32, truth: u32) {
+    say_term(k);
+    say(b" is ");
+    say_value(boolean, value);
+    if truth == 1 {
+        say(b" and free");
+    } else {
+        say(b" and not free");
+    }
+}
+
+fn say_branches(values: &[u32], truths: &[u32], x: Term) {
+    let boolean = x.sort.n == 0;
+    say(b"    ");
+    say_branch(x.q, boolean, number_at(values, x.q), number_at(truths, x.q));
+    say(b", ");
+    say_branch(x.r, boolean, number_at(values, x.r), number_at(truths, x.r));
+    say(b".\n");
+}
+
+fn say_choice(values: &[u32], truths: &[u32], x: Term, blame: Blame) {
+    if number_at(truths, x.p) == 1 {
+        say_of(b"the test ", x.p, b" picks ");
+        say_of(b"", blame.first, b", which is not free.\n");
+        say_of(b"    A free ", blame.first, b" would have settled it.\n");
+    } else {
+        say_of(b"", x.p, b", the test, is not free.\n");
+        say(b"    Branches free and equal would have settled it:\n");
+        say_branches(values, truths, x);
+    }
+}
+
+// A read at a free index, by its culprit.
+fn say_culprit(culprit: Culprit) {
+    match culprit {
+        Culprit::Index(held) => {
+            say_of(b"", held.term, b", the index of store ");
+            say_of(b"", held.store, b", is not free.\n");
+            say(b"    Its value free and equal to a free value beneath would have settled it.\n");
+        }
+        Culprit::Stored(held) => {
+            say_of(b"", held.term, b", which store ");
+            say_of(b"", held.store, b" holds there, is not free.\n");
+            say_of(b"    A free ", held.term, b" would have settled it.\n");
+        }
+        Culprit::Variable(v) => {
+            say_of(b"", v, b", the array beneath, is marked.\n");
+            say(b"    A free value stored at this index would have settled it.\n");
+        }
+    }
+}
+
+fn say_read(table: &[u32], values: &[u32], truths: &[u32], x: Term) {
+    if number_at(truths, x.q) == 1 {
+        say_culprit(explain::culprit(table, values, truths, x.p, number_at(values, x.q)));
+    } else {
+        say_of(b"", x.q, b", the index, is not free.\n");
+        say(b"    Nothing settles a read at an index that is not free.\n");
+    }
+}
+
+// A term on the way, which is a variable, an operator or a read.
+pub fn say_reason(table: &[u32], values: &[u32], truths: &[u32], k: u32) {
+    let x = table::term_at(table, k);
+    say_term(k);
+    say(b" ");
+    say_operator(x);
+    say(b": ");
+    let blame = explain::blame(table, values, truths, k);
+    if x.op == 1 {
+        say(b"this input is marked.\n");
+    } else if x.op == 7 {
+        say_choice(values, truths, x, blame);
+    } else if x.op == 15 {
+        say_read(table, values, truths, x);
+    } else {
+        say_operation(table, values, truths, x, blame);
+    }
+}

@@ -76,7 +76,7 @@ pub fn ready(
     ensures { λ r. ⌜ r ≡ ready limit (now (table .entry)) (now (values .entry)) (now (cells .entry)) each allowance room ⌝ }
 {
     let nothing = Evaluation::Evaluated(Spent { steps: 0, left: 0 });
-    let admitted = table::admit_within(table, limit);
+    let admitted = admission::admit_within(table, limit);
     if !admits(admitted) {
         return and_then(admitted, nothing);
     }

@@ -15,7 +15,7 @@ fn steps_of(table: &[u32], x: Term) -> u32
     ensures { λ r. ⌜ r ≡ stepsOf (now (table .entry)) x ⌝ }
 {
     if table::reading(x) {
-        table::chain(table, x.p)
+        admission::chain(table, x.p)
     } else {
         0
     }

@@ -27,12 +27,12 @@ fn show(name: &[u8], answer: Admission) {
 
 // A table of two terms, the second a Boolean constant.
 fn first_term(name: &[u8], op: u32, m: u32, n: u32, p: u32, q: u32, r: u32) {
-    show(name, table::admit(&as_first(op, m, n, p, q, r)));
+    show(name, admission::admit(&as_first(op, m, n, p, q, r)));
 }
 
 // A table of four: a Boolean, a vector of width 8 and an array (8, 8), all unmarked, then the term given.
 fn fourth_term(name: &[u8], op: u32, m: u32, n: u32, p: u32, q: u32, r: u32) {
-    show(name, table::admit(&as_fourth(op, m, n, p, q, r)));
+    show(name, admission::admit(&as_fourth(op, m, n, p, q, r)));
 }
 
 // A count of stores, read at the constant.
@@ -42,13 +42,13 @@ fn read_of_stores(name: &[u8], table: &mut [u32], count: u32)
     put_stores(table, count);
     put(table, count + 2, 15, 0, 8, count + 1, 0, 0);
     put(table, count + 3, 6, 0, 0, count + 2, 0, 0);
-    show(name, table::admit(table));
+    show(name, admission::admit(table));
 }
 
 // Rules G and H; 16 stores and a 17th.
 pub fn bench() {
-    show(b"rule G", table::admit(&rule_g()));
-    show(b"rule H", table::admit(&rule_h()));
+    show(b"rule G", admission::admit(&rule_g()));
+    show(b"rule H", admission::admit(&rule_h()));
     let mut sixteen = [0u32; 120];
     read_of_stores(b"16 stores, read", &mut sixteen, 16);
     let mut seventeen = [0u32; 126];
@@ -60,26 +60,29 @@ pub fn marks() {
     let mut twice = [0u32; 12];
     put(&mut twice, 0, 1, 0, 0, 3, 0, 0);
     put(&mut twice, 1, 1, 0, 0, 3, 1, 0);
-    show(b"one slot both marked and unmarked", table::admit(&twice));
+    show(
+        b"one slot both marked and unmarked",
+        admission::admit(&twice),
+    );
 }
 
 // 1 and 2: the table's length.
 pub fn lengths() {
-    show(b"no number", table::admit(&[]));
-    show(b"seven numbers", table::admit(&[0, 0, 0, 0, 0, 0, 0]));
-    show(b"512 terms", table::admit(&[0u32; 3072]));
-    show(b"513 terms", table::admit(&[0u32; 3078]));
+    show(b"no number", admission::admit(&[]));
+    show(b"seven numbers", admission::admit(&[0, 0, 0, 0, 0, 0, 0]));
+    show(b"512 terms", admission::admit(&[0u32; 3072]));
+    show(b"513 terms", admission::admit(&[0u32; 3078]));
 }
 
 // 2: the longest table of evaluate, and one term more.
 pub fn evaluate_lengths() {
     show(
         b"80,000 terms, for evaluate",
-        table::admit_within(&[0u32; 480000], 80000),
+        admission::admit_within(&[0u32; 480000], 80000),
     );
     show(
         b"80,001 terms, for evaluate",
-        table::admit_within(&[0u32; 480006], 80000),
+        admission::admit_within(&[0u32; 480006], 80000),
     );
 }
 
@@ -126,7 +129,7 @@ pub fn values() {
 
 // A Boolean variable of slot 3, then a term, then a Boolean variable of slot 3.
 fn middle_term(name: &[u8], op: u32, n: u32, q: u32, mark: u32) {
-    show(name, table::admit(&between(op, n, q, mark)));
+    show(name, admission::admit(&between(op, n, q, mark)));
 }
 
 // 8: one slot, another sort or mark. It is merged with the other refusals by place.
@@ -145,15 +148,15 @@ pub fn early_clash() {
     put(&mut table, 0, 1, 0, 0, 3, 0, 0);
     put(&mut table, 1, 1, 0, 0, 3, 1, 0);
     put(&mut table, 2, 17, 0, 0, 0, 0, 0);
-    show(b"a clash, then op 17", table::admit(&table));
+    show(b"a clash, then op 17", admission::admit(&table));
 }
 
 // 9: every store counts, read or not.
 pub fn chains() {
     let mut sixteen = [0u32; 114];
     put_stores(&mut sixteen, 16);
-    show(b"16 stores, not read", table::admit(&sixteen));
+    show(b"16 stores, not read", admission::admit(&sixteen));
     let mut seventeen = [0u32; 120];
     put_stores(&mut seventeen, 17);
-    show(b"17 stores, not read", table::admit(&seventeen));
+    show(b"17 stores, not read", admission::admit(&seventeen));
 }

@@ -45,7 +45,7 @@ pub fn finish(table: &[u32], room: &mut [u32]) -> Finishing
         condition: 0,
         last: 0,
     });
-    let admitted = table::admit(table);
+    let admitted = admission::admit(table);
     if !evaluate::admits(admitted) {
         return and_then(admitted, nothing);
     }

@@ -24,7 +24,7 @@ fn size_of(table: &[u32], x: Term) -> u32
         Line::Ones => 8,
         Line::Shift => 6,
         Line::Choice => 6,
-        Line::Read => 1 + 9 * table::chain(table, x.p),
+        Line::Read => 1 + 9 * admission::chain(table, x.p),
         Line::Write => 0,
     }
 }

@@ -26,7 +26,7 @@ pub extern "C" fn hiranthok_admit(table: &[u32], answer: &mut [u64; 4]) -> u32
     ensures { λ r. ⌜ r ≡ admitted (admission (now (table .entry))) .number ⌝ }
     ensures { λ r. ⌜ now (answer .exit) ≡ row (admitted (admission (now (table .entry)))) ⌝ }
 {
-    deliver(replies::admitted(table::admit(table)), answer)
+    deliver(replies::admitted(admission::admit(table)), answer)
 }
 
 // terms, number of C(rule), last

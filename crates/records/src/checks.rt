@@ -91,7 +91,7 @@ pub fn ready(
     requires { ⌜ each ≤ 8 ⌝ }
     ensures { λ r. ⌜ r ≡ ready limit (now (table .entry)) (now (values .entry)) (now (cells .entry)) each allowance room ⌝ }
 {
-    let admitted = table::admit_within(table, limit);
+    let admitted = admission::admit_within(table, limit);
     let count = count_when(admitted, cells.len());
     let entries = entries_when(table, count);
     let checked = cells_checked(table, &entries, cells, count);

@@ -6,7 +6,6 @@ ghost use Rattle.table.specs.declared.ranks.Rank.the-variants.{BoolUnary
 ghost use Rattle.table.specs.declared.ranks.Fields.the-variants.{Value, Slot, One, Two, Three};
 ghost use Rattle.table.specs.Terms.{scalar};
 ghost use Rattle.table.specs.Faults.{placedAs, valuedAs, refuse, rankFault};
-use crate::faults::refuse;
 use crate::ranks::Rank;
 use crate::sorts::array;
 use crate::sorts::boolean;
@@ -16,6 +15,13 @@ use crate::sorts::vector;
 use crate::sorts::vector_of;
 use crate::words::Term;
 use crate::words::sort_in;
+
+// number unless ok, else rest.
+pub fn refuse(number: u32, ok: bool, rest: u32) -> u32
+    ensures { λ r. ⌜ r ≡ refuse number ok rest ⌝ }
+{
+    if ok { rest } else { number }
+}
 
 // One operand below term i, no other field.
 fn one(i: u32, x: Term) -> bool

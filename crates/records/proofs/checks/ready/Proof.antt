@@ -48,10 +48,10 @@ use Rattle.table.specs.Admission.{admissionWithin, scan}
 use Rattle.table.specs.WellFormed.{WellFormed}
 use Rattle.table.proofs.Admission as E
 use Rattle.table.proofs.Admission.Laws as E′
-use Rattle.table.proofs.admit_within as admit-within
-use Rattle.table.proofs.admit_within.Symbol as admit-within-def
-use Rattle.table.proofs.admit_within.Symbol.{name as #admit-within}
-use Rattle.table.proofs.admit_within.Met as admit-within-thm
+use Rattle.admission.proofs.admit_within as admit-within
+use Rattle.admission.proofs.admit_within.Symbol as admit-within-def
+use Rattle.admission.proofs.admit_within.Symbol.{name as #admit-within}
+use Rattle.admission.proofs.admit_within.Met as admit-within-thm
 use Rattle.setting.specs.declared.cells.Cell.{Cell}
 use Rattle.setting.specs.Arrays.{Entries}
 use Rattle.setting.specs.Check.{variableFault, cellFault}

@@ -1,8 +1,8 @@
 use Rattle.table.specs.Terms.{boolean}
 use mathlib.Core.Path.{sym, ap, _∙_}
 use borrow.Author.Needs.{needs}
-use Rattle.table.proofs.ended.Statement.{statement}
-use Rattle.table.proofs.ended.Tie as tie
+use Rattle.admission.proofs.ended.Statement.{statement}
+use Rattle.admission.proofs.ended.Tie as tie
 
 returns : tie.Need-returns
 returns c = rw (sym (c .before .boolean .ensures ∙ ap boolean (c .before .before .sort-at .ensures)) ∙ c .if1 .taken)

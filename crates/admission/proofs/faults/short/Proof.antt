@@ -1,10 +1,10 @@
 use mathlib.Core.Path.{sym, ap, _∙_}
 use borrow.Author.Tests.{not-true}
 use Rattle.table.specs.Faults.{storing}
 use Rattle.table.proofs.Chains.{chain-short}
 use borrow.Author.Needs.{needs}
-use Rattle.table.proofs.faults.short.Statement.{statement}
-use Rattle.table.proofs.faults.short.Tie as tie
+use Rattle.admission.proofs.faults.short.Statement.{statement}
+use Rattle.admission.proofs.faults.short.Tie as tie
 
 returns : tie.Need-returns
 returns c =

@@ -1,12 +1,12 @@
 use native.Mathlib.Omega.{arith}
 use Rattle.table.proofs.Admitted.{one-term}
 use Rattle.table.specs.Admission.{admissionWithin}
 use borrow.Author.Tests.{lt-ltb, le-ltb}
 use lib.ListN.{length}
 use mathlib.Core.Path.{_∙_}
 use borrow.Author.Needs.{needs}
-use Rattle.table.proofs.admit_within.Statement.{statement}
-use Rattle.table.proofs.admit_within.Tie as tie
+use Rattle.admission.proofs.admit_within.Statement.{statement}
+use Rattle.admission.proofs.admit_within.Tie as tie
 
 returns : tie.Need-returns
 unfolding admissionWithin

@@ -2,12 +2,12 @@
 ghost use mathlib.Core.Path.{_≡_};
 ghost use Prim.Native.Nat.{max, min, _*_, _≤_};
 ghost use lib.ListN.{length};
 ghost use Rattle.table.specs.Faults.{conflicts, claims, recalls, firstClash};
-use crate::ranks::variable;
-use crate::sorts::same_sort;
-use crate::words::Term;
-use crate::words::term_at;
-use crate::words::term_in;
+use table::Term;
+use table::same_sort;
+use table::term_at;
+use table::term_in;
+use table::variable;
 
 // One slot, and another sort or mark.
 fn conflicts(a: Term, x: Term) -> bool

@@ -4,11 +4,11 @@ use mathlib.Core.Bool.{true}
 use native.Mathlib.Omega.{arith}
 use borrow.Author.Needs.{needs}
 use borrow.Author.Tests.{not-true, not-false}
 use Rattle.table.specs.Faults.{chain, storing}
 use Rattle.table.specs.Terms.{termAt}
 use Rattle.table.proofs.Chains.{chain-more, chain-none, chain-full}
-use Rattle.table.proofs.faults.chain.Statement.{statement}
-use Rattle.table.proofs.faults.chain.Tie as tie
+use Rattle.admission.proofs.faults.chain.Statement.{statement}
+use Rattle.admission.proofs.faults.chain.Tie as tie
 
 abbrev Inv-loop : tie.InvT-loop
 Inv-loop table k at₀ count₀ at count = (count ≤ 17) × (chain 17 table k ≡ count + chain (17 - count) table at)

@@ -1,10 +1,10 @@
 use mathlib.Core.Path.{ap, _∙_}
 use borrow.Author.Needs.{needs}
 use Rattle.table.specs.declared.words.Term.{Term}
 use Rattle.table.specs.Faults.{conflicts}
 use Rattle.table.proofs.Slots.{recalls-some}
-use Rattle.table.proofs.clashes.recalls.Statement.{statement}
-use Rattle.table.proofs.clashes.recalls.Tie as tie
+use Rattle.admission.proofs.clashes.recalls.Statement.{statement}
+use Rattle.admission.proofs.clashes.recalls.Tie as tie
 
 returns-2 : tie.Need-returns-2
 returns-2 c =

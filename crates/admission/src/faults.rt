@@ -3,22 +3,16 @@ ghost use mathlib.Core.Path.{_≡_};
 ghost use Prim.Native.Nat.{_+_, _*_, _<_};
 ghost use lib.Dec.{leb};
 ghost use lib.ListN.{length};
 ghost use Rattle.table.specs.Terms.{termAt};
-ghost use Rattle.table.specs.Faults.{known, chain, refuse, faultIf};
-use crate::operands::rank_fault;
-use crate::ranks::rank_of;
-use crate::ranks::storing;
-use crate::sorts::sorted;
-use crate::words::Term;
-use crate::words::term_at;
-use crate::words::term_in;
-
-// number unless ok, else rest.
-pub fn refuse(number: u32, ok: bool, rest: u32) -> u32
-    ensures { λ r. ⌜ r ≡ refuse number ok rest ⌝ }
-{
-    if ok { rest } else { number }
-}
+ghost use Rattle.table.specs.Faults.{known, chain, faultIf};
+use table::Term;
+use table::rank_fault;
+use table::rank_of;
+use table::refuse;
+use table::sorted;
+use table::storing;
+use table::term_at;
+use table::term_in;
 
 // The stores from term k inward, counted up to 17.
 pub fn chain(table: &[u32], k: u32) -> u32

@@ -2,12 +2,12 @@ use Prim.Native.Nat.{pred, _+_, _-_, _≤_}
 use mathlib.Core.Path.{_≡_, ap, _∙_}
 use native.Mathlib.Omega.{arith}
 use borrow.Author.Needs.{needs}
 use Rattle.table.specs.Admission.{ended}
 use Rattle.table.specs.Faults.{fault}
 use Rattle.table.proofs.Scans.{stop, through}
 use Rattle.table.proofs.TermFaults.{Reached, begun-reached, here, on-reached}
-use Rattle.table.proofs.first_fault.Statement.{statement}
-use Rattle.table.proofs.first_fault.Tie as tie
+use Rattle.admission.proofs.first_fault.Statement.{statement}
+use Rattle.admission.proofs.first_fault.Tie as tie
 
 abbrev Inv-loop : tie.InvT-loop
 Inv-loop table terms clash i₀ i = Reached table terms clash (ended table (pred terms)) i

@@ -6,10 +6,10 @@ use borrow.Author.Needs.{needs}
 use borrow.Author.Count.{below-more}
 use borrow.Author.Tests.{not-true, not-false}
 use lib.ListN.{getD, set}
 use Rattle.table.specs.Faults.{claims, recalls}
 use Rattle.table.proofs.Slots.{Searched, started, entries, all-clean, one-passed, one-noted, one-found, low-slot}
-use Rattle.table.proofs.clashes.first_clash.Statement.{statement}
-use Rattle.table.proofs.clashes.first_clash.Tie as tie
+use Rattle.admission.proofs.clashes.first_clash.Statement.{statement}
+use Rattle.admission.proofs.clashes.first_clash.Tie as tie
 
 -- no entry below s that is the variable's own slot recalls a clash
 abbrev Inv-loop : tie.InvT-loop

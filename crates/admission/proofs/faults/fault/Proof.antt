@@ -1,14 +1,14 @@
 use mathlib.Core.Path.{_≡_, sym, ap, _∙_}
 use mathlib.Core.Bool.{true}
 use borrow.Author.Tests.{not-true, not-false}
 use Rattle.table.specs.declared.ranks.Rank.{Rank}
 use Rattle.table.specs.declared.words.Term.{Term}
 use Rattle.table.specs.Terms.{termAt}
 use Rattle.table.specs.Faults.{rank, known, sorted}
 use Rattle.table.proofs.FaultOrder.{ranked, refused-3, refused-4, refused-ranked, left-to-8}
 use borrow.Author.Needs.{needs}
-use Rattle.table.proofs.faults.fault.Statement.{statement}
-use Rattle.table.proofs.faults.fault.Tie as tie
+use Rattle.admission.proofs.faults.fault.Statement.{statement}
+use Rattle.admission.proofs.faults.fault.Tie as tie
 
 -- what the code tests of x is what the definition asks of term i
 

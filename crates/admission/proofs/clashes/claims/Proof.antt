@@ -1,6 +1,6 @@
 use borrow.Author.Needs.{needs}
-use Rattle.table.proofs.clashes.claims.Statement.{statement}
-use Rattle.table.proofs.clashes.claims.Tie as tie
+use Rattle.admission.proofs.clashes.claims.Statement.{statement}
+use Rattle.admission.proofs.clashes.claims.Tie as tie
 
 returns : tie.Need-returns
 returns c = rw (c .before .variable .ensures)

@@ -385,7 +385,7 @@ ready-spec 𝓤 H 𝓜 𝓖 𝓡 =
     entered 𝓤 H (tripleOf 𝓤 H (𝓖 .A) readying.signature (readying.spec 𝓤 H (𝓖 .A) (𝓜 .mem) (𝓡 .run)))
     (tables 𝓤 H 𝓜 𝓡 code.env .C) (tables 𝓤 H 𝓜 𝓡 code.env .Λ) #ready code.function (code.unfolded 𝓤 H 𝓜 𝓡)
     (meets 𝓤 H (𝓖 .A) (givenOf 𝓤 H 𝓜 𝓖) (𝓜 .mem) (𝓡 .run) (tablesOf 𝓤 H 𝓜 (tables 𝓤 H 𝓜 𝓡 code.env)) (record {
-      admit-within = cited 𝓤 H (AdmitWithin 𝓤 H (𝓖 .A) (𝓜 .mem) (𝓡 .run)) 𝓜 𝓡 code.env #admit-within admit-within-def.routine code.calls-table·admit-within (admit-within-thm.met 𝓤 H 𝓜 𝓖 𝓡);
+      admit-within = cited 𝓤 H (AdmitWithin 𝓤 H (𝓖 .A) (𝓜 .mem) (𝓡 .run)) 𝓜 𝓡 code.env #admit-within admit-within-def.routine code.calls-admission·admit-within (admit-within-thm.met 𝓤 H 𝓜 𝓖 𝓡);
       count-when = cited 𝓤 H (CountWhen 𝓤 H (𝓖 .A) (𝓜 .mem) (𝓡 .run)) 𝓜 𝓡 code.env #count-when count-when-def.routine code.calls-records·checks·count-when (count-when-thm.met 𝓤 H 𝓜 𝓖 𝓡);
       entries-when = cited 𝓤 H (EntriesWhen 𝓤 H (𝓖 .A) (𝓜 .mem) (𝓡 .run)) 𝓜 𝓡 code.env #entries-when entries-when-def.routine code.calls-records·checks·entries-when (entries-when-thm.met 𝓤 H 𝓜 𝓖 𝓡);
       cells-checked = cited 𝓤 H (CellsChecked 𝓤 H (𝓖 .A) (𝓜 .mem) (𝓡 .run)) 𝓜 𝓡 code.env #cells-checked cells-checked-def.routine code.calls-records·checks·cells-checked (cells-checked-thm.met 𝓤 H 𝓜 𝓖 𝓡);

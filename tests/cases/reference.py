@@ -516,7 +516,7 @@ def told(terms, v, c, t):
         return [head + "t%d, the array beneath, is marked." % a,
                 "    A free value stored at this index would have settled it."], [a]
     culprits = [x for x in (p, q) if not c[x]]
-    if len(culprits) == 2:
+    if len(culprits) == 2 and p != q:
         out = [head + "t%d and t%d are not free." % (p, q)]
     else:
         out = [head + "t%d is not free." % culprits[0]]
@@ -527,7 +527,8 @@ def told(terms, v, c, t):
     else:
         top = 2 ** n - 1
         sp, sq = {3: (0, 0), 4: (1, 1), 5: (0, 1), 9: (0, 0), 12: (0, 0), 10: (top, top)}[op]
-        for x, s in ((p, sp), (q, sq)):
+        sides = ((p, sp), (q, sq))
+        for x, s in sides if p != q or op == 5 else sides[1:]:
             word = show(terms[x], s)
             out.append(settling(c[x], v[x] == s, "t%d" % x, val(x), word, word))
     return out, culprits

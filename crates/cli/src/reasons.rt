@@ -13,10 +13,10 @@ use explain::Operand;
 use setting::number_at;
 use table::Term;
 
-// The one or two operands that are not free.
+// The one or two operands that are not free; one that is both is told once.
 fn say_unfree(blame: Blame) {
     say_term(blame.first);
-    if 1 < blame.count {
+    if (1 < blame.count) & (blame.first != blame.second) {
         say_of(b" and ", blame.second, b" are not free.\n");
     } else {
         say(b" is not free.\n");
@@ -69,10 +69,11 @@ fn say_operand(x: Term, second: bool, width: u32, k: u32, value: u32, state: Ope
     say(b".\n");
 }
 
-// What each operand of an operator with two would have done. No value of a shift's first operand settles it.
+// What each operand of an operator with two would have done. No value of a shift's first operand settles it. One that is both is
+// told once, but for an implication, which its two sides settle by different values.
 fn say_operands(table: &[u32], values: &[u32], truths: &[u32], x: Term) {
     let width = table::sort_at(table, x.p).n;
-    if x.op != 13 {
+    if (x.op != 13) & ((x.p != x.q) | (x.op == 5)) {
         let first = explain::operand_state(table, values, truths, x, false);
         say_operand(x, false, width, x.p, number_at(values, x.p), first);
     }

@@ -311,26 +311,26 @@ def conditions_of(terms, values, cell, v):
     return c
 
 
-def evaluated(case):
+def ready(case, limit):
+    """the terms, the steps and the allowance left, or the first refusal"""
     table, values, cells, allowance = case
-    terms, depth, slots = admit(table, 80000)
+    terms, depth, slots = admit(table, limit)
     check_setting(terms, slots, values, cells)
     s = steps_of(terms, depth)
     if allowance < s:
         raise Refused(23, s)
-    v, _ = values_of(terms, values, cells)
-    return terms, v, s, allowance - s
+    return terms, s, allowance - s
+
+
+def evaluated(case):
+    terms, steps, left = ready(case, 80000)
+    return terms, values_of(terms, case[1], case[2])[0], steps, left
 
 
 def judged(case):
-    table, values, cells, allowance = case
-    terms, depth, slots = admit(table, 512)
-    check_setting(terms, slots, values, cells)
-    s = steps_of(terms, depth)
-    if allowance < s:
-        raise Refused(23, s)
-    v, cell = values_of(terms, values, cells)
-    return terms, v, conditions_of(terms, values, cell, v), s, allowance - s
+    terms, steps, left = ready(case, 512)
+    v, cell = values_of(terms, case[1], case[2])
+    return terms, v, conditions_of(terms, case[1], cell, v), steps, left
 
 
 # ---- finishing ----

@@ -28,7 +28,7 @@ use Rattle.setting.proofs.Checked.{below-of-fits, checked-fits}
 use Rattle.evaluate.specs.Values.{scalarValue, arrayValue, valueBy, valueIn, values, valueAt}
 use Rattle.evaluate.specs.Laws.{ValuesFit, CheckedValuesFit}
 use Rattle.evaluate.proofs.Folds.{value-below}
-use Rattle.evaluate.proofs.Operands.{isKnown, not-array, same-sort, boolean-scalar, vector-scalar, three, four, op-at, typing, two-placed, three-placed}
+use Rattle.table.proofs.OperandSorts.{isKnown, not-array, same-sort, boolean-scalar, vector-scalar, three, four, op-at, typing, two-placed, three-placed}
 
 -- a number that fits a sort that is no array's
 scalar-fit : (s : Sort) (u : ℕ) → scalar s ≡ true → fits (s .n) u ≡ true → Fit s (scalarValue u)

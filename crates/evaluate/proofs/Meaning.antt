@@ -28,7 +28,7 @@ use Rattle.evaluate.specs.Reads.{readAt, bottomAt}
 use Rattle.evaluate.specs.Turns.{variableNumber, numberOf}
 use Rattle.evaluate.proofs.Chains.{read-end, read-store, bottom-end, bottom-on}
 use Rattle.evaluate.proofs.Folds.{value-below, number-in}
-use Rattle.evaluate.proofs.Operands.{array-op, same-sort, four, op-at, typing, typing-as, placing-as, three, two-placed, three-placed}
+use Rattle.table.proofs.OperandSorts.{array-op, same-sort, four, op-at, typing, typing-as, placing-as, three, two-placed, three-placed}
 
 -- values by their operator
 

@@ -29,7 +29,7 @@ use Rattle.setting.specs.Interpretation.{Value, Interpretation}
 use Rattle.evaluate.specs.Values.{valueIn, values, numbers}
 use Rattle.evaluate.proofs.Folds.{value-below, number-in}
 use Rattle.evaluate.proofs.Meaning.{same-array}
-use Rattle.evaluate.proofs.Operands.{isKnown, not-array, boolean-scalar, vector-scalar, same-sort, three, four, array-op, op-at, typing, typing-as, placing-as, two-placed, three-placed}
+use Rattle.table.proofs.OperandSorts.{isKnown, not-array, boolean-scalar, vector-scalar, same-sort, three, four, array-op, op-at, typing, typing-as, placing-as, two-placed, three-placed}
 use Rattle.judge.specs.Conditions.{Condition, conditionBy, conditionIn, conditions, conditionAt, truths, ownMarks}
 use Rattle.judge.specs.Readings.{truthIn}
 use Rattle.judge.proofs.Alike.{condition-below}

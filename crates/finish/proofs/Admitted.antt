@@ -29,7 +29,7 @@ use Rattle.table.specs.Faults.{rank, fields, variable, storing, known, sorted, 
 use Rattle.table.specs.WellFormed.{Sound, WellFormed}
 use Rattle.table.proofs.FoldLaws.{fold-below}
 use Rattle.table.proofs.SoundTerms.{widths, store-below}
-use Rattle.evaluate.proofs.Operands.{isKnown, op-at, not-array, SameSort, same-sort, vector-scalar, three, four, two-placed, three-placed}
+use Rattle.table.proofs.OperandSorts.{isKnown, op-at, not-array, SameSort, same-sort, vector-scalar, three, four, two-placed, three-placed}
 use Rattle.evaluate.proofs.Meaning.{same-array}
 use Rattle.judge.specs.Conditions.{ownMarks}
 use Rattle.groups.specs.Added.{andT, constantT}

@@ -30,7 +30,7 @@ use Rattle.table.proofs.SoundTerms.{past-end}
 use Rattle.setting.specs.Interpretation.{Value, Interpretation}
 use Rattle.evaluate.specs.Values.{scalarValue, arrayValue, operated, valueBy, valueIn, valueOf, values, valueAt}
 use Rattle.evaluate.proofs.Folds.{value-below}
-use Rattle.evaluate.proofs.Operands.{isKnown, not-array, same-sort, boolean-scalar, vector-scalar, three, four, op-at, typing, two-placed, three-placed}
+use Rattle.table.proofs.OperandSorts.{isKnown, not-array, same-sort, boolean-scalar, vector-scalar, three, four, op-at, typing, two-placed, three-placed}
 use Rattle.judge.specs.Conditions.{Condition, plain, storeFree, conditionBy, conditionIn, conditions, conditionAt, ownMarks}
 use Rattle.judge.proofs.Alike.{condition-below}
 use Rattle.groups.specs.Plans.{lineOf, Plan, lastOf, taken, storeRead, planBy, planIn, planOf, next, plans, planAt}

@@ -18,7 +18,7 @@ use Rattle.table.specs.declared.words.Term.{Term}
 use Rattle.table.specs.Terms.{wordAt, termAt, boolean}
 use Rattle.table.specs.Faults.{fields, variable, storing, known, sorted, placedAs, typed, valuedAs, clash, chain}
 use Rattle.table.specs.WellFormed.{Sound}
-use Rattle.evaluate.proofs.Operands.{three}
+use Rattle.table.proofs.OperandSorts.{three}
 use Rattle.groups.specs.Added.{notT, andT, orT, equalT, choiceT, lessT, constantT, readT}
 use Rattle.groups.specs.Groups.{strictGroup, andGroup, orGroup, impliesGroup, absorbingGroup, shiftGroup, choiceGroup, storeGroup}
 use Rattle.groups.specs.Plans.{lastOf}

@@ -32,7 +32,7 @@ use Rattle.evaluate.specs.Evaluation.{evaluates, andThen, afford, ready}
 use Rattle.evaluate.proofs.Answers.{passed}
 use Rattle.evaluate.proofs.Fitting.{checked-values-fit}
 use Rattle.evaluate.proofs.Folds.{length-numbers, number-in, value-below}
-use Rattle.evaluate.proofs.Operands.{boolean-scalar, two-placed}
+use Rattle.table.proofs.OperandSorts.{boolean-scalar, two-placed}
 use Rattle.judge.specs.declared.Verdict.{Verdict}
 use Rattle.judge.specs.declared.Judgement.{Judgement}
 use Rattle.judge.specs.declared.Judgement.the-variants.{Judged, NotJudged}

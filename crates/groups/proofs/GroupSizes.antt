@@ -21,7 +21,7 @@ use Rattle.table.specs.WellFormed.{WellFormed}
 use Rattle.table.proofs.FoldLaws.{fold-below}
 use Rattle.table.proofs.SoundTerms.{past-end}
 use Rattle.evaluate.specs.Steps.{stepsOf, steps}
-use Rattle.evaluate.proofs.Operands.{isKnown, op-at, two-placed, three-placed}
+use Rattle.table.proofs.OperandSorts.{isKnown, op-at, two-placed, three-placed}
 use Rattle.judge.specs.Conditions.{ownMarks}
 use Rattle.groups.specs.Groups.{storeGroup}
 use Rattle.groups.specs.Plans.{Plan, lineOf, lastOf, taken, cq, cr, planBy, planIn, planOf, groups, next, plans, planAt}

@@ -16,7 +16,7 @@ use Rattle.table.specs.Ranks.{rankOf, fieldsOf, writes}
 use Rattle.table.specs.Faults.{storing, placedAs}
 use Rattle.table.specs.WellFormed.{WellFormed}
 use Rattle.table.proofs.FoldLaws.{map-fold-in}
-use Rattle.evaluate.proofs.Operands.{isKnown, op-at, three-placed}
+use Rattle.table.proofs.OperandSorts.{isKnown, op-at, three-placed}
 use Rattle.judge.specs.Conditions.{ownMarks}
 use Rattle.groups.specs.declared.groups.Written.{Written}
 use Rattle.groups.specs.Added.{laid}

@@ -17,7 +17,7 @@ use Rattle.table.specs.Ranks.{rankOf, fieldsOf}
 use Rattle.table.specs.Faults.{placedAs}
 use Rattle.table.specs.WellFormed.{WellFormed}
 use Rattle.table.proofs.SoundTerms.{n-most-at}
-use Rattle.evaluate.proofs.Operands.{two-placed}
+use Rattle.table.proofs.OperandSorts.{two-placed}
 use Rattle.judge.specs.Conditions.{ownMarks}
 use Rattle.groups.specs.declared.groups.Written.{Written}
 use Rattle.groups.specs.declared.lines.Line.{Line}

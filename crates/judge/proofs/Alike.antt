@@ -32,7 +32,7 @@ use Rattle.setting.proofs.Checked.{below-of-fits}
 use Rattle.evaluate.specs.Values.{scalarValue, arrayValue, operated, valueBy, valueIn, valueOf, values, valueAt}
 use Rattle.evaluate.proofs.Folds.{value-below}
 use Rattle.evaluate.proofs.Fitting.{values-fit}
-use Rattle.evaluate.proofs.Operands.{same-sort, three, four, typing, two-placed}
+use Rattle.table.proofs.OperandSorts.{same-sort, three, four, typing, two-placed}
 use Rattle.judge.specs.Conditions.{Condition, plain, settling, storeFree, conditionBy, conditionIn, conditionOf, conditions, conditionAt, ownMarks}
 use Rattle.judge.specs.Demand3.{Independence}
 

@@ -29,7 +29,7 @@ use Rattle.evaluate.specs.Values.{valueBy, valueIn, values, valueAt, numbers}
 use Rattle.evaluate.proofs.Chains.{bottom-end, bottom-on}
 use Rattle.evaluate.proofs.Folds.{value-below, number-in}
 use Rattle.evaluate.proofs.Meaning.{variable-cell, same-array, reads-select, number-below, cellBeneath, asked, valueRead, number-is}
-use Rattle.evaluate.proofs.Operands.{array-op, three, four, op-at, typing, typing-as, placing-as, two-placed, three-placed}
+use Rattle.table.proofs.OperandSorts.{array-op, three, four, op-at, typing, typing-as, placing-as, two-placed, three-placed}
 use Rattle.judge.specs.declared.reads.Reading.{Reading}
 use Rattle.judge.specs.Conditions.{Condition, plain, storeFree, conditionBy, conditionIn, conditionOf, conditions, conditionAt, truths, ownMarks}
 use Rattle.judge.specs.Readings.{truthIn, overlaid, readingAt, readingBy, settledBy, truthOf, readingOf}

@@ -1,6 +1,6 @@
 -- What a fold's list holds.
 -- Assumes nothing.
-use mathlib.Core.Path.{_≡_, refl, sym, ap, _∙_}
+use mathlib.Core.Path.{_≡_, refl, sym, ap, ap₂, _∙_}
 use mathlib.Core.List.{List, [], _∷_, _++_, map}
 use Prim.Native.Nat.{ℕ, zero, suc, _+_, _≤_, _<_}
 use native.Mathlib.Decide.{ℕ-discrete}
@@ -47,3 +47,11 @@ module _ {A : Type 0} (step : List A → ℕ → A) where
     pub map-fold-more : (k : ℕ) → map f (fold step (k + 1)) ≡ map f (fold step k) ++ (f (step (fold step k) k) ∷ [])
     unfolding fold
     map-fold-more k = rw add-one (map-append f (fold step k) (step (fold step k) k ∷ []))
+
+-- folds whose steps are the same below n are the same
+pub fold-same : {A : Type 0} (step step′ : List A → ℕ → A) (n : ℕ) → ((k : ℕ) → k < n → (l : List A) → step l k ≡ step′ l k) → fold step n ≡ fold step′ n
+unfolding fold
+fold-same step step′ zero h = refl
+fold-same step step′ (suc n) h =
+    let before = fold-same step step′ n (λ k b l. h k (omega arith) l) in
+    ap₂ (λ l x. l ++ (x ∷ [])) before (h n (omega arith) (fold step n) ∙ ap (λ l. step′ l n) before)

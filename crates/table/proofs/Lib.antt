@@ -12,3 +12,6 @@ pub mod OpNumbers
 pub mod InTable
 pub mod FaultOrder
 pub mod ThreeSorts
+pub mod Refusals
+pub mod OperandSorts
+pub mod ArrayTerms

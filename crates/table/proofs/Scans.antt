@@ -1,6 +1,6 @@
 -- A scan by any faults, turn by turn; what it says where it refuses nothing.
 -- Assumes nothing.
-use mathlib.Core.Path.{_≡_, refl, sym, ap, _∙_}
+use mathlib.Core.Path.{_≡_, refl, sym, ap, ap₂, _∙_}
 use Prim.Native.Nat.{ℕ, zero, suc, _+_, _-_, _≤_, _<_}
 use native.Mathlib.Decide.{ℕ-discrete}
 use native.Mathlib.Numerals.{add-one}
@@ -88,3 +88,15 @@ module _ (faults : ℕ → ℕ) where
 
   pub scan-complete : (n : ℕ) (rest : Admission) → ((k : ℕ) → k < n → faults k ≡ 0) → scan faults n 0 rest ≡ rest
   scan-complete n rest h = scan-complete-from n 0 rest (λ k b c. h k (omega arith))
+
+-- scans by the same faults, and then the same, are the same
+scan-same-from : (faults faults′ : ℕ → ℕ) {rest rest′ : Admission} → rest ≡ rest′ → (left at : ℕ) → ((k : ℕ) → k < at + left → faults k ≡ faults′ k)
+    → scan faults left at rest ≡ scan faults′ left at rest′
+unfolding scan
+scan-same-from faults faults′ e zero at h = e
+scan-same-from faults faults′ e (suc left) at h =
+    ap₂ (λ f later. refusedBy f at later) (h at (omega arith)) (scan-same-from faults faults′ e left (suc at) (λ k b. h k (omega arith)))
+
+pub scan-same : (faults faults′ : ℕ → ℕ) {rest rest′ : Admission} → rest ≡ rest′ → (n : ℕ) → ((k : ℕ) → k < n → faults k ≡ faults′ k)
+    → scan faults n 0 rest ≡ scan faults′ n 0 rest′
+scan-same faults faults′ e n h = scan-same-from faults faults′ e n 0 (λ k b. h k (omega arith))

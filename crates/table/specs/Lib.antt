@@ -5,3 +5,4 @@ pub mod Faults
 pub mod Admission
 pub mod WellFormed
 pub mod Bench
+pub mod Refusals

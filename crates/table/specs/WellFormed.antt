@@ -3,11 +3,11 @@
 use mathlib.Core.Path.{_≡_}
 use mathlib.Core.Bool.{true, false}
 use mathlib.Core.List.{List}
-use Prim.Native.Nat.{ℕ, pred, _*_, _≤_, _<_}
+use Prim.Native.Nat.{ℕ, zero, suc, pred, _*_, _≤_, _<_}
 use lib.ListN.{length}
 use Rattle.table.specs.declared.Admission.the-variants.{Admitted}
-use Rattle.table.specs.Terms.{words, terms, termAt, sortAt, boolean}
-use Rattle.table.specs.Faults.{fields, variable, known, sorted, placedAs, typed, valuedAs, clash, chain}
+use Rattle.table.specs.Terms.{words, terms, termAt, sortAt, boolean, array}
+use Rattle.table.specs.Faults.{fields, variable, storing, known, sorted, placedAs, typed, valuedAs, clash, chain}
 use Rattle.table.specs.Admission.{admissionWithin}
 
 -- Of term k: an op up to 16; one of the three sorts; operands below and unused fields 0; sorts as the op's line asks;
@@ -44,3 +44,16 @@ AdmissionComplete = (limit : ℕ) (t : List ℕ) → WellFormed limit t → admi
 
 abbrev pub SlotsHaveOneUse : Type 0
 SlotsHaveOneUse = (limit : ℕ) (t : List ℕ) → WellFormed limit t → OneUse t
+
+-- An array term is a variable under 0 to 16 stores, each over an earlier term of its sort.
+pub data Under (t : List ℕ) : ℕ → ℕ → Type 0 where
+  base : {k : ℕ} → variable (termAt t k) ≡ true → Under t zero k
+  store : {stores k : ℕ} → storing (termAt t k) ≡ true → termAt t k .p < k → sortAt t (termAt t k .p) ≡ sortAt t k → Under t stores (termAt t k .p) → Under t (suc stores) k
+
+pub record FewStores (t : List ℕ) (k : ℕ) : Type 0 where
+  pub stores : ℕ
+  pub few : stores ≤ 16
+  pub under : Under t stores k
+
+abbrev pub ArrayTerms : Type 0
+ArrayTerms = (limit : ℕ) (t : List ℕ) → WellFormed limit t → (k : ℕ) → k < terms t → array (sortAt t k) ≡ true → FewStores t k

@@ -1,0 +1,160 @@
+-- What the placing and the sorts of a term say of its operands, by its operator.
+-- Assumes nothing.
+use mathlib.Core.Path.{_≡_, refl, sym, ap, subst, _∙_}
+use mathlib.Core.Bool.{Bool, true, false, _&&_}
+use mathlib.Core.Logic.{_⊎_, inl, inr}
+use mathlib.Core.List.{List, [], _∷_}
+use Prim.Native.Nat.{ℕ, zero, suc, _≤_, _<_}
+use native.Mathlib.Nat.{not-suc-le-zero, le-of-suc-le-suc}
+use native.Mathlib.Omega.{arith}
+use lib.Dec.{eqb, ltb, leb}
+use lib.ListN.{length, getD}
+use borrow.Author.Tests.{eqb-true, ltb-true, leb-true, le-ltb, eq-eqb}
+use Rattle.ops.specs.declared.Op.{Op}
+use Rattle.ops.specs.declared.Op.the-variants.{Constant, Variable, Not, And, Or, Implies, Equal, Ite, BvNot, BvAnd, BvOr, BvAdd, BvMul, BvShl, BvUlt, Select, Store, Unknown}
+use Rattle.ops.specs.Numbers.{ops, opOf}
+use Rattle.ops.proofs.Booleans.{never, and-parts}
+use Rattle.table.specs.declared.words.Sort.{Sort}
+use Rattle.table.specs.declared.words.Term.{Term}
+use Rattle.table.specs.Terms.{termAt, sortAt, boolean, vector, scalar, array, vectorOf, sameSort}
+use Rattle.table.specs.Bench.{every}
+use Rattle.table.specs.declared.ranks.Fields.{Fields}
+use Rattle.table.specs.declared.ranks.Fields.the-variants.{Value, Slot, One, Two, Three}
+use Rattle.table.specs.Ranks.{rankOf, fieldsOf, slotted, immediate}
+use Rattle.table.specs.Faults.{known, placedAs, typedAs, typed}
+use Rattle.table.specs.WellFormed.{Sound}
+
+-- an op up to 16 is one of the list
+
+unfoldable pub isKnown : Op → Bool
+isKnown Constant = true
+isKnown Variable = true
+isKnown Not = true
+isKnown And = true
+isKnown Or = true
+isKnown Implies = true
+isKnown Equal = true
+isKnown Ite = true
+isKnown BvNot = true
+isKnown BvAnd = true
+isKnown BvOr = true
+isKnown BvAdd = true
+isKnown BvMul = true
+isKnown BvShl = true
+isKnown BvUlt = true
+isKnown Select = true
+isKnown Store = true
+isKnown Unknown = false
+
+all-at : (f : Op → Bool) (l : List Op) (d : Op) → every f l ≡ true → (i : ℕ) → i < length l → f (getD l i d) ≡ true
+unfolding every
+all-at f [] d h i b = absurd (not-suc-le-zero b)
+all-at f (x ∷ l) d h zero b = and-parts (f x) (every f l) h .0
+all-at f (x ∷ l) d h (suc i) b = all-at f l d (and-parts (f x) (every f l) h .1) i (le-of-suc-le-suc b)
+
+pub op-known : (x : Term) → known x ≡ true → isKnown (opOf (x .op)) ≡ true
+unfolding every isKnown
+op-known x h = all-at isKnown ops Unknown refl (x .op) (let b : x .op ≤ 16 = leb-true (x .op) 16 h in omega arith)
+
+-- sorts
+
+pub not-array : (s : Sort) → scalar s ≡ true → array s ≡ true → ⊥
+not-array s h a =
+    let z : s .m ≡ 0 = eqb-true (s .m) 0 h in
+    let p : 0 < s .m = ltb-true 0 (s .m) a in
+    omega arith
+
+pub record SameSort (a b : Sort) : Type 0 where
+  pub m : a .m ≡ b .m
+  pub n : a .n ≡ b .n
+
+pub same-sort : (a b : Sort) → sameSort a b ≡ true → SameSort a b
+same-sort a b h =
+    let parts = and-parts (eqb (a .m) (b .m)) (eqb (a .n) (b .n)) h in
+    record { m = eqb-true (a .m) (b .m) (parts .0); n = eqb-true (a .n) (b .n) (parts .1) }
+
+pub boolean-scalar : (s : Sort) → boolean s ≡ true → scalar s ≡ true
+boolean-scalar s h = and-parts (eqb (s .m) 0) (eqb (s .n) 0) h .0
+
+pub vector-scalar : (s : Sort) → vector s ≡ true → scalar s ≡ true
+vector-scalar s h = and-parts (eqb (s .m) 0) (ltb 0 (s .n)) h .0
+
+-- three tests in a row
+pub three : (a b c : Bool) → a && b && c ≡ true → (a ≡ true) × (b ≡ true) × (c ≡ true)
+three a b c h =
+    let ab-c = and-parts (a && b) c h in
+    let a-b = and-parts a b (ab-c .0) in
+    (a-b .0, a-b .1, ab-c .1)
+
+pub four : (a b c d : Bool) → a && b && c && d ≡ true → (a ≡ true) × (b ≡ true) × (c ≡ true) × (d ≡ true)
+four a b c d h =
+    let abc-d = and-parts (a && b && c) d h in
+    let t = three a b c (abc-d .0) in
+    (t .0, t .1, t .2, abc-d .1)
+
+-- only variables and stores are arrays
+pub array-op : (op : Op) (x a b c : Sort) → isKnown op ≡ true → typedAs (rankOf op) x a b c ≡ true → array x ≡ true → (op ≡ Variable) ⊎ (op ≡ Store)
+unfolding isKnown
+array-op Constant x a b c k h r = absurd (not-array x h r)
+array-op Variable x a b c k h r = inl refl
+array-op Not x a b c k h r = absurd (not-array x (boolean-scalar x (and-parts (boolean x) (boolean a) h .0)) r)
+array-op And x a b c k h r = absurd (not-array x (boolean-scalar x (three (boolean x) (boolean a) (boolean b) h .0)) r)
+array-op Or x a b c k h r = absurd (not-array x (boolean-scalar x (three (boolean x) (boolean a) (boolean b) h .0)) r)
+array-op Implies x a b c k h r = absurd (not-array x (boolean-scalar x (three (boolean x) (boolean a) (boolean b) h .0)) r)
+array-op Equal x a b c k h r = absurd (not-array x (boolean-scalar x (three (boolean x) (scalar a) (sameSort a b) h .0)) r)
+array-op Ite x a b c k h r = absurd (not-array x (four (scalar x) (boolean a) (sameSort b x) (sameSort c x) h .0) r)
+array-op BvNot x a b c k h r = absurd (not-array x (vector-scalar x (and-parts (vector x) (sameSort a x) h .0)) r)
+array-op BvAnd x a b c k h r = absurd (not-array x (vector-scalar x (three (vector x) (sameSort a x) (sameSort b x) h .0)) r)
+array-op BvOr x a b c k h r = absurd (not-array x (vector-scalar x (three (vector x) (sameSort a x) (sameSort b x) h .0)) r)
+array-op BvAdd x a b c k h r = absurd (not-array x (vector-scalar x (three (vector x) (sameSort a x) (sameSort b x) h .0)) r)
+array-op BvMul x a b c k h r = absurd (not-array x (vector-scalar x (three (vector x) (sameSort a x) (sameSort b x) h .0)) r)
+array-op BvShl x a b c k h r = absurd (not-array x (vector-scalar x (three (vector x) (sameSort a x) (sameSort b x) h .0)) r)
+array-op BvUlt x a b c k h r = absurd (not-array x (boolean-scalar x (three (boolean x) (vector a) (sameSort a b) h .0)) r)
+array-op Select x a b c k h r = absurd (not-array x (and-parts (eqb (x .m) 0) (eqb (x .n) (a .n)) (three (array a) (vectorOf (a .m) b) (vectorOf (a .n) x) h .2) .0) r)
+array-op Store x a b c k h r = inr refl
+array-op Unknown x a b c k h r = never k
+
+-- What admission says of term k, by its operator
+
+module _ (w : List ℕ) (k : ℕ) (s : Sound w k) where
+  pub op-at : isKnown (opOf (termAt w k .op)) ≡ true
+  op-at = op-known (termAt w k) (s .is-known)
+
+  pub typing : typedAs (rankOf (opOf (termAt w k .op))) (sortAt w k) (sortAt w (termAt w k .p)) (sortAt w (termAt w k .q)) (sortAt w (termAt w k .r)) ≡ true
+  unfolding typed
+  typing = s .is-typed
+
+  module _ (op : Op) (e : opOf (termAt w k .op) ≡ op) where
+    pub typing-as : typedAs (rankOf op) (sortAt w k) (sortAt w (termAt w k .p)) (sortAt w (termAt w k .q)) (sortAt w (termAt w k .r)) ≡ true
+    typing-as = subst (λ (o : Op). typedAs (rankOf o) (sortAt w k) (sortAt w (termAt w k .p)) (sortAt w (termAt w k .q)) (sortAt w (termAt w k .r)) ≡ true) e typing
+
+    pub placing-as : placedAs (fieldsOf (rankOf op)) k (termAt w k) ≡ true
+    placing-as = subst (λ (o : Op). placedAs (fieldsOf (rankOf o)) k (termAt w k) ≡ true) e (s .is-placed)
+
+-- operands below
+pub two-placed : (i : ℕ) (x : Term) → ltb (x .p) i && ltb (x .q) i && eqb (x .r) 0 ≡ true → (x .p < i) × (x .q < i)
+two-placed i x h =
+    let parts = three (ltb (x .p) i) (ltb (x .q) i) (eqb (x .r) 0) h in
+    (ltb-true (x .p) i (parts .0), ltb-true (x .q) i (parts .1))
+
+pub three-placed : (i : ℕ) (x : Term) → ltb (x .p) i && ltb (x .q) i && ltb (x .r) i ≡ true → (x .p < i) × (x .q < i) × (x .r < i)
+three-placed i x h =
+    let parts = three (ltb (x .p) i) (ltb (x .q) i) (ltb (x .r) i) h in
+    (ltb-true (x .p) i (parts .0), ltb-true (x .q) i (parts .1), ltb-true (x .r) i (parts .2))
+
+-- of any operator, all fields are below: those that it does not use are 0
+pub operands-placed : (fields : Fields) (i : ℕ) (x : Term) → placedAs fields i x ≡ true → immediate fields ≡ false → slotted fields ≡ false → (x .p < i) × (x .q < i) × (x .r < i)
+operands-placed Value i x h c v = never (sym c)
+operands-placed Slot i x h c v = never (sym v)
+operands-placed One i x h c v =
+    let parts = three (ltb (x .p) i) (eqb (x .q) 0) (eqb (x .r) 0) h in
+    let p : x .p < i = ltb-true (x .p) i (parts .0) in
+    let q : x .q ≡ 0 = eqb-true (x .q) 0 (parts .1) in
+    let r : x .r ≡ 0 = eqb-true (x .r) 0 (parts .2) in
+    (p, omega arith, omega arith)
+operands-placed Two i x h c v =
+    let parts = three (ltb (x .p) i) (ltb (x .q) i) (eqb (x .r) 0) h in
+    let p : x .p < i = ltb-true (x .p) i (parts .0) in
+    let r : x .r ≡ 0 = eqb-true (x .r) 0 (parts .2) in
+    (p, ltb-true (x .q) i (parts .1), omega arith)
+operands-placed Three i x h c v = three-placed i x h

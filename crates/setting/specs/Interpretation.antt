@@ -37,9 +37,11 @@ pub record Fit (s : Sort) (v : Value) : Type 0 where
 abbrev pub FitInputs : List ℕ → Interpretation → Type 0
 FitInputs w I = (k : ℕ) → k < terms w → variable (termAt w k) ≡ true → Fit (sortAt w k) (I (termAt w k .p))
 
--- two values are the same at a sort: equal numbers; for an array, equal at every index below 2^m
+-- two values are the same at a sort
 pub record Same (s : Sort) (v v′ : Value) : Type 0 where
+  -- of a Boolean or a vector: equal numbers
   pub num : scalar s ≡ true → v .num ≡ v′ .num
+  -- of an array: equal at every index below 2^m
   pub cell : array s ≡ true → (j : ℕ) → j < 2 ^ s .m → v .cell j ≡ v′ .cell j
 
 -- two interpretations agree on every unmarked input; which terms are marked is a parameter

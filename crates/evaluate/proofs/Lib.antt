@@ -10,3 +10,5 @@ pub mod Runs
 pub mod Fills
 pub mod Fitting
 pub mod Familiar
+pub mod Refusals
+pub mod UnusedSlots

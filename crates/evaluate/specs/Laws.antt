@@ -1,18 +1,25 @@
 -- What is proved of values, as named statements. The proofs are in proofs/.
 -- Assumes nothing.
 use mathlib.Core.Path.{_≡_}
+use mathlib.Core.Bool.{Bool, true, _||_}
 use mathlib.Core.List.{List}
 use Prim.Native.Nat.{ℕ, _+_, _%_, _^_, _<_}
+use lib.ListN.{length}
 use Rattle.ops.specs.declared.Op.the-variants.{BvAdd, BvMul, Store}
 use Rattle.ops.specs.Numbers.{opOf}
 use Rattle.ops.specs.Meaning.{apply}
 use Rattle.table.specs.declared.Admission.the-variants.{Admitted}
 use Rattle.table.specs.Terms.{terms, termAt, sortAt}
 use Rattle.table.specs.WellFormed.{WellFormed}
+use Rattle.table.specs.Refusals.{between}
 use Rattle.setting.specs.Cells.{look}
 use Rattle.setting.specs.Check.{check}
 use Rattle.setting.specs.Interpretation.{Interpretation, interpret, Fit, FitInputs}
+use Rattle.setting.specs.Laws.{OneUsedValues}
+use Rattle.evaluate.specs.declared.Evaluation.{Evaluation}
+use Rattle.evaluate.specs.declared.Evaluation.the-variants.{Evaluated, NotEvaluated}
 use Rattle.evaluate.specs.Values.{valueIn, values, valueAt}
+use Rattle.evaluate.specs.Evaluation.{evaluation, roomAfter}
 
 -- In an interpretation that fits, the value of every term of an admitted table fits its sort.
 abbrev pub ValuesFit : Type 0
@@ -41,3 +48,25 @@ pub record ReadOverWrite (w : List ℕ) (I : Interpretation) (k : ℕ) : Type 0 
 
 abbrev pub StoreIs : Type 0
 StoreIs = (w : List ℕ) (I : Interpretation) (k : ℕ) → opOf (termAt w k .op) ≡ Store → ReadOverWrite w I k
+
+-- Evaluate and judge know 1 to 15, 22 and 23: none is given on other grounds.
+abbrev pub runNumbers : ℕ → Bool
+runNumbers number = between 1 15 number || between 22 23 number
+
+-- the number of a refusal is one of these; of an evaluation nothing is said
+abbrev pub NotEvaluatedBy : (ℕ → Bool) → Evaluation → Type 0
+NotEvaluatedBy numbers (Evaluated s) = Unit {0}
+NotEvaluatedBy numbers (NotEvaluated r) = numbers (r .number) ≡ true
+
+abbrev pub EvaluationNumbers : Type 0
+EvaluationNumbers = (w values cells : List ℕ) (allowance room : ℕ) → NotEvaluatedBy runNumbers (evaluation w values cells allowance room)
+
+-- Values of slots that no variable uses are not looked at: answer and room are the same.
+pub record OneEvaluation (w values values′ cells : List ℕ) (allowance : ℕ) (room : List ℕ) : Type 0 where
+  pub answer : evaluation w values cells allowance (length room) ≡ evaluation w values′ cells allowance (length room)
+  pub left : roomAfter (evaluation w values cells allowance (length room)) w values cells room
+      ≡ roomAfter (evaluation w values′ cells allowance (length room)) w values′ cells room
+
+abbrev pub UnusedUnevaluated : Type 0
+UnusedUnevaluated =
+    (w values values′ cells : List ℕ) (allowance : ℕ) (room : List ℕ) → OneUsedValues w values values′ → OneEvaluation w values values′ cells allowance room

@@ -7,3 +7,5 @@ pub mod Steps
 pub mod Rooms
 pub mod Fills
 pub mod Verdicts
+pub mod Pairs
+pub mod Answers

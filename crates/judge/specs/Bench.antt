@@ -50,7 +50,7 @@ abbrev choosing : List ℕ
 choosing = term 1 0 0 0 1 0 (term 1 0 8 1 0 0 (term 1 0 8 2 0 0 (term 7 0 8 0 1 2 (term 0 0 8 3 0 0 (term 6 0 0 3 4 0 [])))))
 
 -- x < 5 or not (x < 5), x marked, of width 8
-abbrev either : List ℕ
+abbrev pub either : List ℕ
 either = term 1 0 8 0 1 0 (term 0 0 8 5 0 0 (term 14 0 0 0 1 0 (term 2 0 0 2 0 0 (term 4 0 0 2 3 0 []))))
 
 -- rule H with t unmarked and a marked

@@ -4,3 +4,5 @@ pub mod Turns
 pub mod Judgement
 pub mod Demand3
 pub mod Bench
+pub mod Laws
+pub mod Pairs

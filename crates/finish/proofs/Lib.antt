@@ -10,3 +10,4 @@ pub mod Good
 pub mod Admitted
 pub mod GroupValues
 pub mod Agreement
+pub mod AgreedSettings

@@ -1,15 +1,17 @@
 -- What is proved of finished tables, as named statements. The proofs are in proofs/.
 -- Assumes nothing.
 use mathlib.Core.Path.{_≡_}
-use mathlib.Core.Bool.{Bool, true, false, _&&_}
+use mathlib.Core.Bool.{Bool, true, false, _&&_, _||_}
 use mathlib.Core.List.{List}
 use Prim.Native.Nat.{ℕ, pred, _+_, _*_, _≤_, _<_}
+use lib.Dec.{eqb}
 use lib.ListN.{length, getD, take}
 use Rattle.ops.specs.Meaning.{bit}
 use Rattle.table.specs.declared.Admission.the-variants.{Admitted}
 use Rattle.table.specs.Terms.{words, terms, termAt}
 use Rattle.table.specs.Faults.{storing}
 use Rattle.table.specs.Admission.{admissionWithin}
+use Rattle.table.specs.Refusals.{between}
 use Rattle.table.specs.WellFormed.{WellFormed}
 use Rattle.setting.specs.Check.{check}
 use Rattle.setting.specs.Interpretation.{Interpretation}
@@ -25,7 +27,7 @@ use Rattle.judge.specs.Judgement.{ruleIn, ruleCondition, judgement, passes}
 use Rattle.finish.specs.declared.Extent.{Extent}
 use Rattle.finish.specs.declared.Finishing.{Finishing}
 use Rattle.finish.specs.declared.Finishing.the-variants.{Finished, NotFinished}
-use Rattle.finish.specs.Finished.{conditionNumber, added, finished, extent}
+use Rattle.finish.specs.Finished.{conditionNumber, added, finished, extent, finishing}
 
 -- With S the table's steps, at most 3 + 8 times n + 9 times S terms are added, and never over 3 + 145 times n.
 pub record Few (w : List ℕ) (count : ℕ) : Type 0 where
@@ -81,3 +83,14 @@ pub record Faithful (w f : List ℕ) (e : Extent) : Type 0 where
 abbrev pub Promise : List ℕ → List ℕ → Finishing → Type 0
 Promise w room (Finished e) = Faithful w (take (e .terms * words) room) e
 Promise w room (NotFinished r) = Unit {0}
+
+-- Finish knows 1 to 10 and 21: none is given on other grounds. Of a finished table nothing is said.
+abbrev pub finishNumbers : ℕ → Bool
+finishNumbers number = between 1 10 number || eqb number 21
+
+abbrev pub NotFinishedBy : (ℕ → Bool) → Finishing → Type 0
+NotFinishedBy numbers (Finished e) = Unit {0}
+NotFinishedBy numbers (NotFinished r) = numbers (r .number) ≡ true
+
+abbrev pub FinishingNumbers : Type 0
+FinishingNumbers = (w : List ℕ) (room : ℕ) → NotFinishedBy finishNumbers (finishing w room)

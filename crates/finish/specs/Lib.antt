@@ -1,3 +1,4 @@
 pub mod Finished
 pub mod Laws
 pub mod Bench
+pub mod Settings

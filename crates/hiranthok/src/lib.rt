@@ -19,6 +19,7 @@ ghost use Rattle.judge.specs.Judgement as judges;
 ghost use Rattle.judge.specs.Demand3 as judges-laws;
 ghost use Rattle.records.specs.Answers as recorded;
 ghost use Rattle.records.specs.Laws as recorded-laws;
+ghost use Rattle.hiranthok.specs.Laws.{RecordPromise};
 ghost use Rattle.hiranthok.specs.Replies.{row, admitted, finished, evaluated, judged};
 
 #[no_mangle]
@@ -36,6 +37,7 @@ pub extern "C" fn hiranthok_finish(table: &[u32], room: &mut [u32], answer: &mut
     ensures { λ r. ⌜ now (answer .exit) ≡ row (finished (finishing (now (table .entry)) (length (now (room .entry))))) ⌝ }
     ensures { λ r. ⌜ now (room .exit) ≡ finishes.roomAfter (finishing (now (table .entry)) (length (now (room .entry)))) (now (table .entry)) (now (room .entry)) ⌝ }
     ensures { λ r. ⌜ finishes-laws.Promise (now (table .entry)) (now (room .exit)) (finishing (now (table .entry)) (length (now (room .entry)))) ⌝ }
+    ensures { λ r. ⌜ RecordPromise (now (table .entry)) (now (room .exit)) (finishing (now (table .entry)) (length (now (room .entry)))) ⌝ }
 {
     deliver(replies::finished(finish::finish(table, room)), answer)
 }
@@ -74,6 +76,7 @@ pub extern "C" fn hiranthok_judge(
     ensures { λ r. ⌜ now (answer .exit) ≡ row (judged (judgement (now (table .entry)) (now (values .entry)) (now (cells .entry)) allowance (length (now (work .entry))))) ⌝ }
     ensures { λ r. ⌜ now (work .exit) ≡ judges.roomAfter (judgement (now (table .entry)) (now (values .entry)) (now (cells .entry)) allowance (length (now (work .entry)))) (now (table .entry)) (now (values .entry)) (now (cells .entry)) (now (work .entry)) ⌝ }
     ensures { λ r. ⌜ judges-laws.Promise (now (table .entry)) (now (values .entry)) (now (cells .entry)) (judgement (now (table .entry)) (now (values .entry)) (now (cells .entry)) allowance (length (now (work .entry)))) ⌝ }
+    ensures { λ r. ⌜ recorded-laws.FlatPromise (now (table .entry)) (now (values .entry)) (now (cells .entry)) (judgement (now (table .entry)) (now (values .entry)) (now (cells .entry)) allowance (length (now (work .entry)))) ⌝ }
 {
     answer_judged(judge::judge(table, values, cells, allowance, work), answer)
 }

@@ -15,7 +15,7 @@ use Rattle.judge.specs.Demand3 as demands
 use Rattle.judge.proofs.Promises.{demand3}
 use Rattle.records.specs.Rows.{laid}
 use Rattle.records.specs.Answers.{inRecords}
-use Rattle.records.specs.Laws.{Promise, RecordDemand3}
+use Rattle.records.specs.Laws.{Promise, RecordDemand3, FlatPromise, FlatDemand3}
 use Rattle.records.proofs.Laid.{laid-interpret, equal-judgement}
 
 module _ (w values : List ℕ) (cells : List Cell) where
@@ -43,3 +43,13 @@ pub record-demand3 : RecordDemand3
 record-demand3 w values cells allowance room =
     subst (Promise w values cells) (sym (equal-judgement w values cells allowance room))
     (of-laid w values cells (judges.judgement w values (laid cells) allowance room) (demand3 w values (laid cells) allowance room))
+
+-- a judgement of numbers against one of records
+pub flat-demand3 : FlatDemand3
+flat-demand3 w values cells allowance room = go (judges.judgement w values cells allowance room) (demand3 w values cells allowance room)
+  where
+    go : (j : Judgement) → demands.Promise w values cells j → FlatPromise w values cells j
+    go (Judged v) p = λ values′ cells′ allowance′ room′ v′ e agree.
+        p .same values′ (laid cells′) allowance′ room′ v′ (sym (equal-judgement w values′ cells′ allowance′ room′) ∙ e)
+        (to-laid w values′ cells′ (interpret values (flat.look cells)) agree)
+    go (NotJudged r) p = tt

@@ -1,6 +1,6 @@
 -- Both entrances give equal answers and leave equal rooms: a row of records is the cells laid flat.
 -- Assumes nothing.
-use mathlib.Core.Path.{_≡_, refl, sym, ap, ap₂}
+use mathlib.Core.Path.{_≡_, refl, sym, ap, ap₂, _∙_}
 use mathlib.Core.List.{List, [], _∷_}
 use Prim.Native.Nat.{ℕ, zero, suc, _+_, _*_, _%_}
 use native.Mathlib.Omega.{arith}
@@ -10,10 +10,12 @@ use Rattle.setting.specs.Cells as flat
 use Rattle.setting.specs.Check as checks
 use Rattle.setting.specs.Interpretation.{interpret}
 use Rattle.evaluate.specs.Evaluation as evaluates
+use Rattle.evaluate.proofs.UnusedSlots.{unused-unevaluated}
 use Rattle.judge.specs.Judgement as judges
+use Rattle.judge.proofs.Answers.{unused-unjudged}
 use Rattle.records.specs.Rows.{recordAt, look, laid}
 use Rattle.records.specs.Answers.{check, inRecords, evaluation, judgement}
-use Rattle.records.specs.Laws.{EqualAnswers}
+use Rattle.records.specs.Laws.{EqualAnswers, WholeRowsAreLaid, UnusedUnseen}
 
 -- Of the cells laid flat: three numbers a cell
 laid-length : (cells : List Cell) → length (laid cells) ≡ length cells * 3
@@ -70,4 +72,30 @@ equal-answers w values cells allowance room =
       answer-room = λ i. evaluates.roomIn (answer i) w (setting i) room;
       verdict = verdict;
       verdict-room = λ i. judges.roomIn (verdict i) w (setting i) room;
+    }
+
+-- Each row of whole cells is that of some records
+
+pub whole-rows-are-laid : WholeRowsAreLaid
+unfolding laid
+whole-rows-are-laid [] h = record { records = []; is = refl }
+whole-rows-are-laid (a ∷ []) h = absurd (omega arith)
+whole-rows-are-laid (a ∷ b ∷ []) h = absurd (omega arith)
+whole-rows-are-laid (a ∷ b ∷ c ∷ cells) h =
+    let rest = whole-rows-are-laid cells (omega arith) in
+    record { records = record { slot = a; index = b; value = c } ∷ rest .records; is = ap (λ l. a ∷ b ∷ c ∷ l) (rest .is) }
+
+-- Values of slots that no variable uses are not looked at
+
+pub unused-unseen : UnusedUnseen
+unused-unseen w values values′ cells allowance room one =
+    let laid-first = equal-answers w values cells allowance room in
+    let laid-second = equal-answers w values′ cells allowance room in
+    let evaluation = unused-unevaluated w values values′ (laid cells) allowance room one in
+    let judgement = unused-unjudged w values values′ (laid cells) allowance room one in
+    record {
+      answer = laid-first .answer ∙ evaluation .answer ∙ sym (laid-second .answer);
+      answer-room = laid-first .answer-room ∙ evaluation .left ∙ sym (laid-second .answer-room);
+      verdict = laid-first .verdict ∙ judgement .answer ∙ sym (laid-second .verdict);
+      verdict-room = laid-first .verdict-room ∙ judgement .left ∙ sym (laid-second .verdict-room);
     }

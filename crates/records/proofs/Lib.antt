@@ -10,3 +10,4 @@ pub mod Again
 pub mod Driving
 pub mod Evaluating
 pub mod Judging
+pub mod Pairs

@@ -1,10 +1,14 @@
 /* Judges rule G, 0 < a * x + b at width 8 with x marked, in three settings, and refuses a fourth; then rule H, t with 42 stored at a
- * is 42 at c, with t marked, where some cells of t are listed as records. */
+ * is 42 at c, with t marked, where some cells of t are listed as records; then finishes rule G. */
 #include <stdio.h>
 
 #include "hiranthok.h"
 
-static const uint32_t rule_g[] = {
+#define LENGTH(row) (sizeof(row) / sizeof((row)[0]))
+
+enum { TERMS = 7 }; /* of either rule */
+
+static const uint32_t rule_g[TERMS * HIRANTHOK_TERM_WORDS] = {
     1,  0, 8, 0, 0, 0, /* 0: variable a, slot 0 */
     1,  0, 8, 1, 1, 0, /* 1: variable x, slot 1, marked */
     1,  0, 8, 2, 0, 0, /* 2: variable b, slot 2 */
@@ -14,7 +18,7 @@ static const uint32_t rule_g[] = {
     14, 0, 0, 5, 4, 0, /* 6: 0 < a * x + b */
 };
 
-static const uint32_t rule_h[] = {
+static const uint32_t rule_h[TERMS * HIRANTHOK_TERM_WORDS] = {
     1,  8, 8, 0, 1, 0, /* 0: array t, slot 0, marked */
     1,  0, 8, 1, 0, 0, /* 1: variable a, slot 1 */
     1,  0, 8, 2, 0, 0, /* 2: variable c, slot 2 */
@@ -24,38 +28,60 @@ static const uint32_t rule_h[] = {
     6,  0, 0, 5, 3, 0, /* 6: it is 42 */
 };
 
+static void show_refusal(uint32_t refused, const uint64_t answer[4])
+{
+    printf("refused %u at %llu: %s\n", (unsigned)refused, (unsigned long long)answer[0], hiranthok_refusal_text(refused));
+}
+
 static void show(uint32_t refused, const uint64_t answer[4])
 {
     if (refused)
-        printf("refused %u at %llu\n", (unsigned)refused, (unsigned long long)answer[0]);
+        show_refusal(refused, answer);
     else
         printf("rule %s, condition %s, %s\n", answer[0] ? "true" : "false", answer[1] ? "true" : "false",
                answer[0] && answer[1] ? "passes" : "does not pass");
 }
 
+/* Rule G has no array, so there are no cells and no steps. */
 static void judge(uint32_t a, uint32_t x, uint32_t b)
 {
     const uint32_t values[] = {a, x, b};
-    const uint32_t cells[] = {0};
-    uint32_t work[14];
+    uint32_t work[HIRANTHOK_JUDGE_WORK(TERMS)];
     uint64_t answer[4];
-    uint32_t refused = hiranthok_judge(rule_g, 42, values, 3, cells, 0, 0, work, 14, answer);
+    uint32_t refused = hiranthok_judge(rule_g, LENGTH(rule_g), values, LENGTH(values), hiranthok_row(NULL), 0, 0, work,
+                                       LENGTH(work), answer);
 
     printf("a %u, x %u, b %u: ", (unsigned)a, (unsigned)x, (unsigned)b);
     show(refused, answer);
 }
 
-/* t holds 42 at 2 and 9 elsewhere; of the two cells at 2 the earlier counts. */
+/* t holds 42 at 2 and 9 elsewhere; of the two cells at 2 the earlier counts. The read's chain has one store: one step. */
 static void judge_records(uint32_t a, uint32_t c)
 {
     const uint32_t values[] = {9, a, c};
     const struct hiranthok_cell cells[] = {{0, 2, 42}, {0, 2, 8}};
-    uint32_t work[14];
+    uint32_t work[HIRANTHOK_JUDGE_WORK(TERMS)];
     uint64_t answer[4];
-    uint32_t refused = hiranthok_judge_records(rule_h, 42, values, 3, cells, 2, 1, work, 14, answer);
+    uint32_t refused = hiranthok_judge_records(rule_h, LENGTH(rule_h), values, LENGTH(values), cells, LENGTH(cells), 1, work,
+                                               LENGTH(work), answer);
 
     printf("a %u, c %u: ", (unsigned)a, (unsigned)c);
     show(refused, answer);
+}
+
+/* In a room of so many numbers, of one that is long enough for any table of so many terms. */
+static void finish(size_t length)
+{
+    uint32_t room[HIRANTHOK_FINISH_ROOM(TERMS)];
+    uint64_t answer[4];
+    uint32_t refused = hiranthok_finish(rule_g, LENGTH(rule_g), room, length, answer);
+
+    printf("finished in %u numbers: ", (unsigned)length);
+    if (refused)
+        show_refusal(refused, answer);
+    else
+        printf("%llu terms, the condition is term %llu, the last is term %llu\n", (unsigned long long)answer[0],
+               (unsigned long long)answer[1], (unsigned long long)answer[2]);
 }
 
 int main(void)
@@ -67,5 +93,7 @@ int main(void)
     judge_records(0, 0); /* what is read was stored: whatever t is, it is 42 */
     judge_records(0, 2); /* true, but t decides */
     judge_records(0, 3); /* false here, and t decides */
+    finish(0); /* the refusal's place is the count of terms needed */
+    finish(HIRANTHOK_FINISH_ROOM(TERMS));
     return 0;
 }

@@ -3,13 +3,48 @@
  *
  * A rule is a table of terms, six 32-bit numbers a term: op, index width m, width n, fields p, q, r. A setting is a row of values by
  * slot and a row of cells, three numbers a cell: slot, index, value. All lengths count numbers, not bytes; of a row
- * of records, the records.
+ * of records, the records. docs/RULES.md has the rules whole, with worked examples.
  *
  * Every function takes any input and answers 0, or the number of the first refusal; then answer[0] is the refusal's place, the
  * rest of answer is 0, and no lent number but those of answer has changed. Where it answers 0, answer holds the results that
  * are named below, and 0 in the entries that are not named. A row of length 0 may be any pointer that is not null.
  *
- * Lent rows must not overlap a room, and rooms must not overlap each other.
+ * answer is written in either case: it is the function's result, and no room that was lent, so a refusal that "writes nothing"
+ * tells its place there. The allowance is passed by value: a refusal spends nothing of it.
+ *
+ * Lent rows must not overlap a room, and rooms must not overlap each other; answer overlaps none of them. Every pointer is aligned
+ * as its type asks (4 bytes; answer 8), one of length 0 too. hiranthok_row, hiranthok_room and hiranthok_cells below put a pointer
+ * that may be passed with length 0 in the place of a null one.
+ *
+ * No function keeps anything between calls: any number of threads may call at once, provided that no room and no answer is used by
+ * two calls at a time. Rows that are only read (table, values, cells) may be shared, so long as nobody writes them. A call takes
+ * some 5 KB of stack (measured, not proved) and no other memory.
+ *
+ * A term's sort is (m, n): Boolean (0, 0); vector (0, n); array (m, n), index and value vectors of m and n bits; widths 1 to 32.
+ * Terms are numbered from 0. Operands are numbers of earlier terms, and fields that hold nothing are 0. The last term is the rule.
+ *
+ * The operators:
+ *
+ *   op  SMT-LIB   p            q            r         sort of the term   what it asks
+ *    0  constant  value                               Boolean or vector  the value is 0 or 1; below 2^n
+ *    1  variable  slot         mark                   any                slot 0 to 255, mark 0 or 1; a slot has one sort and mark
+ *    2  not       operand                             Boolean            p Boolean
+ *    3  and       operand      operand                Boolean            p, q Boolean
+ *    4  or        operand      operand                Boolean            p, q Boolean
+ *    5  =>        operand      operand                Boolean            p, q Boolean
+ *    6  =         operand      operand                Boolean            p, q of one sort, Boolean or vector
+ *    7  ite       test         then         else      Boolean or vector  p Boolean; q, r of the term's sort
+ *    8  bvnot     operand                             vector             p of the term's sort
+ *    9  bvand     operand      operand                vector             p, q of the term's sort
+ *   10  bvor      operand      operand                vector             p, q of the term's sort
+ *   11  bvadd     operand      operand                vector             p, q of the term's sort
+ *   12  bvmul     operand      operand                vector             p, q of the term's sort
+ *   13  bvshl     operand      amount                 vector             p, q of the term's sort; 0 where the amount is n or more
+ *   14  bvult     operand      operand                Boolean            p, q of one vector sort; unsigned
+ *   15  select    array        index                  vector n           p array (m, n), q vector m; the term's own m is 0
+ *   16  store     array        index        value     array (m, n)       p of the term's sort, q vector m, r vector n; 16 at most
+ *
+ * The refusals:
  *
  *   1 table length 0 or not a multiple of six      11 cell row not a multiple of three
  *   2 more than 512 terms (evaluate: 80,000)       12 slot outside the value row
@@ -29,6 +64,33 @@
 
 #include <stddef.h>
 #include <stdint.h>
+
+/* The version of this interface. Major: a signature, a number or an answer is another than it was, and programs may have to change.
+ * Minor: something was added; it counts the landings (docs/landings/), and 0.8 is paper 01 with the eighth. Patch: what is declared
+ * here stayed as it was. The library has no version of its own to ask for: take header and library from one state of the repository. */
+#define HIRANTHOK_VERSION_MAJOR 0
+#define HIRANTHOK_VERSION_MINOR 8
+#define HIRANTHOK_VERSION_PATCH 0
+#define HIRANTHOK_VERSION "0.8.0"
+
+/* The numbers of a term and of a cell. */
+#define HIRANTHOK_TERM_WORDS 6
+#define HIRANTHOK_CELL_WORDS 3
+
+/* The terms that a table may have: for admit, finish and judge; for evaluate. Every finished table is one that evaluate takes. */
+#define HIRANTHOK_MAX_TERMS 512
+#define HIRANTHOK_MAX_EVALUATED_TERMS 80000
+
+/* The numbers that a work room needs, of a table of so many terms. A shorter one is refused 22, with these as the place. */
+#define HIRANTHOK_EVALUATE_WORK(terms) (terms)
+#define HIRANTHOK_JUDGE_WORK(terms) (2 * (terms))
+
+/* The terms that a finished table has at the most, and the numbers of a room that is long enough for it: of a table of so many terms,
+ * and of any table. A shorter room may do: where it does not, it is refused 21, with the terms needed as the place, so that a
+ * call with a room of length 0 tells them. */
+#define HIRANTHOK_FINISHED_TERMS(terms) (146 * (terms) + 3)
+#define HIRANTHOK_FINISH_ROOM(terms) (HIRANTHOK_TERM_WORDS * HIRANTHOK_FINISHED_TERMS(terms))
+#define HIRANTHOK_MAX_FINISH_ROOM HIRANTHOK_FINISH_ROOM(HIRANTHOK_MAX_TERMS) /* 448530 */
 
 #ifdef __cplusplus
 extern "C" {
@@ -70,6 +132,54 @@ uint32_t hiranthok_evaluate_records(const uint32_t *table, size_t table_len, con
 uint32_t hiranthok_judge_records(const uint32_t *table, size_t table_len, const uint32_t *values, size_t values_len,
                                  const struct hiranthok_cell *cells, size_t count, uint64_t allowance, uint32_t *work,
                                  size_t work_len, uint64_t answer[4]);
+
+/* A row, a room, a row of records: the given pointer, or in the place of a null one a pointer to pass with length 0. In C, where there
+ * are no cells, hiranthok_row(NULL), 0; in C++, where data() of an empty vector may be null,
+ * hiranthok_row(cells.data()), cells.size(). */
+static inline const uint32_t *hiranthok_row(const uint32_t *row)
+{
+    static const uint32_t none[1] = {0};
+    return row ? row : none;
+}
+
+static inline uint32_t *hiranthok_room(uint32_t *room)
+{
+    static uint32_t none[1] = {0};
+    return room ? room : none;
+}
+
+static inline const struct hiranthok_cell *hiranthok_cells(const struct hiranthok_cell *cells)
+{
+    static const struct hiranthok_cell none[1] = {{0, 0, 0}};
+    return cells ? cells : none;
+}
+
+/* What a function answered, in words: of a refusal's number, of 0 and of a number that no function answers. */
+static inline const char *hiranthok_refusal_text(uint32_t number)
+{
+    switch (number) {
+    case 0: return "not refused";
+    case 1: return "the table has no numbers, or not six for each term";
+    case 2: return "too many terms: at most 512, and 80000 for evaluate";
+    case 3: return "no operator has this number: op is over 16";
+    case 4: return "not a sort: (0, 0), (0, n) or (m, n), widths 1 to 32";
+    case 5: return "an operand not below the term, or an unused field not 0";
+    case 6: return "the sorts are not as the operator asks";
+    case 7: return "a constant is too wide, a slot over 255 or a mark over 1";
+    case 8: return "an earlier variable has this slot with another sort or mark";
+    case 9: return "a 17th store in a chain";
+    case 10: return "the last term, the rule, is not Boolean";
+    case 11: return "the cells have not three numbers each";
+    case 12: return "the variable's slot is outside the values";
+    case 13: return "the variable's value is too wide";
+    case 14: return "no array variable has the cell's slot";
+    case 15: return "the cell's index or value is too wide";
+    case 21: return "the room is too short: so many terms are needed";
+    case 22: return "the work room is too short: so many numbers are needed";
+    case 23: return "the allowance is too small: so many steps are needed";
+    default: return "no refusal has this number";
+    }
+}
 
 #ifdef __cplusplus
 }

@@ -1,5 +1,42 @@
 // The C interface for Rust, to be included in a module. hiranthok.h says what each function does, and what it asks of its pointers.
 
+/// The version of the interface: hiranthok.h says what its numbers mean.
+#[allow(dead_code)]
+pub const VERSION: &str = "0.8.0";
+
+/// The limits, and the rooms' sizes in numbers: the macros of hiranthok.h.
+#[allow(dead_code)]
+pub mod sizes {
+    /// The numbers of a term and of a cell.
+    pub const TERM_WORDS: usize = 6;
+    pub const CELL_WORDS: usize = 3;
+
+    /// The terms that a table may have: for admit, finish and judge; for evaluate.
+    pub const MAX_TERMS: usize = 512;
+    pub const MAX_EVALUATED_TERMS: usize = 80_000;
+
+    /// What a work room needs, of a table of so many terms.
+    pub const fn evaluate_work(terms: usize) -> usize {
+        terms
+    }
+
+    pub const fn judge_work(terms: usize) -> usize {
+        2 * terms
+    }
+
+    /// The terms that a finished table has at the most, and a room that is long enough for it: of a table of so many terms, and of
+    /// any table.
+    pub const fn finished_terms(terms: usize) -> usize {
+        146 * terms + 3
+    }
+
+    pub const fn finish_room(terms: usize) -> usize {
+        TERM_WORDS * finished_terms(terms)
+    }
+
+    pub const MAX_FINISH_ROOM: usize = finish_room(MAX_TERMS);
+}
+
 /// The signature of evaluate and of judge: table, values, cells and work each as a pointer and a length, the allowance before work.
 pub type InSetting = unsafe extern "C" fn(
     *const u32,

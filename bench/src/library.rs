@@ -6,6 +6,7 @@ mod interface {
     include!(concat!(env!("CARGO_MANIFEST_DIR"), "/../include/hiranthok.rs"));
 }
 
+pub use interface::sizes;
 use interface::*;
 
 // Each pointer below comes from a slice that lives through the call, with that slice's length.

@@ -22,9 +22,9 @@ impl Routine {
     pub fn room(self, terms: usize) -> usize {
         match self {
             Routine::Admit => 0,
-            Routine::Finish => 6 * (terms + 3 + 145 * terms),
-            Routine::Evaluate => terms,
-            Routine::Judge => 2 * terms,
+            Routine::Finish => library::sizes::finish_room(terms),
+            Routine::Evaluate => library::sizes::evaluate_work(terms),
+            Routine::Judge => library::sizes::judge_work(terms),
         }
     }
 }

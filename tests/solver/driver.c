@@ -12,7 +12,7 @@
 
 #include "hiranthok.h"
 
-enum { LONGEST = 480000 };
+enum { LONGEST = HIRANTHOK_TERM_WORDS * HIRANTHOK_MAX_EVALUATED_TERMS };
 
 struct row {
     uint32_t numbers[LONGEST];
@@ -43,12 +43,13 @@ int main(void) {
         take(&table);
         if (request == 'f') {
             number = hiranthok_finish(table.numbers, table.len, room.numbers, LONGEST, answer);
-            give(number, answer, 6 * answer[0]);
+            give(number, answer, HIRANTHOK_TERM_WORDS * answer[0]);
             continue;
         }
         take(&values);
         take(&cells);
-        size_t front = (request == 'j' ? 2 : 1) * (table.len / 6);
+        size_t terms = table.len / HIRANTHOK_TERM_WORDS;
+        size_t front = request == 'j' ? HIRANTHOK_JUDGE_WORK(terms) : HIRANTHOK_EVALUATE_WORK(terms);
         number = (request == 'j' ? hiranthok_judge : hiranthok_evaluate)(
             table.numbers, table.len, values.numbers, values.len, cells.numbers, cells.len, UINT64_MAX, room.numbers,
             front, answer);

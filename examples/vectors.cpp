@@ -1,0 +1,88 @@
+/* The C interface from C++: rows are vectors, and some of them are empty. The data() of an empty vector may be null, and then
+ * hiranthok_row, hiranthok_room and hiranthok_cells give a pointer that may be passed. */
+#include <cstdio>
+#include <string>
+#include <vector>
+
+#include "hiranthok.h"
+
+using Row = std::vector<uint32_t>;
+using Cells = std::vector<hiranthok_cell>;
+
+static const std::size_t terms = 3;
+
+/* The rule 1 = 1: it has no inputs, so that the setting is empty. */
+static const Row rule = {
+    0, 0, 8, 1, 0, 0, /* 0: 1 */
+    0, 0, 8, 1, 0, 0, /* 1: 1 */
+    6, 0, 0, 0, 1, 0, /* 2: they are equal */
+};
+
+static void show(const char *what, uint32_t refused, const uint64_t answer[4])
+{
+    if (refused)
+        std::printf("%s: refused %u at %llu: %s\n", what, static_cast<unsigned>(refused),
+                    static_cast<unsigned long long>(answer[0]), hiranthok_refusal_text(refused));
+    else
+        std::printf("%s: rule %s, condition %s\n", what, answer[0] ? "true" : "false", answer[1] ? "true" : "false");
+}
+
+static void judge(const char *what, const Row &table, const Row &values, const Row &cells, Row work)
+{
+    uint64_t answer[4];
+    const uint32_t refused =
+        hiranthok_judge(hiranthok_row(table.data()), table.size(), hiranthok_row(values.data()), values.size(),
+                        hiranthok_row(cells.data()), cells.size(), 0, hiranthok_room(work.data()), work.size(), answer);
+    show(what, refused, answer);
+}
+
+static void judge_records(const char *what, const Row &table, const Row &values, const Cells &cells, Row work)
+{
+    uint64_t answer[4];
+    const uint32_t refused = hiranthok_judge_records(
+        hiranthok_row(table.data()), table.size(), hiranthok_row(values.data()), values.size(),
+        hiranthok_cells(cells.data()), cells.size(), 0, hiranthok_room(work.data()), work.size(), answer);
+    show(what, refused, answer);
+}
+
+static void finish(const char *what, const Row &table, Row room)
+{
+    uint64_t answer[4];
+    const uint32_t refused = hiranthok_finish(hiranthok_row(table.data()), table.size(), hiranthok_room(room.data()),
+                                              room.size(), answer);
+    if (refused)
+        show(what, refused, answer);
+    else
+        std::printf("%s: %llu terms\n", what, static_cast<unsigned long long>(answer[0]));
+}
+
+/* A null pointer becomes one that is not; any other stays as it is. */
+static bool replaced()
+{
+    uint32_t number = 0;
+    const hiranthok_cell cell = {0, 0, 0};
+    return hiranthok_row(nullptr) && hiranthok_room(nullptr) && hiranthok_cells(nullptr) && hiranthok_row(&number) == &number
+        && hiranthok_room(&number) == &number && hiranthok_cells(&cell) == &cell;
+}
+
+static bool versioned()
+{
+    return std::to_string(HIRANTHOK_VERSION_MAJOR) + "." + std::to_string(HIRANTHOK_VERSION_MINOR) + "."
+        + std::to_string(HIRANTHOK_VERSION_PATCH) == HIRANTHOK_VERSION;
+}
+
+int main()
+{
+    judge("no table", {}, {}, {}, {});
+    judge("no inputs", rule, {}, {}, Row(HIRANTHOK_JUDGE_WORK(terms)));
+    judge("no work room", rule, {}, {}, {});
+    judge_records("no inputs, records", rule, {}, {}, Row(HIRANTHOK_JUDGE_WORK(terms)));
+    finish("no finished room", rule, {});
+    finish("the largest finished room", rule, Row(HIRANTHOK_MAX_FINISH_ROOM));
+    std::printf("any table, finished: at most %d terms, %d numbers\n", HIRANTHOK_FINISHED_TERMS(HIRANTHOK_MAX_TERMS),
+                HIRANTHOK_MAX_FINISH_ROOM);
+    std::printf("null pointers replaced: %s; version %s\n", replaced() ? "yes" : "no", versioned() ? HIRANTHOK_VERSION : "wrong");
+    for (uint32_t number = 0; number <= 24; number++)
+        std::printf("%2u %s\n", static_cast<unsigned>(number), hiranthok_refusal_text(number));
+    return 0;
+}

@@ -41,7 +41,7 @@ SumIs =
     (w : List ℕ) (I : Interpretation) (k : ℕ) → opOf (termAt w k .op) ≡ BvAdd
     → valueAt w I k .num ≡ (valueIn (values w I k) (termAt w k .p) .num + valueIn (values w I k) (termAt w k .q) .num) % 2 ^ sortAt w (termAt w k .p) .n
 
--- The axioms of ArraysEx: at its own index a store holds the stored value, at any other what the array beneath holds.
+-- Two of the three axioms of ArraysEx (the third is of equal arrays, which no term compares): at its own index a store holds the stored value, at any other what the array beneath holds.
 pub record ReadOverWrite (w : List ℕ) (I : Interpretation) (k : ℕ) : Type 0 where
   pub hit : valueAt w I k .cell (valueIn (values w I k) (termAt w k .q) .num) ≡ valueIn (values w I k) (termAt w k .r) .num
   pub miss : (j : ℕ) → (valueIn (values w I k) (termAt w k .q) .num ≡ j → ⊥) → valueAt w I k .cell j ≡ valueIn (values w I k) (termAt w k .p) .cell j

@@ -5,8 +5,9 @@ use mathlib.Core.Bool.{Bool, true, false, cond, not, _||_}
 use mathlib.Core.Logic.{inl, inr}
 use mathlib.Core.List.{List}
 use Prim.Native.Nat.{ℕ, _%_, _≤_, _<_}
+use native.Mathlib.Omega.{arith}
 use lib.Dec.{eqb, ltb}
-use lib.ListN.{length, getD, List·getD-eq-default}
+use lib.ListN.{length, getD, length-append, List·getD-append, List·getD-eq-default}
 use borrow.Author.Tests.{lt-ltb, le-ltb}
 use Rattle.ops.specs.Fits.{fits}
 use Rattle.table.specs.declared.words.Term.{Term}
@@ -19,7 +20,7 @@ use Rattle.setting.specs.declared.cells.Cell.{Cell}
 use Rattle.setting.specs.Cells.{cellAt, cellCount}
 use Rattle.setting.specs.Check.{variableFault, cellFault, checkCells, check}
 use Rattle.setting.specs.Interpretation.{interpret}
-use Rattle.setting.specs.Laws.{OneValue, OneUsedValues, UnusedUnchecked}
+use Rattle.setting.specs.Laws.{OneValue, OneUsedValues, UnusedUnchecked, MoreValues}
 
 -- a slot of one value, in both rows or in neither
 same-inside : (values values′ : List ℕ) (slot : ℕ) → OneValue values values′ slot → ltb slot (length values) ≡ ltb slot (length values′)
@@ -53,3 +54,8 @@ module _ (w values values′ : List ℕ) (one : OneUsedValues w values values′
 pub unused-unchecked : UnusedUnchecked
 unfolding check
 unused-unchecked w values values′ cells one = ap (cond (not (eqb (length cells % 3) 0)) (refused 11 0)) (cells-same w values values′ one (cellAt cells) (cellCount cells))
+
+pub more-values : MoreValues
+more-values w values more inside k b v =
+    let here : termAt w k .p < length values = inside k b v in
+    inr (here, rw length-append (omega arith), sym (List·getD-append values more 0 (termAt w k .p) here))

@@ -3,7 +3,7 @@
 use mathlib.Core.Path.{_≡_}
 use mathlib.Core.Bool.{true}
 use mathlib.Core.Logic.{_⊎_}
-use mathlib.Core.List.{List}
+use mathlib.Core.List.{List, _++_}
 use Prim.Native.Nat.{ℕ, _≤_, _<_}
 use lib.ListN.{length, getD}
 use Rattle.table.specs.Terms.{terms, termAt}
@@ -33,3 +33,8 @@ OneUsedValues w values values′ = (k : ℕ) → k < terms w → variable (termA
 
 abbrev pub UnusedUnchecked : Type 0
 UnusedUnchecked = (w values values′ cells : List ℕ) → OneUsedValues w values values′ → check w values cells ≡ check w values′ cells
+
+-- Numbers after those of the used slots change nothing.
+abbrev pub MoreValues : Type 0
+MoreValues =
+    (w values more : List ℕ) → ((k : ℕ) → k < terms w → variable (termAt w k) ≡ true → termAt w k .p < length values) → OneUsedValues w values (values ++ more)

@@ -1,6 +1,7 @@
 pub mod FoldLaws
 pub mod Chains
 pub mod Searches
+pub mod Pigeonhole
 pub mod Slots
 pub mod Scans
 pub mod TermFaults

@@ -1,21 +1,21 @@
--- The search for a clash by the latest variable of each slot finds what the definition finds by all earlier terms.
+-- The search for a clash by one variable of each slot finds what the definition finds by all earlier terms.
 -- Assumes nothing.
 use mathlib.Core.Path.{_≡_, refl, sym, ap, subst, _∙_}
 use mathlib.Core.Bool.{Bool, true, false, not, _&&_, true≢false}
 use mathlib.Core.List.{List}
-use Prim.Native.Nat.{ℕ, zero, suc, max, _+_, _-_, _≤_, _<_}
-use native.Mathlib.Decide.{decLt, ℕ-discrete}
+use Prim.Native.Nat.{ℕ, _+_, _-_, _*_, _≤_, _<_}
 use native.Mathlib.Nat.{not-suc-le-zero}
-use native.Mathlib.Numerals.{add-one}
 use native.Mathlib.Omega.{arith}
 use lib.Dec.{eqb, leb}
-use lib.ListN.{length, getD, set, replicate, length-set, getD-replicate, List·getD-eq-default}
+use lib.ListN.{length, getD, set, replicate, length-set}
 use lib.Seq.{getD-set-same, getD-set-other}
+use borrow.Author.Count.{below-more}
 use borrow.Author.Tests.{eqb-true, leb-true, le-leb, eq-eqb, not-false}
-use Rattle.ops.proofs.Booleans.{never, and-parts}
+use Rattle.ops.proofs.Booleans.{and-parts}
 use Rattle.table.specs.declared.words.Term.{Term}
 use Rattle.table.specs.Terms.{termAt, sameSort}
-use Rattle.table.specs.Faults.{variable, claims, conflicts, clash, slotClash, firstFrom, firstClash, recalls}
+use Rattle.table.specs.Faults.{variable, claims, conflicts, clash, slotClash, firstFrom, firstClash}
+use Rattle.table.proofs.Pigeonhole.{pigeonhole}
 use Rattle.table.proofs.Searches.{any-none, any-found, first-on, first-here, first-past}
 
 abbrev pub slotOf : List ℕ → ℕ → ℕ
@@ -48,196 +48,220 @@ conflicts-alike a x p d y =
 same-slot : (a x : Term) → conflicts a x ≡ true → a .p ≡ x .p
 same-slot a x d = eqb-true (a .p) (x .p) (and-parts (eqb (a .p) (x .p)) (not (sameSort (a .sort) (x .sort) && eqb (a .q) (x .q))) d .0)
 
-pub recalls-some : (t : List ℕ) (entry : ℕ) (x : Term) → (entry ≡ 0 → ⊥) → conflicts (termAt t (entry - 1)) x ≡ recalls t entry x
-recalls-some t zero x h = absurd (h refl)
-recalls-some t (suc k) x h =
-    let e : suc k - 1 ≡ k = omega arith in
-    ap (λ (j : ℕ). conflicts (termAt t j) x) e
+-- What the search keeps: of the earlier variables of slots up to 255 one for each slot, by their numbers in the first met places of l
 
--- What the entries hold: of a variable k of a slot up to 255 there is one below top that conflicts with just what k does
+abbrev pub kept : List ℕ → List ℕ → ℕ → Term
+kept t l k = termAt t (getD l k 0)
 
-pub record Held (t l : List ℕ) (top k : ℕ) : Type 0 where
-  pub term : ℕ
-  pub covered : slotOf t k < top
-  pub entry : getD l (slotOf t k) 0 ≡ suc term
-  pub alike : (x : Term) → conflicts (termAt t term) x ≡ conflicts (termAt t k) x
+-- one of variable k's slot is kept, and conflicts with just what k does
+pub record Held (t l : List ℕ) (met k : ℕ) : Type 0 where
+  pub place : ℕ
+  pub there : place < met
+  pub slot : kept t l place .p ≡ slotOf t k
+  pub alike : (x : Term) → conflicts (kept t l place) x ≡ conflicts (termAt t k) x
 
--- an entry is an earlier variable; of each earlier variable one is held
-pub record Latest (t : List ℕ) (i : ℕ) (l : List ℕ) (top : ℕ) : Type 0 where
+-- what is kept are earlier variables, no two of one slot; of each earlier variable one is held
+pub record Firsts (t : List ℕ) (i : ℕ) (l : List ℕ) (met : ℕ) : Type 0 where
   pub size : length l ≡ 256
-  pub sound : (s f : ℕ) → getD l s 0 ≡ suc f → (f < i) × (variable (termAt t f) ≡ true)
-  pub complete : (k : ℕ) → k < i → claims (termAt t k) ≡ true → Held t l top k
+  pub few : met ≤ 256
+  pub earlier : (k : ℕ) → k < met → (getD l k 0 < i) × (claims (kept t l k) ≡ true)
+  pub apart : (k : ℕ) → k < met → (j : ℕ) → j < k → kept t l j .p ≡ kept t l k .p → ⊥
+  pub complete : (k : ℕ) → k < i → claims (termAt t k) ≡ true → Held t l met k
 
-abbrev pub empty : List ℕ
-empty = replicate 256 0
-
-zeros : (s : ℕ) → getD empty s 0 ≡ 0
-zeros s = go (decLt s 256)
-  where
-    go : Dec (s < 256) → getD empty s 0 ≡ 0
-    go (yes h) = getD-replicate 256 s 0 0 h
-    go (no h) = List·getD-eq-default empty 0 {n = s} (omega arith)
-
-none-yet : (t : List ℕ) → Latest t 0 empty 0
+none-yet : (t : List ℕ) → Firsts t 0 (replicate 256 0) 0
 none-yet t =
     record {
       size = refl;
-      sound = λ s f e. let z : 0 ≡ suc f = sym (zeros s) ∙ e in absurd (omega arith);
-      complete = λ k b v. absurd (not-suc-le-zero b);
+      few = omega arith;
+      earlier = λ k b. absurd (not-suc-le-zero b);
+      apart = λ k b. absurd (not-suc-le-zero b);
+      complete = λ k b. absurd (not-suc-le-zero b);
     }
 
-module _ (t : List ℕ) (i : ℕ) (l : List ℕ) (top : ℕ) (h : Latest t i l top) where
-  -- a term that is no variable, or none of a slot up to 255, changes nothing
-  passed : claims (termAt t i) ≡ false → Latest t (i + 1) l top
-  passed no-claim =
+claims-slot : (x : Term) → claims x ≡ true → x .p < 256
+claims-slot x e = let b : x .p ≤ 255 = leb-true (x .p) 255 (and-parts (variable x) (leb (x .p) 255) e .1) in omega arith
+
+claims-variable : (x : Term) → claims x ≡ true → variable x ≡ true
+claims-variable x e = and-parts (variable x) (leb (x .p) 255) e .0
+
+module _ (t : List ℕ) (i : ℕ) (l : List ℕ) (met : ℕ) (h : Firsts t i l met) where
+  -- term i is held already, or is no variable of a slot up to 255
+  passed : (claims (termAt t i) ≡ true → Held t l met i) → Firsts t (i + 1) l met
+  passed held =
       record {
         size = h .size;
-        sound = λ s f e. let b = h .sound s f e in (let c : f < i = b .0 in omega arith, b .1);
-        complete = λ k b v. go k b v (decLt k i);
+        few = h .few;
+        earlier = λ k b. let e = h .earlier k b in (let c : getD l k 0 < i = e .0 in omega arith, e .1);
+        apart = h .apart;
+        complete = below-more (λ k. claims (termAt t k) ≡ true → Held t l met k) i (h .complete) held;
       }
-    where
-      go : (k : ℕ) → k < i + 1 → claims (termAt t k) ≡ true → Dec (k < i) → Held t l top k
-      go k b v (yes c) = h .complete k c v
-      go k b v (no c) =
-          let e : k ≡ i = omega arith in
-          absurd (true≢false (sym v ∙ ap (λ (j : ℕ). claims (termAt t j)) e ∙ no-claim))
+
+  -- no two that are kept have one slot
+  one-place : (j k : ℕ) → j < met → k < met → kept t l j .p ≡ kept t l k .p → j ≡ k
+  one-place j k b c e =
+      let below : j < k → ⊥ = λ d. h .apart k c j d e in
+      let above : k < j → ⊥ = λ d. h .apart j b k d (sym e) in
+      omega arith
 
   module _ (claim : claims (termAt t i) ≡ true) where
-    v : variable (termAt t i) ≡ true
-    v = and-parts (variable (termAt t i)) (leb (slotOf t i) 255) claim .0
+    -- a kept variable conflicts with term i: there is a clash
+    clash-found : (k : ℕ) → k < met → conflicts (kept t l k) (termAt t i) ≡ true → slotClash t i ≡ true
+    unfolding clash
+    clash-found k b d =
+        let e = h .earlier k b in
+        rw (claim, claims-variable (termAt t i) claim) (any-found i (λ j. variable (termAt t j) && conflicts (termAt t j) (termAt t i)) (getD l k 0) (e .0) (rw (claims-variable (kept t l k) (e .1)) d))
 
-    low : slotOf t i ≤ 255
-    low = leb-true (slotOf t i) 255 (and-parts (variable (termAt t i)) (leb (slotOf t i) 255) claim .1)
-
-    -- no entry of its slot conflicts with term i: no earlier variable does
-    unlike-none : ((s : ℕ) → s < top → s ≡ slotOf t i → recalls t (getD l s 0) (termAt t i) ≡ false) → (k : ℕ) → k < i → variable (termAt t k) && conflicts (termAt t k) (termAt t i) ≡ false
-    unlike-none none k b = go (variable (termAt t k) && conflicts (termAt t k) (termAt t i)) refl
+    -- none of its slot does: no earlier variable does
+    clash-none : ((k : ℕ) → k < met → kept t l k .p ≡ slotOf t i → conflicts (kept t l k) (termAt t i) ≡ false) → slotClash t i ≡ false
+    unfolding clash
+    clash-none none = rw (claim, claims-variable (termAt t i) claim) (any-none i _ (λ k b. go k b (variable (termAt t k) && conflicts (termAt t k) (termAt t i)) refl))
       where
-        go : (d : Bool) → variable (termAt t k) && conflicts (termAt t k) (termAt t i) ≡ d → d ≡ false
-        go false e = refl
-        go true e =
+        go : (k : ℕ) → k < i → (d : Bool) → variable (termAt t k) && conflicts (termAt t k) (termAt t i) ≡ d → d ≡ false
+        go k b false e = refl
+        go k b true e =
             let parts = and-parts (variable (termAt t k)) (conflicts (termAt t k) (termAt t i)) e in
             let slot : slotOf t k ≡ slotOf t i = same-slot (termAt t k) (termAt t i) (parts .1) in
-            let small : slotOf t k ≤ 255 = omega (arith, low) in
+            let small : slotOf t k ≤ 255 = omega (arith, claims-slot (termAt t i) claim) in
             let held = h .complete k b (rw (parts .0, le-leb (slotOf t k) 255 small)) in
-            sym (held .alike (termAt t i) ∙ parts .1)
-            ∙ sym (ap (λ (n : ℕ). recalls t n (termAt t i)) (held .entry))
-            ∙ none (slotOf t k) (held .covered) slot
+            sym (held .alike (termAt t i) ∙ parts .1) ∙ none (held .place) (held .there) (held .slot ∙ slot)
 
-    -- an entry conflicts with term i: there is a clash
-    clash-found : (s : ℕ) → recalls t (getD l s 0) (termAt t i) ≡ true → slotClash t i ≡ true
-    unfolding clash
-    clash-found s r = go (getD l s 0) refl r
-      where
-        go : (e : ℕ) → getD l s 0 ≡ e → recalls t e (termAt t i) ≡ true → slotClash t i ≡ true
-        go zero e d = never d
-        go (suc f) e d =
-            let b = h .sound s f e in
-            rw (claim, v) (any-found i (λ k. variable (termAt t k) && conflicts (termAt t k) (termAt t i)) f (b .0) (rw (b .1) d))
+    -- the kept variable of its slot does not conflict with it
+    module _ (k : ℕ) (b : k < met) (slot : kept t l k .p ≡ slotOf t i) (same : conflicts (kept t l k) (termAt t i) ≡ false) where
+      seen-clean : slotClash t i ≡ false
+      seen-clean = clash-none (λ j c e. ap (λ (q : ℕ). conflicts (kept t l q) (termAt t i)) (one-place j k c b (e ∙ sym slot)) ∙ same)
 
-    clash-none : ((k : ℕ) → k < i → variable (termAt t k) && conflicts (termAt t k) (termAt t i) ≡ false) → slotClash t i ≡ false
-    unfolding clash
-    clash-none none = rw (claim, v) (any-none i _ none)
+      seen : Firsts t (i + 1) l met
+      seen = passed (λ w. record { place = k; there = b; slot = slot; alike = λ x. sym (conflicts-alike (kept t l k) (termAt t i) slot same x) })
 
-    -- term i becomes the latest of its slot
-    noted : ((k : ℕ) → k < i → variable (termAt t k) && conflicts (termAt t k) (termAt t i) ≡ false) → Latest t (i + 1) (set l (slotOf t i) (i + 1)) (max top (slotOf t i + 1))
-    noted none =
-        record {
-          size = length-set l (slotOf t i) (i + 1) ∙ h .size;
-          sound = λ s f e. sound s f e (ℕ-discrete s (slotOf t i));
-          complete = λ k b w. complete k b w (decLt k i);
-        }
-      where
-        here : getD (set l (slotOf t i) (i + 1)) (slotOf t i) 0 ≡ i + 1
-        here = getD-set-same l (slotOf t i) (i + 1) 0 (omega (arith, h .size, low))
+    -- none that is kept has its slot
+    module _ (new : (k : ℕ) → k < met → kept t l k .p ≡ slotOf t i → ⊥) where
+      new-clean : slotClash t i ≡ false
+      new-clean = clash-none (λ k b e. absurd (new k b e))
 
-        sound : (s f : ℕ) → getD (set l (slotOf t i) (i + 1)) s 0 ≡ suc f → Dec (s ≡ slotOf t i) → (f < i + 1) × (variable (termAt t f) ≡ true)
-        sound s f e (yes same) =
-            let g : i + 1 ≡ suc f = sym (ap (λ (j : ℕ). getD (set l (slotOf t i) (i + 1)) j 0) same ∙ here) ∙ e in
-            let is : f ≡ i = omega arith in
-            (omega arith, ap (λ (j : ℕ). variable (termAt t j)) is ∙ v)
-        sound s f e (no other) =
-            let g = h .sound s f (sym (getD-set-other l (slotOf t i) s (i + 1) 0 other) ∙ e) in
-            (let b : f < i = g .0 in omega arith, g .1)
+      place-left : met < 256
+      place-left =
+          pigeonhole 256 met (slotOf t i) (λ k. kept t l k .p) (claims-slot (termAt t i) claim)
+          (λ k b. claims-slot (kept t l k) (h .earlier k b .1)) new (h .apart)
 
-        at-slot : (k : ℕ) → slotOf t k ≡ slotOf t i → getD (set l (slotOf t i) (i + 1)) (slotOf t k) 0 ≡ suc i
-        at-slot k e = ap (λ (j : ℕ). getD (set l (slotOf t i) (i + 1)) j 0) e ∙ here ∙ add-one i
+      -- term i is kept
+      noted : Firsts t (i + 1) (set l met i) (met + 1)
+      noted =
+          record {
+            size = length-set l met i ∙ h .size;
+            few = omega (arith, place-left);
+            earlier = below-more (λ k. Earlier (getD (set l met i) k 0)) met (λ k b. subst Earlier (sym (there k b)) (old k b)) (subst Earlier (sym here) (omega arith, claim));
+            apart = below-more Apart met (λ k b j c e. h .apart k b j c (slot-there j (omega arith) e ∙ ap (slotOf t) (there k b))) (λ j c e. new j c (slot-there j c e ∙ ap (slotOf t) here));
+            complete = below-more (λ k. claims (termAt t k) ≡ true → Held t (set l met i) (met + 1) k) i (λ k b w. more k (h .complete k b w)) (λ w. record { place = met; there = omega arith; slot = ap (slotOf t) here; alike = λ x. ap (λ (j : ℕ). conflicts (termAt t j) x) here });
+          }
+        where
+          here : getD (set l met i) met 0 ≡ i
+          here = getD-set-same l met i 0 (omega (arith, h .size, place-left))
 
-        no-conflict : (k : ℕ) → k < i → claims (termAt t k) ≡ true → conflicts (termAt t k) (termAt t i) ≡ false
-        no-conflict k b w = rw (and-parts (variable (termAt t k)) (leb (slotOf t k) 255) w .0) at (none k b)
+          there : (k : ℕ) → k < met → getD (set l met i) k 0 ≡ getD l k 0
+          there k b = getD-set-other l met k i 0 (λ e. omega arith)
 
-        earlier : (k : ℕ) → k < i → claims (termAt t k) ≡ true → Dec (slotOf t k ≡ slotOf t i) → Held t (set l (slotOf t i) (i + 1)) (max top (slotOf t i + 1)) k
-        earlier k b w (yes e) =
-            record {
-              term = i;
-              covered = omega arith;
-              entry = at-slot k e;
-              alike = conflicts-alike (termAt t k) (termAt t i) e (no-conflict k b w);
-            }
-        earlier k b w (no e) =
-            let held = h .complete k b w in
-            let c : slotOf t k < top = held .covered in
-            record {
-              term = held .term;
-              covered = omega arith;
-              entry = getD-set-other l (slotOf t i) (slotOf t k) (i + 1) 0 e ∙ held .entry;
-              alike = held .alike;
-            }
+          Earlier : ℕ → Type 0
+          Earlier j = (j < i + 1) × (claims (termAt t j) ≡ true)
 
-        complete : (k : ℕ) → k < i + 1 → claims (termAt t k) ≡ true → Dec (k < i) → Held t (set l (slotOf t i) (i + 1)) (max top (slotOf t i + 1)) k
-        complete k b w (yes c) = earlier k c w (ℕ-discrete (slotOf t k) (slotOf t i))
-        complete k b w (no c) =
-            let e : k ≡ i = omega arith in
-            let s : slotOf t k ≡ slotOf t i = ap (slotOf t) e in
-            record { term = i; covered = omega arith; entry = at-slot k s; alike = λ x. ap (λ (j : ℕ). conflicts (termAt t j) x) (sym e) }
+          old : (k : ℕ) → k < met → Earlier (getD l k 0)
+          old k b = let e = h .earlier k b in (let c : getD l k 0 < i = e .0 in omega arith, e .1)
 
--- The search among n terms: what is known before term i, with the entries l below top
-pub record Searched (t : List ℕ) (n : ℕ) (l : List ℕ) (top i : ℕ) : Type 0 where
+          Apart : ℕ → Type 0
+          Apart k = (j : ℕ) → j < k → kept t (set l met i) j .p ≡ kept t (set l met i) k .p → ⊥
+
+          slot-there : {s : ℕ} (j : ℕ) → j < met → kept t (set l met i) j .p ≡ s → kept t l j .p ≡ s
+          slot-there j b e = sym (ap (slotOf t) (there j b)) ∙ e
+
+          more : (k : ℕ) → Held t l met k → Held t (set l met i) (met + 1) k
+          more k held =
+              let b : held .place < met = held .there in
+              let e = there (held .place) b in
+              record { place = held .place; there = omega arith; slot = ap (slotOf t) e ∙ held .slot; alike = λ x. ap (λ (j : ℕ). conflicts (termAt t j) x) e ∙ held .alike x }
+
+-- The search among n terms: what is known before term i
+pub record Searched (t : List ℕ) (n : ℕ) (l : List ℕ) (met i : ℕ) : Type 0 where
   pub within : i ≤ n
   pub same : firstClash t n ≡ firstFrom (slotClash t) (n - i) i
-  pub held : Latest t i l top
+  pub firsts : Firsts t i l met
 
-pub started : (t : List ℕ) (n : ℕ) → Searched t n empty 0 0
+-- and, at its variable x, that none of the first k that are kept has x's slot
+pub record Looked (t : List ℕ) (n : ℕ) (l : List ℕ) (met i : ℕ) (x : Term) (k : ℕ) : Type 0 where
+  pub searched : Searched t n l met i
+  pub inside : i < n
+  pub here : x ≡ termAt t i
+  pub claim : claims x ≡ true
+  pub others : (j : ℕ) → j < k → kept t l j .p ≡ x .p → ⊥
+
+pub started : (t : List ℕ) (n : ℕ) → Searched t n (replicate 256 0) 0 0
 started t n =
     let e : n ≡ n - 0 = omega arith in
-    record { within = omega arith; same = ap (λ (left : ℕ). firstFrom (slotClash t) left 0) e; held = none-yet t }
+    record { within = omega arith; same = ap (λ (left : ℕ). firstFrom (slotClash t) left 0) e; firsts = none-yet t }
 
-module _ (t : List ℕ) (n : ℕ) (l : List ℕ) (top i : ℕ) (h : Searched t n l top i) where
-  pub entries : length l ≡ 256
-  entries = h .held .size
-
+module _ {t : List ℕ} {n : ℕ} {l : List ℕ} {met i : ℕ} (h : Searched t n l met i) where
   pub all-clean : n ≤ i → n ≡ firstClash t n
   all-clean end =
       let e : i ≡ n = let b : i ≤ n = h .within in omega arith in
       sym (h .same ∙ first-past (slotClash t) n i end ∙ e)
 
-  module _ (inside : i < n) (x : Term) (here : x ≡ termAt t i) where
-    clean-more : slotClash t i ≡ false → firstClash t n ≡ firstFrom (slotClash t) (n - (i + 1)) (i + 1)
-    clean-more e = h .same ∙ first-on (slotClash t) n i inside e
+  module _ (inside : i < n) where
+    clean-more : {l′ : List ℕ} {met′ : ℕ} → slotClash t i ≡ false → Firsts t (i + 1) l′ met′ → Searched t n l′ met′ (i + 1)
+    clean-more e firsts = record { within = omega arith; same = h .same ∙ first-on (slotClash t) n i inside e; firsts = firsts }
 
-    pub one-passed : claims x ≡ false → Searched t n l top (i + 1)
-    one-passed no-claim =
-        let c : claims (termAt t i) ≡ false = ap claims (sym here) ∙ no-claim in
-        record { within = omega arith; same = clean-more (rw c); held = passed t i l top (h .held) c }
+    module _ {x : Term} (here : x ≡ termAt t i) where
+      pub one-passed : claims x ≡ false → Searched t n l met (i + 1)
+      one-passed none =
+          let c : claims (termAt t i) ≡ false = ap claims (sym here) ∙ none in
+          clean-more (rw c) (passed t i l met (h .firsts) (λ w. absurd (true≢false (sym w ∙ c))))
 
-    module _ (claim : claims x ≡ true) where
-      claim-here : claims (termAt t i) ≡ true
-      claim-here = ap claims (sym here) ∙ claim
+      pub looking : claims x ≡ true → Looked t n l met i x 0
+      looking claim = record { searched = h; inside = inside; here = here; claim = claim; others = λ j b. absurd (not-suc-le-zero b) }
 
-      pub one-noted : ((s : ℕ) → s < top → s ≡ x .p → recalls t (getD l s 0) x ≡ false) → Searched t n (set l (x .p) (i + 1)) (max top (x .p + 1)) (i + 1)
-      one-noted none =
-          let none-here : (s : ℕ) → s < top → s ≡ slotOf t i → recalls t (getD l s 0) (termAt t i) ≡ false =
-          λ s b e. ap (recalls t (getD l s 0)) (sym here) ∙ none s b (e ∙ ap (λ (y : Term). y .p) (sym here)) in
-          let unlike = unlike-none t i l top (h .held) claim-here none-here in
-          record {
-            within = omega arith;
-            same = clean-more (clash-none t i l top (h .held) claim-here unlike);
-            held = subst (λ (y : Term). Latest t (i + 1) (set l (y .p) (i + 1)) (max top (y .p + 1))) (sym here) (noted t i l top (h .held) claim-here unlike);
-          }
+module _ {t : List ℕ} {n : ℕ} {l : List ℕ} {met i : ℕ} {x : Term} {k : ℕ} (h : Looked t n l met i x k) where
+  firsts : Firsts t i l met
+  firsts = h .searched .firsts
 
-      pub low-slot : x .p < 256
-      low-slot = omega (arith, ap (λ (y : Term). y .p) here, low t i l top (h .held) claim-here)
+  claim : claims (termAt t i) ≡ true
+  claim = ap claims (sym (h .here)) ∙ h .claim
 
-      pub one-found : (s : ℕ) → recalls t (getD l s 0) x ≡ true → i ≡ firstClash t n
-      one-found s r =
-          sym (h .same ∙ first-here (slotClash t) n i inside (clash-found t i l top (h .held) claim-here s (ap (recalls t (getD l s 0)) (sym here) ∙ r)))
+  slot : x .p ≡ slotOf t i
+  slot = ap (λ (y : Term). y .p) (h .here)
+
+  pub place-inside : k < met → k < 256
+  place-inside b = omega (arith, firsts .few)
+
+  pub term-inside : k < met → n * 6 ≤ length t → getD l k 0 * 6 + 5 < length t
+  term-inside b whole = omega (arith, firsts .earlier k b .0, h .inside)
+
+  module _ {a : Term} (is : a ≡ kept t l k) where
+    slot-is : a .p ≡ x .p → kept t l k .p ≡ slotOf t i
+    slot-is e = ap (λ (y : Term). y .p) (sym is) ∙ e ∙ slot
+
+    conflict-is : {d : Bool} → conflicts a x ≡ d → conflicts (kept t l k) (termAt t i) ≡ d
+    conflict-is e = sym (ap (λ (y : Term). conflicts y x) is ∙ ap (conflicts (kept t l k)) (h .here)) ∙ e
+
+    pub other-slot : (a .p ≡ x .p → ⊥) → Looked t n l met i x (k + 1)
+    other-slot other =
+        record {
+          searched = h .searched;
+          inside = h .inside;
+          here = h .here;
+          claim = h .claim;
+          others = below-more (λ j. kept t l j .p ≡ x .p → ⊥) k (h .others) (λ e. other (ap (λ (y : Term). y .p) is ∙ e));
+        }
+
+    pub one-seen : k < met → a .p ≡ x .p → conflicts a x ≡ false → Searched t n l met (i + 1)
+    one-seen b e d =
+        clean-more (h .searched) (h .inside) (seen-clean t i l met firsts claim k b (slot-is e) (conflict-is d)) (seen t i l met firsts claim k b (slot-is e) (conflict-is d))
+
+    pub one-found : k < met → conflicts a x ≡ true → i ≡ firstClash t n
+    one-found b d = sym (h .searched .same ∙ first-here (slotClash t) n i (h .inside) (clash-found t i l met firsts claim k b (conflict-is d)))
+
+  module _ (end : met ≤ k) where
+    new : (j : ℕ) → j < met → kept t l j .p ≡ slotOf t i → ⊥
+    new j b e = h .others j (omega arith) (e ∙ sym slot)
+
+    pub place-free : met < 256
+    place-free = place-left t i l met firsts claim new
+
+    pub one-noted : Searched t n (set l met i) (met + 1) (i + 1)
+    one-noted = clean-more (h .searched) (h .inside) (new-clean t i l met firsts claim new) (noted t i l met firsts claim new)

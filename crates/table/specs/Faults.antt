@@ -140,8 +140,3 @@ firstFrom f (suc left) at =
 
 abbrev pub firstClash : List ℕ → ℕ → ℕ
 firstClash t n = firstFrom (slotClash t) n 0
-
--- the term of an entry, which is its number and one, or 0 for none, against a variable
-abbrev pub recalls : List ℕ → ℕ → Term → Bool
-recalls t zero x = false
-recalls t (suc k) x = conflicts (termAt t k) x

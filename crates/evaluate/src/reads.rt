@@ -10,28 +10,26 @@ pub struct Found {
     pub number: u32,
 }
 
-// What the array term a holds at index j, the outermost store first.
+// What the array term a holds at index j, the outermost store first; where its index differs, the same question goes to the
+// array beneath.
 pub fn find(table: &[u32], front: &[u32], a: u32, j: u32) -> Found
     requires { ⌜ WellFormed 80000 (now table) ⌝ }
     ensures { λ r. ⌜ r ≡ foundAt (now (table .entry)) (now (front .entry)) a j ⌝ }
 {
-    let mut at = a;
-    loop {
-        let x = table::term_at(table, at);
-        if !table::storing(x) {
-            return Found {
-                stored: false,
-                number: x.p,
-            };
-        }
-        if number_at(front, x.q) == j {
-            return Found {
-                stored: true,
-                number: number_at(front, x.r),
-            };
-        }
-        at = x.p;
+    let x = table::term_at(table, a);
+    if !table::storing(x) {
+        return Found {
+            stored: false,
+            number: x.p,
+        };
     }
+    if number_at(front, x.q) == j {
+        return Found {
+            stored: true,
+            number: number_at(front, x.r),
+        };
+    }
+    find(table, front, x.p, j)
 }
 
 // The slot of the variable beneath the stores of the array term a.

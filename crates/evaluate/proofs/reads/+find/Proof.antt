@@ -1,0 +1,48 @@
+use Prim.Native.Nat.{ℕ, _<_}
+use mathlib.Core.Path.{_≡_, sym, subst, _∙_}
+use borrow.Author.Needs.{needs}
+use borrow.Author.Tests.{not-true, not-false}
+use borrow.Fn.Kinds.{In}
+use borrow.Fn.PlainCycle.{Measures, is, falls, and}
+use Rattle.evaluate.proofs.reads.find.Reads as find
+use Rattle.evaluate.proofs.reads.find.Kinds as find-kinds
+use Rattle.evaluate.proofs.reads.+find.Lts-find as find-lts
+use Rattle.setting.proofs.number_at.Reads as number-at-reads
+use Rattle.table.proofs.SoundTerms.{store-below}
+use Rattle.table.proofs.storing.Reads as storing-reads
+use Rattle.table.proofs.term_at.Reads as term-at-reads
+use Rattle.evaluate.proofs.Chains.{beneath, found-end, found-hit, found-miss}
+use Rattle.evaluate.proofs.reads.+find.{statement}
+use Rattle.evaluate.proofs.reads.+find.Tie.{close}
+
+-- the array's number falls
+abbrev μ-find : Measures 2 find-kinds.ps ℕ
+μ-find κs a = a .1 .1 .0
+
+abbrev find-at : ℕ → In 2 find-kinds.ps
+find-at t = and 2 find-kinds.ps (is 2 find-kinds.ps μ-find t) find.Pre
+
+abbrev find-below : ℕ → In 2 find-kinds.ps
+find-below t = and 2 find-kinds.ps (falls 2 find-kinds.ps _<_ μ-find t) find.Pre
+
+pub +find-spec : {M : Type 1} → statement M
++find-spec = close μ-find λ t. find-lts.spec (
+  term-at-reads.Asked,
+  term-at-reads.Learnt,
+  storing-reads.Asked,
+  storing-reads.Learnt,
+  number-at-reads.Asked,
+  number-at-reads.Learnt,
+  find-below t,
+  find.Post,
+)
+    (find-at t)
+    find.Post
+    (λ c κs. search needs)
+    (λ c κs. search needs)
+    (λ c. let s = c .before .before .before .before .before in let x = c .before .before .term-at in found-end (s .args .table .now) (store-below 80000 (s .args .table .now) (s .pre .1)) (s .args .a) (x .result) (x .ensures) (s .args .front .now) (s .args .j) (sym (c .before .storing .ensures) ∙ not-true _ (c .if1 .taken)))
+    (λ c κs. search needs)
+    (λ c κs. search needs)
+    (λ c. let s = c .before .before .before .before .before .before .before .before in let x = c .before .before .before .before .before .term-at in rw (c .number-at2 .ensures) (found-hit (s .args .table .now) (store-below 80000 (s .args .table .now) (s .pre .1)) (s .args .a) (x .result) (x .ensures) (s .args .front .now) (s .args .j) (sym (c .before .before .before .before .storing .ensures) ∙ not-false _ (c .before .before .before .if1 .left)) (sym (c .before .before .number-at .ensures) ∙ c .before .if2 .taken)))
+    (λ c κs. let s = c .before .before .before .before .before .before .before in let x = c .before .before .before .before .term-at in (subst (λ (n : ℕ). x .result .p < n) (s .pre .0) (beneath (s .args .table .now) (store-below 80000 (s .args .table .now) (s .pre .1)) (s .args .a) (x .result) (x .ensures) (sym (c .before .before .before .storing .ensures) ∙ not-false _ (c .before .before .if1 .left))), s .pre .1))
+    (λ c. let s = c .before .before .before .before .before .before .before .before in let x = c .before .before .before .before .before .term-at in c .find .ensures ∙ found-miss (s .args .table .now) (store-below 80000 (s .args .table .now) (s .pre .1)) (s .args .a) (x .result) (x .ensures) (s .args .front .now) (s .args .j) (sym (c .before .before .before .before .storing .ensures) ∙ not-false _ (c .before .before .before .if1 .left)) (λ e. c .before .if2 .left (c .before .before .number-at .ensures ∙ e)))

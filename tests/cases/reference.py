@@ -1,6 +1,6 @@
 """What ./hiranthok prints, written a second time from paper 01 and docs/PROGRAM.md alone: it shares no code or table with the program."""
-LIMIT = 2097152
-NUMBERS = 600000
+LIMIT = 4194304
+TABLE, OTHERS = 480000, 200000
 NAMES = ["", "", "not", "and", "or", "=>", "=", "ite", "bvnot", "bvand", "bvor", "bvadd",
          "bvmul", "bvshl", "bvult", "select", "store"]
 PARTS = [b"table", b"values", b"cells", b"allowance"]
@@ -11,8 +11,9 @@ MISREAD = {
     3: "a number before the words table, values, cells, allowance",
     4: "this part was given before",
     5: "allowance takes one number, and this is another",
-    6: "more than 600000 numbers",
-    12: "the file is larger than 2097152 bytes",
+    13: "the table has more than 480000 numbers",
+    14: "values, cells and allowance together have more than 200000 numbers",
+    12: "the file is larger than 4194304 bytes",
     7: "the file ends without its part table",
     8: "the file ends without its part values",
     9: "the file ends without its part cells",
@@ -78,7 +79,7 @@ def read_case(text):
     whole = len(text) <= LIMIT
     text = text[:LIMIT]
     found, end = tokens(text)
-    parts, part, total = {}, None, 0
+    parts, part, others = {}, None, 0
     for token, line, stop in found:
         if not whole and stop == len(text):
             break                                   # cut by the limit
@@ -90,10 +91,12 @@ def read_case(text):
                 raise Misread(3, line)
             if part == b"allowance" and parts[part]:
                 raise Misread(5, line)
-            if total == NUMBERS:
-                raise Misread(6, line)
+            if part == b"table" and len(parts[part]) == TABLE:
+                raise Misread(13, line)
+            if part != b"table" and others == OTHERS:
+                raise Misread(14, line)
             parts[part].append(value)
-            total += 1
+            others += part != b"table"
         elif token in PARTS:
             if token in parts:
                 raise Misread(4, line)

@@ -2,6 +2,7 @@ pub mod Booleans
 pub mod Scans
 pub mod Lines
 pub mod Writing
+pub mod Limits
 pub mod Totals
 pub mod Answers
 pub mod Inside

@@ -25,31 +25,31 @@ module _ (whole : Bool) (text : List ℕ) (l : Lexer) (i : ℕ) where
   lex-end h = ap (lex whole l) (drop-of-length-le text h)
 
 -- the parse has come to byte i
-pub record Parsed (whole : Bool) (limit : ℕ) (text : List ℕ) (l : Lexer) (p : Parser) (i : ℕ) : Type 0 where
+pub record Parsed (whole : Bool) (room : ℕ) (text : List ℕ) (l : Lexer) (p : Parser) (i : ℕ) : Type 0 where
   pub within : i ≤ length text
-  pub is : parse limit 0 start (lex whole fresh text) ≡ parse limit i p (lex whole l (drop i text))
+  pub is : parse room 0 start (lex whole fresh text) ≡ parse room i p (lex whole l (drop i text))
 
-module _ (whole : Bool) (limit : ℕ) (text : List ℕ) (l : Lexer) (p : Parser) where
-  pub parsed-none : l ≡ fresh → p ≡ start → Parsed whole limit text l p 0
-  parsed-none e f = record { within = omega arith; is = ap (λ (q : Parser). parse limit 0 q (lex whole fresh text)) (sym f) ∙ ap (λ (k : Lexer). parse limit 0 p (lex whole k text)) (sym e) }
+module _ (whole : Bool) (room : ℕ) (text : List ℕ) (l : Lexer) (p : Parser) where
+  pub parsed-none : l ≡ fresh → p ≡ start → Parsed whole room text l p 0
+  parsed-none e f = record { within = omega arith; is = ap (λ (q : Parser). parse room 0 q (lex whole fresh text)) (sym f) ∙ ap (λ (k : Lexer). parse room 0 p (lex whole k text)) (sym e) }
 
-  module _ (i : ℕ) (h : Parsed whole limit text l p i) where
-    pub parsed-more : i < length text → (token : Token) → token ≡ tokenAt l (getD text i 0) → (q : Parser) → q ≡ taken limit i p token
-        → (k : Lexer) → k ≡ lexed l (getD text i 0) → Parsed whole limit text k q (i + 1)
+  module _ (i : ℕ) (h : Parsed whole room text l p i) where
+    pub parsed-more : i < length text → (token : Token) → token ≡ tokenAt l (getD text i 0) → (q : Parser) → q ≡ taken room i p token
+        → (k : Lexer) → k ≡ lexed l (getD text i 0) → Parsed whole room text k q (i + 1)
     unfolding parse
     parsed-more b token t q e k f =
         record {
           within = omega arith;
           is =
               h .is
-              ∙ ap (parse limit i p) (lex-turn whole text l i b)
-              ∙ ap (λ (n : ℕ). parse limit n (taken limit i p (tokenAt l (getD text i 0))) (lex whole (lexed l (getD text i 0)) (drop (i + 1) text))) (sym (add-one i))
-              ∙ ap (λ (r : Parser). parse limit (i + 1) r (lex whole (lexed l (getD text i 0)) (drop (i + 1) text))) (sym (e ∙ ap (taken limit i p) t))
-              ∙ ap (λ (r : Lexer). parse limit (i + 1) q (lex whole r (drop (i + 1) text))) (sym f);
+              ∙ ap (parse room i p) (lex-turn whole text l i b)
+              ∙ ap (λ (n : ℕ). parse room n (taken room i p (tokenAt l (getD text i 0))) (lex whole (lexed l (getD text i 0)) (drop (i + 1) text))) (sym (add-one i))
+              ∙ ap (λ (r : Parser). parse room (i + 1) r (lex whole (lexed l (getD text i 0)) (drop (i + 1) text))) (sym (e ∙ ap (taken room i p) t))
+              ∙ ap (λ (r : Lexer). parse room (i + 1) q (lex whole r (drop (i + 1) text))) (sym f);
         }
 
-    pub parsed-all : length text ≤ i → taken limit (length text) p (tokenAtEnd l whole) ≡ parse limit 0 start (lex whole fresh text)
+    pub parsed-all : length text ≤ i → taken room (length text) p (tokenAtEnd l whole) ≡ parse room 0 start (lex whole fresh text)
     unfolding parse
     parsed-all end =
         let e : i ≡ length text = let b : i ≤ length text = h .within in omega arith in
-        sym (h .is ∙ ap (parse limit i p) (lex-end whole text l i end) ∙ ap (λ (n : ℕ). taken limit n p (tokenAtEnd l whole)) e)
+        sym (h .is ∙ ap (parse room i p) (lex-end whole text l i end) ∙ ap (λ (n : ℕ). taken room n p (tokenAtEnd l whole)) e)

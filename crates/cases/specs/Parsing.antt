@@ -2,12 +2,19 @@
 -- Assumes nothing.
 use mathlib.Core.Bool.{Bool, true, false, cond, not, _&&_, _||_}
 use mathlib.Core.List.{List, [], _∷_}
-use Prim.Native.Nat.{ℕ, suc, _+_}
+use Prim.Native.Nat.{ℕ, suc, _+_, _-_}
 use lib.Dec.{eqb, ltb, leb}
 use Rattle.cases.specs.declared.lexer.Token.{Token}
 use Rattle.cases.specs.declared.lexer.Token.the-variants.{Nothing, Number, Heading, Unknown, TooLarge}
 use Rattle.cases.specs.declared.parser.Run.{Run}
 use Rattle.cases.specs.declared.parser.Parser.{Parser}
+
+-- the most numbers of the table, and of values, cells and allowance together
+abbrev pub tableLimit : ℕ
+tableLimit = 480000
+
+abbrev pub othersLimit : ℕ
+othersLimit = 200000
 
 abbrev pub none : Run
 none = record { given = false; from = 0; to = 0 }
@@ -35,6 +42,24 @@ isGiven p part =
 abbrev pub full : Parser → Bool
 full p = eqb (p .part) 4 && ltb (p .allowance .from) (p .allowance .to)
 
+-- how many numbers a part has
+abbrev pub size : Run → ℕ
+size run = run .to - run .from
+
+-- how many the parts but the table have: all that are not the table's
+abbrev pub others : Parser → ℕ
+others p = p .total - size (p .table)
+
+-- the part is the table, which has its most numbers; it is another, and these have theirs
+abbrev pub tableFull : Parser → Bool
+tableFull p = eqb (p .part) 1 && leb tableLimit (size (p .table))
+
+abbrev pub othersFull : Parser → Bool
+othersFull p = not (eqb (p .part) 1) && leb othersLimit (others p)
+
+abbrev pub refuse : ℕ → Bool → ℕ → ℕ
+refuse number ok rest = cond ok rest number
+
 -- a heading: 4 the part was given before
 unfoldable pub headed : Parser → ℕ → ℕ → Parser
 headed p part at =
@@ -50,12 +75,21 @@ headed p part at =
       at = p .at;
     })
 
--- a number: 3 before any heading; 5 a second one of the allowance; 6 more numbers than the limit
+-- what is wrong with a number, 0 where nothing is: 3 before any heading; 5 a second one of the allowance; 13 one too many in the
+-- table, 14 in the other parts together; 6 one too many for the room
+unfoldable pub numberFault : Parser → ℕ → ℕ
+numberFault p room =
+    refuse 3 (not (eqb (p .part) 0))
+    (refuse 5 (not (full p))
+    (refuse 13 (not (tableFull p))
+    (refuse 14 (not (othersFull p))
+    (refuse 6 (ltb (p .total) room)
+    0))))
+
+-- a number, with room for so many
 unfoldable pub counted : Parser → ℕ → ℕ → Parser
-counted p limit at =
-    cond (eqb (p .part) 0) (failed p 3 at)
-    (cond (full p) (failed p 5 at)
-    (cond (leb limit (p .total)) (failed p 6 at)
+counted p room at =
+    cond (eqb (numberFault p room) 0)
     (record {
       part = p .part;
       total = p .total + 1;
@@ -65,27 +99,25 @@ counted p limit at =
       allowance = extended (p .allowance) 4 (p .part) (p .total + 1);
       fault = p .fault;
       at = p .at;
-    })))
+    })
+    (failed p (numberFault p room) at)
 
 -- a token that the byte at ends, where there was no fault: 1 no number and no heading; 2 a number of 2^32 or more
 abbrev pub takenBy : ℕ → ℕ → Parser → Token → Parser
-takenBy limit at p Nothing = p
-takenBy limit at p (Number n) = counted p limit at
-takenBy limit at p (Heading part) = headed p part at
-takenBy limit at p Unknown = failed p 1 at
-takenBy limit at p TooLarge = failed p 2 at
+takenBy room at p Nothing = p
+takenBy room at p (Number n) = counted p room at
+takenBy room at p (Heading part) = headed p part at
+takenBy room at p Unknown = failed p 1 at
+takenBy room at p TooLarge = failed p 2 at
 
 -- the first fault stands
 abbrev pub taken : ℕ → ℕ → Parser → Token → Parser
-taken limit at p token = cond (eqb (p .fault) 0) (takenBy limit at p token) p
+taken room at p token = cond (eqb (p .fault) 0) (takenBy room at p token) p
 
 -- the tokens in order, the first of which ends at the byte at
 unfoldable pub parse : ℕ → ℕ → Parser → List Token → Parser
-parse limit at p [] = p
-parse limit at p (token ∷ tokens) = parse limit (suc at) (taken limit at p token) tokens
-
-abbrev pub refuse : ℕ → Bool → ℕ → ℕ
-refuse number ok rest = cond ok rest number
+parse room at p [] = p
+parse room at p (token ∷ tokens) = parse room (suc at) (taken room at p token) tokens
 
 -- the first fault, 0 where there is none: of the tokens; 12 the text is not whole; 7, 8, 9, 10 a part is missing; 11 the allowance
 -- has no number

@@ -34,39 +34,48 @@ feeds (b ∷ bs) = feed b + feeds bs
 abbrev pub lineAt : List ℕ → ℕ → ℕ
 lineAt text at = 1 + feeds (take at text)
 
-abbrev pub caseOf : Parser → Case
-caseOf p = record { table = p .table; values = p .values; cells = p .cells; allowance = p .allowance .from }
+-- the parts of a parsed text, and the count of its numbers
+abbrev pub caseOf : Parser → ℕ → Case
+caseOf p count = record { table = p .table; values = p .values; cells = p .cells; allowance = p .allowance .from; count = count }
 
 -- where the first fault is: at the end what is missing there
 abbrev pub faultAt : Parser → ℕ → ℕ
 faultAt p end = cond (eqb (p .fault) 0) end (p .at)
 
 -- a parsed text, by its first fault
-abbrev pub answer : List ℕ → Parser → ℕ → Reading
-answer text p kind = cond (eqb kind 0) (Read (caseOf p)) (Unread (record { kind = kind; line = lineAt text (faultAt p (length text)) }))
+abbrev pub answer : List ℕ → Parser → ℕ → ℕ → Reading
+answer text p count kind = cond (eqb kind 0) (Read (caseOf p count)) (Unread (record { kind = kind; line = lineAt text (faultAt p (length text)) }))
 
--- the bytes that are read, which are the whole text or not, with room for so many numbers
+-- the bytes that are read, which are the whole text or not: their numbers in order
+abbrev pub numbersWithin : List ℕ → Bool → List ℕ
+numbersWithin text whole = numbersIn (lex whole fresh text)
+
+-- their parts, with room for so many numbers
 abbrev pub parsed : List ℕ → Bool → ℕ → Parser
 parsed text whole room = parse (capped room) 0 start (lex whole fresh text)
 
 abbrev pub readingWithin : List ℕ → Bool → ℕ → Reading
-readingWithin text whole room = answer text (parsed text whole room) (ended (parsed text whole room) whole)
+readingWithin text whole room = answer text (parsed text whole room) (length (numbersWithin text whole)) (ended (parsed text whole room) whole)
 
 abbrev pub roomWithin : Reading → List ℕ → Bool → List ℕ → List ℕ
-roomWithin (Read c) text whole room = numbersIn (lex whole fresh text) ++ drop (length (numbersIn (lex whole fresh text))) room
+roomWithin (Read c) text whole room = numbersWithin text whole ++ drop (length (numbersWithin text whole)) room
 roomWithin (Unread m) text whole room = room
 
--- of a text the first 2097152 bytes are read
+-- the most bytes of a text; of a longer one so many are read
+abbrev pub byteLimit : ℕ
+byteLimit = 4194304
+
 abbrev pub seen : List ℕ → List ℕ
-seen text = take 2097152 text
+seen text = take byteLimit text
 
 abbrev pub wholly : List ℕ → Bool
-wholly text = leb (length text) 2097152
+wholly text = leb (length text) byteLimit
 
 -- the text's numbers in order
 abbrev pub numbersOf : List ℕ → List ℕ
-numbersOf text = numbersIn (lex (wholly text) fresh (seen text))
+numbersOf text = numbersWithin (seen text) (wholly text)
 
+-- where there is no fault the count is that of the text's numbers
 abbrev pub reading : List ℕ → ℕ → Reading
 reading text room = readingWithin (seen text) (wholly text) room
 

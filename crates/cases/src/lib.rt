@@ -9,14 +9,15 @@ pub use parser::Run;
 ghost use mathlib.Core.Path.{_≡_};
 ghost use Prim.Native.Nat.{_≤_};
 ghost use lib.ListN.{length};
-ghost use Rattle.cases.specs.Reading.{lower, capped, feed, lineAt, caseOf, faultAt, readingWithin, reading, roomWithin, roomAfter, Inside};
+ghost use Rattle.cases.specs.Reading.{lower, capped, feed, lineAt, caseOf, faultAt, readingWithin, reading, roomWithin, roomAfter, byteLimit, Inside};
 
-// The parts that are rows by their places among the numbers, and the place of the allowance.
+// The parts that are rows by their places among the numbers, the place of the allowance, and how many numbers were written.
 pub struct Case {
     pub table: Run,
     pub values: Run,
     pub cells: Run,
     pub allowance: u32,
+    pub count: u32,
 }
 
 // The number of a fault, and the line that it is on, counted from 1.
@@ -30,8 +31,11 @@ pub enum Reading {
     Unread(Misread),
 }
 
-// How many bytes of a text are read.
-pub const LIMIT: usize = 2097152;
+// The most bytes of a text; of a longer one so many are read.
+pub const BYTE_LIMIT: usize = 4194304;
+
+// The most numbers of a text: a room for so many is long enough.
+pub const NUMBER_LIMIT: usize = (parser::TABLE_LIMIT as usize) + (parser::OTHERS_LIMIT as usize);
 
 fn lower(a: usize, b: usize) -> usize
     ensures { λ r. ⌜ r ≡ lower a b ⌝ }
@@ -54,7 +58,7 @@ fn feed(b: u8) -> u64
 
 // The line of the byte at, which is 1 and the line feeds before it.
 fn line_at(text: &[u8], at: usize) -> u64
-    requires { ⌜ length (now text) ≤ 2097152 ⌝ }
+    requires { ⌜ length (now text) ≤ byteLimit ⌝ }
     ensures { λ r. ⌜ r ≡ lineAt (now (text .entry)) at ⌝ }
 {
     let end = lower(at, text.len());
@@ -65,8 +69,8 @@ fn line_at(text: &[u8], at: usize) -> u64
     line
 }
 
-fn case_of(p: Parser) -> Case
-    ensures { λ r. ⌜ r ≡ caseOf p ⌝ }
+fn case_of(p: Parser, count: u32) -> Case
+    ensures { λ r. ⌜ r ≡ caseOf p count ⌝ }
 {
     let table = p.table;
     let values = p.values;
@@ -76,6 +80,7 @@ fn case_of(p: Parser) -> Case
         values,
         cells,
         allowance: p.allowance.from,
+        count,
     }
 }
 
@@ -88,7 +93,7 @@ fn fault_at(p: Parser, end: usize) -> usize
 
 // Reads the bytes of a text up to the limit, which are the whole text or not.
 fn read_within(text: &[u8], whole: bool, numbers: &mut [u32]) -> Reading
-    requires { ⌜ length (now text) ≤ 2097152 ⌝ }
+    requires { ⌜ length (now text) ≤ byteLimit ⌝ }
     ensures { λ r. ⌜ r ≡ readingWithin (now (text .entry)) whole (length (now (numbers .entry))) ⌝ }
     ensures { λ r. ⌜ now (numbers .exit) ≡ roomWithin r (now (text .entry)) whole (now (numbers .entry)) ⌝ }
     ensures { λ r. ⌜ Inside r (length (now (numbers .entry))) ⌝ }
@@ -102,16 +107,17 @@ fn read_within(text: &[u8], whole: bool, numbers: &mut [u32]) -> Reading
         });
     }
     room::write(text, whole, numbers);
-    Reading::Read(case_of(p))
+    Reading::Read(case_of(p, p.total))
 }
 
-// Reads a case: the front of numbers holds the text's numbers, or else there is a fault and numbers is as it was.
+// Reads a case: the front of numbers holds the text's numbers, which the answer counts; or else there is a fault, and numbers is as
+// it was.
 pub fn read_case(text: &[u8], numbers: &mut [u32]) -> Reading
     ensures { λ r. ⌜ r ≡ reading (now (text .entry)) (length (now (numbers .entry))) ⌝ }
     ensures { λ r. ⌜ now (numbers .exit) ≡ roomAfter r (now (text .entry)) (now (numbers .entry)) ⌝ }
     ensures { λ r. ⌜ Inside r (length (now (numbers .entry))) ⌝ }
 {
-    let whole = text.len() <= LIMIT;
-    let end = lower(LIMIT, text.len());
+    let whole = text.len() <= BYTE_LIMIT;
+    let end = lower(BYTE_LIMIT, text.len());
     read_within(&text[..end], whole, numbers)
 }

@@ -1,13 +1,19 @@
 // The parts of a case, token by token.
 ghost use mathlib.Core.Path.{_≡_};
+ghost use Prim.Native.Nat.{_-_};
 ghost use Rattle.cases.specs.Lexing.{fresh, lex};
-ghost use Rattle.cases.specs.Parsing.{none, start, failed, begun, extended, isGiven, full, headed, counted, taken, parse, refuse, ended};
+ghost use Rattle.cases.specs.Parsing.{none, start, failed, begun, extended, isGiven, full, size, others, tableFull, othersFull, refuse, headed, numberFault, counted, taken, parse, ended};
 use crate::lexer::Lexer;
 use crate::lexer::Token;
 use crate::lexer::fresh;
 use crate::lexer::lexed;
 use crate::lexer::token_at;
 use crate::lexer::token_at_end;
+
+// The most numbers of the table, and of the other parts together.
+pub const TABLE_LIMIT: u32 = 480000;
+
+pub const OTHERS_LIMIT: u32 = 200000;
 
 // A part's numbers stand at from up to to in the row of all numbers.
 pub struct Run {
@@ -110,6 +116,50 @@ fn full(p: Parser) -> bool
     (p.part == 4) & (p.allowance.from < p.allowance.to)
 }
 
+// How far a is above b.
+fn difference(a: u32, b: u32) -> u32
+    ensures { λ r. ⌜ r ≡ a - b ⌝ }
+{
+    if b < a { a - b } else { 0 }
+}
+
+// How many numbers a part has.
+fn size(run: Run) -> u32
+    ensures { λ r. ⌜ r ≡ size run ⌝ }
+{
+    difference(run.to, run.from)
+}
+
+// How many the parts but the table have: all that are not the table's.
+fn others(p: Parser) -> u32
+    ensures { λ r. ⌜ r ≡ others p ⌝ }
+{
+    let table = p.table;
+    difference(p.total, size(table))
+}
+
+// Whether the table takes no further number.
+fn table_full(p: Parser) -> bool
+    ensures { λ r. ⌜ r ≡ tableFull p ⌝ }
+{
+    let table = p.table;
+    (p.part == 1) & (TABLE_LIMIT <= size(table))
+}
+
+// Whether the other parts take no further number.
+fn others_full(p: Parser) -> bool
+    ensures { λ r. ⌜ r ≡ othersFull p ⌝ }
+{
+    (p.part != 1) & (OTHERS_LIMIT <= others(p))
+}
+
+// number unless ok, else rest.
+fn refuse(number: u32, ok: bool, rest: u32) -> u32
+    ensures { λ r. ⌜ r ≡ refuse number ok rest ⌝ }
+{
+    if ok { rest } else { number }
+}
+
 // A heading: 4 where the part was given before.
 fn headed(p: Parser, part: u32, at: usize) -> Parser
     ensures { λ r. ⌜ r ≡ headed p part at ⌝ }
@@ -134,18 +184,23 @@ fn headed(p: Parser, part: u32, at: usize) -> Parser
     }
 }
 
-// A number: 3 before any heading, 5 after an allowance's one, 6 past the limit.
-fn counted(p: Parser, limit: u32, at: usize) -> Parser
-    ensures { λ r. ⌜ r ≡ counted p limit at ⌝ }
+// What is wrong with a number, 0 where nothing is: 3 before any heading, 5 after an allowance's one, 13 and 14 past the limits, 6 past
+// the room.
+fn number_fault(p: Parser, room: u32) -> u32
+    ensures { λ r. ⌜ r ≡ numberFault p room ⌝ }
 {
-    if p.part == 0 {
-        return failed(p, 3, at);
-    }
-    if full(p) {
-        return failed(p, 5, at);
-    }
-    if limit <= p.total {
-        return failed(p, 6, at);
+    let six = refuse(6, p.total < room, 0);
+    let limits = refuse(13, !table_full(p), refuse(14, !others_full(p), six));
+    refuse(3, p.part != 0, refuse(5, !full(p), limits))
+}
+
+// A number, where the room has so many.
+fn counted(p: Parser, room: u32, at: usize) -> Parser
+    ensures { λ r. ⌜ r ≡ counted p room at ⌝ }
+{
+    let fault = number_fault(p, room);
+    if fault != 0 {
+        return failed(p, fault, at);
     }
     let part = p.part;
     let next = p.total + 1;
@@ -166,15 +221,15 @@ fn counted(p: Parser, limit: u32, at: usize) -> Parser
 }
 
 // After one token more, which the byte at ends. The first fault stands.
-fn taken(limit: u32, at: usize, p: Parser, token: Token) -> Parser
-    ensures { λ r. ⌜ r ≡ taken limit at p token ⌝ }
+fn taken(room: u32, at: usize, p: Parser, token: Token) -> Parser
+    ensures { λ r. ⌜ r ≡ taken room at p token ⌝ }
 {
     if p.fault != 0 {
         return p;
     }
     match token {
         Token::Nothing => p,
-        Token::Number(_) => counted(p, limit, at),
+        Token::Number(_) => counted(p, room, at),
         Token::Heading(part) => headed(p, part, at),
         Token::Unknown => failed(p, 1, at),
         Token::TooLarge => failed(p, 2, at),
@@ -182,24 +237,17 @@ fn taken(limit: u32, at: usize, p: Parser, token: Token) -> Parser
 }
 
 // The tokens of a text in order.
-pub fn parse(text: &[u8], whole: bool, limit: u32) -> Parser
-    ensures { λ r. ⌜ r ≡ parse limit 0 start (lex whole fresh (now (text .entry))) ⌝ }
+pub fn parse(text: &[u8], whole: bool, room: u32) -> Parser
+    ensures { λ r. ⌜ r ≡ parse room 0 start (lex whole fresh (now (text .entry))) ⌝ }
 {
     let mut l = fresh();
     let mut p = start();
     for i in 0..text.len() {
         let b = text[i];
-        p = taken(limit, i, p, token_at(l, b));
+        p = taken(room, i, p, token_at(l, b));
         l = lexed(l, b);
     }
-    taken(limit, text.len(), p, token_at_end(l, whole))
-}
-
-// number unless ok, else rest.
-fn refuse(number: u32, ok: bool, rest: u32) -> u32
-    ensures { λ r. ⌜ r ≡ refuse number ok rest ⌝ }
-{
-    if ok { rest } else { number }
+    taken(room, text.len(), p, token_at_end(l, whole))
 }
 
 // The first fault of a parsed text, 0 where there is none.

@@ -64,12 +64,17 @@ fn say_explanation(table: &[u32], room: &[u32], v: Verdict) {
     }
 }
 
-// Explains the judgement of a case.
-pub fn explain_case(table: &[u32], values: &[u32], cells: &[u32], allowance: u64) {
-    let mut room = [0u32; 1024];
-    let answer = judge::judge(table, values, cells, allowance, &mut room);
+// Explains the judgement of a case, made in a room for the work.
+pub fn explain_case(
+    table: &[u32],
+    values: &[u32],
+    cells: &[u32],
+    allowance: u64,
+    room: &mut [u32],
+) {
+    let answer = judge::judge(table, values, cells, allowance, room);
     match answer {
-        Judgement::Judged(v) => say_explanation(table, &room, v),
+        Judgement::Judged(v) => say_explanation(table, room, v),
         Judgement::NotJudged(refusal) => say_refusal(refusal),
     }
 }

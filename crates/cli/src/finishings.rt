@@ -70,15 +70,13 @@ fn say_extent(extent: Extent, rule: Term) {
     say(b").\n");
 }
 
-// Finishes the table of a case; its other parts are printed as they are. A finished table has at most 512 + 3 + 145 * 512
-// terms, so the room is long enough.
-pub fn finish_case(table: &[u32], values: &[u32], cells: &[u32], allowance: u64) {
-    let mut room = [0u32; 448530];
-    let answer = finish::finish(table, &mut room);
+// Finishes the table of a case in a room for the work; the other parts are printed as they are.
+pub fn finish_case(table: &[u32], values: &[u32], cells: &[u32], allowance: u64, room: &mut [u32]) {
+    let answer = finish::finish(table, room);
     match answer {
         Finishing::Finished(extent) => {
-            say_extent(extent, table::term_at(&room, extent.last));
-            say_table(&room, extent.terms);
+            say_extent(extent, table::term_at(room, extent.last));
+            say_table(room, extent.terms);
             say_values(values);
             say_cells(cells);
             say_count(b"\nallowance ", allowance);

@@ -11,12 +11,17 @@ fn say_values(table: &[u32], room: &[u32], spent: Spent) {
     say_count(b"left       ", spent.left);
 }
 
-// Evaluates a case. No table that is evaluated has more than 80,000 terms, so the room is long enough.
-pub fn evaluate_case(table: &[u32], values: &[u32], cells: &[u32], allowance: u64) {
-    let mut room = [0u32; 80000];
-    let answer = evaluate::evaluate(table, values, cells, allowance, &mut room);
+// Evaluates a case in a room for the work.
+pub fn evaluate_case(
+    table: &[u32],
+    values: &[u32],
+    cells: &[u32],
+    allowance: u64,
+    room: &mut [u32],
+) {
+    let answer = evaluate::evaluate(table, values, cells, allowance, room);
     match answer {
-        Evaluation::Evaluated(spent) => say_values(table, &room, spent),
+        Evaluation::Evaluated(spent) => say_values(table, room, spent),
         Evaluation::NotEvaluated(refusal) => say_refusal(refusal),
     }
 }

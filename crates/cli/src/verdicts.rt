@@ -30,10 +30,9 @@ fn say_verdict(v: Verdict) {
     say_count(b"left       ", v.left);
 }
 
-// Judges a case. No table that is judged has more than 512 terms, so the room is long enough.
-pub fn judge_case(table: &[u32], values: &[u32], cells: &[u32], allowance: u64) {
-    let mut room = [0u32; 1024];
-    let answer = judge::judge(table, values, cells, allowance, &mut room);
+// Judges a case in a room for the work.
+pub fn judge_case(table: &[u32], values: &[u32], cells: &[u32], allowance: u64, room: &mut [u32]) {
+    let answer = judge::judge(table, values, cells, allowance, room);
     match answer {
         Judgement::Judged(v) => say_verdict(v),
         Judgement::NotJudged(refusal) => say_refusal(refusal),

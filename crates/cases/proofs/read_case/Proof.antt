@@ -3,7 +3,7 @@ use mathlib.Core.Path.{sym, ap, _∙_}
 use mathlib.Core.List.{List}
 use lib.ListN.{length, take}
 use lib.Seq.{length-take-le}
-use Rattle.cases.specs.Reading.{wholly, readingWithin, roomWithin}
+use Rattle.cases.specs.Reading.{byteLimit, wholly, readingWithin, roomWithin}
 use Rattle.cases.proofs.Lines.{take-lower, lower-most}
 use borrow.Author.Needs.{needs}
 use native.Mathlib.Omega.{arith}
@@ -12,20 +12,20 @@ use Rattle.cases.proofs.read_case.Tie as tie
 
 -- what is read is within the text
 fits : (c : tie.After-lower) → c .lower .result ≤ length (c .before .before .before .args .text .now)
-fits c = omega (arith, c .lower .ensures, lower-most 2097152 (length (c .before .before .before .args .text .now)) .1)
+fits c = omega (arith, c .lower .ensures, lower-most byteLimit (length (c .before .before .before .args .text .now)) .1)
 
 slice-aggregate-read-within : tie.Need-slice-aggregate-read-within
 slice-aggregate-read-within c = sym (length-take-le (c .before .lower .result) (c .before .before .before .before .args .text .now) (fits (c .before)))
 
 read-within-requires : tie.Need-read-within-requires
 read-within-requires c κs =
-    omega (arith, length-take-le (c .before .before .lower .result) (c .before .before .before .before .before .args .text .now) (fits (c .before .before)), c .before .before .lower .ensures, lower-most 2097152 (length (c .before .before .before .before .before .args .text .now)) .0)
+    omega (arith, length-take-le (c .before .before .lower .result) (c .before .before .before .before .before .args .text .now) (fits (c .before .before)), c .before .before .lower .ensures, lower-most byteLimit (length (c .before .before .before .before .before .args .text .now)) .0)
 
 returns : tie.Need-returns
 returns c =
     let a = c .before .before .before .before .before .before .before .before .args in
     let r = c .before .before .read-within in
-    let e = ap (λ (k : ℕ). take k (a .text .now)) (c .before .before .before .before .before .lower .ensures) ∙ take-lower 2097152 (a .text .now) in (
+    let e = ap (λ (k : ℕ). take k (a .text .now)) (c .before .before .before .before .before .lower .ensures) ∙ take-lower byteLimit (a .text .now) in (
       r .ensures .0 ∙ ap (λ (t : List ℕ). readingWithin t (wholly (a .text .now)) (length (a .numbers .now))) e,
       (
         r .ensures .1 .0 ∙ ap (λ (t : List ℕ). roomWithin (r .result) t (wholly (a .text .now)) (a .numbers .now)) e,

@@ -5,7 +5,7 @@ use Rattle.cases.specs.declared.Case.{Case}
 use Rattle.cases.specs.Lexing.{fresh, lex}
 use Rattle.cases.specs.Parsing.{start, parse}
 use Rattle.cases.specs.Reading.{Placed}
-use Rattle.cases.proofs.Totals.{capped-most, held, placed}
+use Rattle.cases.proofs.Totals.{capped-most, all, held, placed}
 use Rattle.cases.proofs.Answers.{read-is, unread-is}
 use borrow.Author.Needs.{needs}
 use native.Mathlib.Omega.{arith}
@@ -38,10 +38,10 @@ returns-2 c =
     let d = c .before .before .before .before .before .before .ended in
     let n = length (a .numbers .now) in
     let tokens = lex (a .whole) fresh (a .text .now) in
-    let is = q .ensures ∙ ap (λ (limit : ℕ). parse limit 0 start tokens) (k .ensures) in
+    let is = q .ensures ∙ ap (λ (room : ℕ). parse room 0 start tokens) (k .ensures) in
     let none = sym (d .ensures) ∙ c .before .before .before .before .before .if1 .left in
     let enough = held (k .result) tokens (q .result) (q .ensures) (a .whole) none in (
-      read-is (a .text .now) (a .whole) n (q .result) is (d .result) (d .ensures) (c .before .before .before .before .before .if1 .left) (c .case-of .result) (c .case-of .ensures),
+      read-is (a .text .now) (a .whole) n (q .result) is (d .result) (d .ensures) (c .before .before .before .before .before .if1 .left) (all (k .result) tokens (q .result) (q .ensures) (a .whole) none) (c .case-of .result) (c .case-of .ensures),
       (
         c .before .before .before .write .ensures,
         subst (λ (x : Case). Placed x n) (sym (c .case-of .ensures)) (placed (k .result) tokens (q .result) (q .ensures) (a .whole) none n (omega (arith, enough, k .ensures, capped-most n))),

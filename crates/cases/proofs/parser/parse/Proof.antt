@@ -8,29 +8,29 @@ use Rattle.cases.proofs.parser.parse.Statement.{statement}
 use Rattle.cases.proofs.parser.parse.Tie as tie
 
 abbrev Inv-loop : tie.InvT-loop
-Inv-loop text whole limit l₀ p₀ i₀ i-end l p i = Parsed whole limit text l p i
+Inv-loop text whole room l₀ p₀ i₀ i-end l p i = Parsed whole room text l p i
 
 abbrev μ-loop : tie.MeasureT-loop
-μ-loop text whole limit l₀ p₀ i₀ i-end l p i = length text - i
+μ-loop text whole room l₀ p₀ i₀ i-end l p i = length text - i
 
 loop-holds : tie.Need-loop-holds Inv-loop μ-loop
 loop-holds c =
     let a = c .before .before .before .args in
-    parsed-none (a .whole) (a .limit) (a .text .now) (c .before .fresh .result) (c .start .result) (c .before .fresh .ensures) (c .start .ensures)
+    parsed-none (a .whole) (a .room) (a .text .now) (c .before .fresh .result) (c .start .result) (c .before .fresh .ensures) (c .start .ensures)
 
 loop-again : tie.Need-loop-again Inv-loop μ-loop
 loop-again c =
     let a = c .before .before .before .before .before .before .before .before .before .args in
     let l = c .before .before .before .before .before .loop in
-    parsed-more (a .whole) (a .limit) (a .text .now) (l .l) (l .p) (l .i) (l .inv) (c .before .before .before .before .loop-test .taken) (c .before .before .token-at .result) (c .before .before .token-at .ensures) (c .before .taken .result) (c .before .taken .ensures) (c .lexed .result) (c .lexed .ensures)
+    parsed-more (a .whole) (a .room) (a .text .now) (l .l) (l .p) (l .i) (l .inv) (c .before .before .before .before .loop-test .taken) (c .before .before .token-at .result) (c .before .before .token-at .ensures) (c .before .taken .result) (c .before .taken .ensures) (c .lexed .result) (c .lexed .ensures)
 
 returns : tie.Need-returns Inv-loop μ-loop
 returns c =
     let a = c .before .before .before .before .before .before .before .args in
     let l = c .before .before .before .loop in
     c .taken2 .ensures
-    ∙ ap (taken (a .limit) (length (a .text .now)) (l .p)) (c .before .token-at-end .ensures)
-    ∙ parsed-all (a .whole) (a .limit) (a .text .now) (l .l) (l .p) (l .i) (l .inv) (c .before .before .loop-test .left)
+    ∙ ap (taken (a .room) (length (a .text .now)) (l .p)) (c .before .token-at-end .ensures)
+    ∙ parsed-all (a .whole) (a .room) (a .text .now) (l .l) (l .p) (l .i) (l .inv) (c .before .before .loop-test .left)
 
 pub parse-spec : {M : Type 1} → statement M
 parse-spec =

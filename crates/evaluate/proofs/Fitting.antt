@@ -9,17 +9,21 @@ use native.Mathlib.Omega.{arith}
 use lib.Dec.{eqb, ltb}
 use borrow.Author.Tests.{eqb-true, ltb-true}
 use Rattle.ops.specs.declared.Op.{Op}
-use Rattle.ops.specs.declared.Op.the-variants.{Constant, Variable, Not, And, Or, Implies, Equal, Ite, BvNot, BvAnd, BvOr, BvAdd, BvMul, BvShl, BvUlt, Select, Store, Unknown}
+use Rattle.ops.specs.declared.Op.the-variants.{Constant, Variable, Apply, Ite, Select, Store, Unknown}
 use Rattle.ops.specs.Numbers.{opOf}
-use Rattle.ops.specs.Meaning.{Operation, operation, apply}
+use Rattle.ops.specs.Meaning.{apply}
 use Rattle.ops.specs.Fits.{fits}
+use Rattle.ops.specs.declared.Function.{Function}
+use Rattle.ops.specs.Ranks.{Arity, FunctionRank, functionRank, rankWidth}
+use Rattle.ops.specs.Ranks.FunctionRank.{boolUnary, boolBinary, equality, bvUnary, bvBinary, bvCompare}
 use Rattle.ops.specs.Laws.{resultWidth, chooses}
 use Rattle.ops.proofs.Booleans.{never, and-parts}
-use Rattle.ops.proofs.Fitting.{fitting, fits-below}
+use Rattle.ops.proofs.Widths.{fits-below}
+use Rattle.ops.proofs.Fitting.{fitting}
 use Rattle.table.specs.declared.words.Sort.{Sort}
 use Rattle.table.specs.declared.words.Term.{Term}
 use Rattle.table.specs.Terms.{terms, termAt, sortAt, boolean, vector, scalar, array, vectorOf, sameSort}
-use Rattle.table.specs.Ranks.{rankOf, fieldsOf, slotted}
+use Rattle.table.specs.Ranks.{applied, rankOf, fieldsOf, slotted}
 use Rattle.table.specs.Faults.{variable, placedAs, typedAs, valuedAs}
 use Rattle.table.specs.WellFormed.{WellFormed}
 use Rattle.table.proofs.SoundTerms.{widths}
@@ -28,7 +32,7 @@ use Rattle.setting.proofs.Checked.{below-of-fits, checked-fits}
 use Rattle.evaluate.specs.Values.{scalarValue, arrayValue, valueBy, valueIn, values, valueAt}
 use Rattle.evaluate.specs.Laws.{ValuesFit, CheckedValuesFit}
 use Rattle.evaluate.proofs.Folds.{value-below}
-use Rattle.table.proofs.OperandSorts.{isKnown, not-array, same-sort, boolean-scalar, vector-scalar, three, four, op-at, typing, two-placed, three-placed}
+use Rattle.table.proofs.OperandSorts.{isKnown, not-array, same-sort, rank-scalar, three, four, op-at, typing, two-placed, three-placed}
 
 -- a number that fits a sort that is no array's
 scalar-fit : (s : Sort) (u : ℕ) → scalar s ≡ true → fits (s .n) u ≡ true → Fit s (scalarValue u)
@@ -37,22 +41,25 @@ scalar-fit s u k h = record { num = λ _. h; cell = λ a. absurd (not-array s k 
 boolean-n : (s : Sort) → boolean s ≡ true → s .n ≡ 0
 boolean-n s h = eqb-true (s .n) 0 (and-parts (eqb (s .m) 0) (eqb (s .n) 0) h .1)
 
+-- the width of a function's value is its term's, by its rank
+rank-width : {n : Arity} (r : FunctionRank n) (x a b c : Sort) → typedAs (applied r) x a b c ≡ true → rankWidth r (a .n) ≡ x .n
+rank-width boolUnary x a b c h = sym (boolean-n x (and-parts (boolean x) (boolean a) h .0))
+rank-width boolBinary x a b c h = sym (boolean-n x (three (boolean x) (boolean a) (boolean b) h .0))
+rank-width equality x a b c h = sym (boolean-n x (three (boolean x) (scalar a) (sameSort a b) h .0))
+rank-width bvUnary x a b c h = same-sort a x (and-parts (vector x) (sameSort a x) h .1) .n
+rank-width bvBinary x a b c h = same-sort a x (three (vector x) (sameSort a x) (sameSort b x) h .1) .n
+rank-width bvCompare x a b c h = sym (boolean-n x (three (boolean x) (vector a) (sameSort a b) h .0))
+
 -- One term, by its operator: x, a, b, c are its sort and its operands', i its number
 module _ (I : Interpretation) (v : ℕ → Value) (t : Term) (i : ℕ) (a b c : Sort)
     (p-fit : t .p < i → Fit a (v (t .p))) (q-fit : t .q < i → Fit b (v (t .q))) (r-fit : t .r < i → Fit c (v (t .r))) where
   -- an operator's value, of the width that its sorts say
   operated-fit : (op : Op) → scalar (t .sort) ≡ true → resultWidth op (a .n) (b .n) ≡ t .sort .n
-      → (chooses (operation op) ≡ true → (fits (b .n) (v (t .q) .num) ≡ true) × (fits (b .n) (v (t .r) .num) ≡ true))
+      → (chooses op ≡ true → (fits (b .n) (v (t .q) .num) ≡ true) × (fits (b .n) (v (t .r) .num) ≡ true))
       → Fit (t .sort) (scalarValue (apply op (a .n) (v (t .p) .num) (v (t .q) .num) (v (t .r) .num)))
   operated-fit op k e h =
       scalar-fit (t .sort) _ k
       (subst (λ (n : ℕ). fits n (apply op (a .n) (v (t .p) .num) (v (t .q) .num) (v (t .r) .num)) ≡ true) e (fitting op (a .n) (b .n) (v (t .p) .num) (v (t .q) .num) (v (t .r) .num) h))
-
-  connective-fit : (op : Op) → resultWidth op (a .n) (b .n) ≡ 0 → boolean (t .sort) ≡ true → (chooses (operation op) ≡ true → false ≡ true) → Fit (t .sort) (scalarValue (apply op (a .n) (v (t .p) .num) (v (t .q) .num) (v (t .r) .num)))
-  connective-fit op e k h = operated-fit op (boolean-scalar (t .sort) k) (e ∙ sym (boolean-n (t .sort) k)) (λ z. never (h z))
-
-  vector-fit : (op : Op) → resultWidth op (a .n) (b .n) ≡ a .n → vector (t .sort) ≡ true → sameSort a (t .sort) ≡ true → (chooses (operation op) ≡ true → false ≡ true) → Fit (t .sort) (scalarValue (apply op (a .n) (v (t .p) .num) (v (t .q) .num) (v (t .r) .num)))
-  vector-fit op e k s h = operated-fit op (vector-scalar (t .sort) k) (e ∙ same-sort a (t .sort) s .n) (λ z. never (h z))
 
   choice-fit : scalar (t .sort) && boolean a && sameSort b (t .sort) && sameSort c (t .sort) ≡ true → (t .p < i) × (t .q < i) × (t .r < i) → Fit (t .sort) (scalarValue (apply Ite (a .n) (v (t .p) .num) (v (t .q) .num) (v (t .r) .num)))
   choice-fit h place =
@@ -99,24 +106,17 @@ module _ (I : Interpretation) (v : ℕ → Value) (t : Term) (i : ℕ) (a b c : 
   variable-fit true e g = scalar-fit (t .sort) (I (t .p) .num) e (g .num e)
   variable-fit false e g = record { num = λ s. never (sym e ∙ s); cell = λ k j l. g .cell k j l }
 
+  -- a function's value, by its rank
+  function-fit : (f : Function) → typedAs (applied (functionRank f)) (t .sort) a b c ≡ true → Fit (t .sort) (scalarValue (apply (Apply f) (a .n) (v (t .p) .num) (v (t .q) .num) (v (t .r) .num)))
+  function-fit f h = operated-fit (Apply f) (rank-scalar (functionRank f) (t .sort) a b c h) (rank-width (functionRank f) (t .sort) a b c h) (λ z. never z)
+
   fit-by : (op : Op) → isKnown op ≡ true → typedAs (rankOf op) (t .sort) a b c ≡ true → placedAs (fieldsOf (rankOf op)) i t ≡ true → valuedAs (fieldsOf (rankOf op)) t ≡ true
-      → (array (t .sort) ≡ true → t .sort .n ≡ 0 → ⊥) → (slotted (fieldsOf (rankOf op)) ≡ true → Fit (t .sort) (I (t .p))) → Fit (t .sort) (valueBy I v (a .n) t op)
+      → (array (t .sort) ≡ true → t .sort .n ≡ 0 → ⊥) → (slotted op ≡ true → Fit (t .sort) (I (t .p))) → Fit (t .sort) (valueBy I v (a .n) t op)
   unfolding valueBy isKnown
   fit-by Constant k h place value some input = scalar-fit (t .sort) (t .p) h value
   fit-by Variable k h place value some input = variable-fit (eqb (t .sort .m) 0) refl (input refl)
-  fit-by Not k h place value some input = connective-fit Not refl (and-parts (boolean (t .sort)) (boolean a) h .0) (λ z. z)
-  fit-by And k h place value some input = connective-fit And refl (three (boolean (t .sort)) (boolean a) (boolean b) h .0) (λ z. z)
-  fit-by Or k h place value some input = connective-fit Or refl (three (boolean (t .sort)) (boolean a) (boolean b) h .0) (λ z. z)
-  fit-by Implies k h place value some input = connective-fit Implies refl (three (boolean (t .sort)) (boolean a) (boolean b) h .0) (λ z. z)
-  fit-by Equal k h place value some input = connective-fit Equal refl (three (boolean (t .sort)) (scalar a) (sameSort a b) h .0) (λ z. z)
+  fit-by (Apply f) k h place value some input = function-fit f h
   fit-by Ite k h place value some input = choice-fit h (three-placed i t place)
-  fit-by BvNot k h place value some input = let s = and-parts (vector (t .sort)) (sameSort a (t .sort)) h in vector-fit BvNot refl (s .0) (s .1) (λ z. z)
-  fit-by BvAnd k h place value some input = let s = three (vector (t .sort)) (sameSort a (t .sort)) (sameSort b (t .sort)) h in vector-fit BvAnd refl (s .0) (s .1) (λ z. z)
-  fit-by BvOr k h place value some input = let s = three (vector (t .sort)) (sameSort a (t .sort)) (sameSort b (t .sort)) h in vector-fit BvOr refl (s .0) (s .1) (λ z. z)
-  fit-by BvAdd k h place value some input = let s = three (vector (t .sort)) (sameSort a (t .sort)) (sameSort b (t .sort)) h in vector-fit BvAdd refl (s .0) (s .1) (λ z. z)
-  fit-by BvMul k h place value some input = let s = three (vector (t .sort)) (sameSort a (t .sort)) (sameSort b (t .sort)) h in vector-fit BvMul refl (s .0) (s .1) (λ z. z)
-  fit-by BvShl k h place value some input = let s = three (vector (t .sort)) (sameSort a (t .sort)) (sameSort b (t .sort)) h in vector-fit BvShl refl (s .0) (s .1) (λ z. z)
-  fit-by BvUlt k h place value some input = connective-fit BvUlt refl (three (boolean (t .sort)) (vector a) (sameSort a b) h .0) (λ z. z)
   fit-by Select k h place value some input = read-fit h (two-placed i t place)
   fit-by Store k h place value some input = store-fit h (some (four (array (t .sort)) (sameSort a (t .sort)) (vectorOf (t .sort .m) b) (vectorOf (t .sort .n) c) h .0)) (three-placed i t place)
   fit-by Unknown k h place value some input = never k

@@ -11,7 +11,7 @@ use lib.Dec.{eqb, ltb, leb}
 use lib.ListN.{getD}
 use borrow.Author.Tests.{ltb-true, ne-eqb}
 use Rattle.ops.specs.declared.Op.{Op}
-use Rattle.ops.specs.declared.Op.the-variants.{Constant, Variable, Not, And, Or, Implies, Equal, Ite, BvNot, BvAnd, BvOr, BvAdd, BvMul, BvShl, BvUlt, Select, Store, Unknown}
+use Rattle.ops.specs.declared.Op.the-variants.{Constant, Variable, Apply, Ite, Select, Store, Unknown}
 use Rattle.ops.specs.Numbers.{opOf}
 use Rattle.ops.specs.Meaning.{apply}
 use Rattle.ops.proofs.Booleans.{never, and-parts}
@@ -64,7 +64,7 @@ module _ (limit : ℕ) (w row : List ℕ) (look : ℕ → ℕ → ℕ → ℕ) (
 
     input-read : opOf (termAt w a .op) ≡ Variable → valueAt w I a .cell j ≡ readAt w (numbers w I k) a j (cellBeneath a j)
     input-read e =
-        let no-store : storing (termAt w a) ≡ false = ap (λ (o : Op). writes (rankOf o)) e in
+        let no-store : storing (termAt w a) ≡ false = ap (λ (o : Op). writes o) e in
         by-op Variable e
         ∙ variable-cell I (valueIn (values w I a)) (sortAt w (termAt w a .p) .n) (termAt w a) j r
         ∙ ap (λ (slot : ℕ). look slot j (getD row slot 0)) (bottom-end w (store-below limit w f) a (termAt w a) refl no-store)
@@ -73,7 +73,7 @@ module _ (limit : ℕ) (w row : List ℕ) (look : ℕ → ℕ → ℕ → ℕ) (
     store-read : opOf (termAt w a .op) ≡ Store → valueAt w I a .cell j ≡ readAt w (numbers w I k) a j (cellBeneath a j)
     store-read e =
         let x = termAt w a in
-        let stores : storing x ≡ true = ap (λ (o : Op). writes (rankOf o)) e in
+        let stores : storing x ≡ true = ap (λ (o : Op). writes o) e in
         let place = three-placed a x (placing-as w a (f .sound a d) Store e) in
         let pb : x .p < a = place .0 in
         let qb : x .q < a = place .1 in
@@ -109,9 +109,9 @@ module _ (w row front : List ℕ) (look : ℕ → ℕ → ℕ → ℕ) (v : ℕ 
 
   abbrev numberBy : Op → ℕ
   numberBy op =
-      cond (reads (rankOf op)) answer
-      (cond (immediate (fieldsOf (rankOf op))) (x .p)
-      (cond (slotted (fieldsOf (rankOf op))) (variableNumber row x)
+      cond (reads op) answer
+      (cond (immediate op) (x .p)
+      (cond (slotted op) (variableNumber row x)
       (apply op width (getD front (x .p) 0) (getD front (x .q) 0) (getD front (x .r) 0))))
 
   operated-same : (op : Op) → apply op width (getD front (x .p) 0) (getD front (x .q) 0) (getD front (x .r) 0) ≡ apply op width (v (x .p) .num) (v (x .q) .num) (v (x .r) .num)
@@ -122,44 +122,22 @@ module _ (w row front : List ℕ) (look : ℕ → ℕ → ℕ → ℕ) (v : ℕ 
   variable-same true = refl
   variable-same false = refl
 
-  number-by : (op : Op) → (reads (rankOf op) ≡ true → answer ≡ v (x .p) .cell (v (x .q) .num)) → numberBy op ≡ valueBy (interpret row look) v width x op .num
+  number-by : (op : Op) → (reads op ≡ true → answer ≡ v (x .p) .cell (v (x .q) .num)) → numberBy op ≡ valueBy (interpret row look) v width x op .num
   unfolding valueBy apply
   number-by Constant h = refl
   number-by Variable h = variable-same (eqb (x .sort .m) 0)
-  number-by Not h = operated-same Not
-  number-by And h = operated-same And
-  number-by Or h = operated-same Or
-  number-by Implies h = operated-same Implies
-  number-by Equal h = operated-same Equal
+  number-by (Apply f) h = operated-same (Apply f)
   number-by Ite h = operated-same Ite
-  number-by BvNot h = operated-same BvNot
-  number-by BvAnd h = operated-same BvAnd
-  number-by BvOr h = operated-same BvOr
-  number-by BvAdd h = operated-same BvAdd
-  number-by BvMul h = operated-same BvMul
-  number-by BvShl h = operated-same BvShl
-  number-by BvUlt h = operated-same BvUlt
   number-by Select h = h refl
   number-by Store h = refl
   number-by Unknown h = refl
 
 -- the only operator that reads
-pub reads-select : (op : Op) → reads (rankOf op) ≡ true → op ≡ Select
+pub reads-select : (op : Op) → reads op ≡ true → op ≡ Select
 reads-select Constant h = never h
 reads-select Variable h = never h
-reads-select Not h = never h
-reads-select And h = never h
-reads-select Or h = never h
-reads-select Implies h = never h
-reads-select Equal h = never h
+reads-select (Apply f) h = never h
 reads-select Ite h = never h
-reads-select BvNot h = never h
-reads-select BvAnd h = never h
-reads-select BvOr h = never h
-reads-select BvAdd h = never h
-reads-select BvMul h = never h
-reads-select BvShl h = never h
-reads-select BvUlt h = never h
 reads-select Select h = refl
 reads-select Store h = never h
 reads-select Unknown h = never h
@@ -182,7 +160,7 @@ module _ (limit : ℕ) (w row : List ℕ) (look : ℕ → ℕ → ℕ → ℕ) (
       number-by w row (numbers w (interpret row look) k) look (valueIn (values w (interpret row look) k)) (termAt w k) answer (number-in w (interpret row look) k) (opOf (termAt w k .op))
       (λ r. cells r (reads-select (opOf (termAt w k .op)) r))
     where
-      cells : reads (rankOf (opOf (termAt w k .op))) ≡ true → opOf (termAt w k .op) ≡ Select
+      cells : reads (opOf (termAt w k .op)) ≡ true → opOf (termAt w k .op) ≡ Select
           → answer ≡ valueIn (values w (interpret row look) k) (termAt w k .p) .cell (valueIn (values w (interpret row look) k) (termAt w k .q) .num)
       cells r e =
           let x = termAt w k in

@@ -8,11 +8,11 @@ use native.Mathlib.Omega.{arith}
 use lib.Dec.{eqb}
 use lib.ListN.{length, drop}
 use Rattle.ops.specs.declared.Op.{Op}
-use Rattle.ops.specs.declared.Op.the-variants.{Constant, Variable, Not, And, Or, Implies, Equal, Ite, BvNot, BvAnd, BvOr, BvAdd, BvMul, BvShl, BvUlt, Select, Store, Unknown}
+use Rattle.ops.specs.declared.Op.the-variants.{Constant, Variable, Apply, Ite, Select, Store, Unknown}
 use Rattle.ops.specs.Numbers.{opOf}
 use Rattle.table.specs.declared.words.Term.{Term}
 use Rattle.table.specs.Terms.{terms, termAt, sortAt}
-use Rattle.table.specs.Ranks.{rankOf, fieldsOf, slotted}
+use Rattle.table.specs.Ranks.{slotted}
 use Rattle.table.specs.Faults.{variable}
 use Rattle.table.proofs.FoldLaws.{fold-same}
 use Rattle.setting.specs.Cells.{look}
@@ -26,23 +26,12 @@ use Rattle.evaluate.specs.Laws.{UnusedUnevaluated}
 
 -- a term's value asks the interpretation for the slot of a variable alone
 module _ (I I′ : Interpretation) (v : ℕ → Value) (width : ℕ) (t : Term) where
-  value-by : (op : Op) → (slotted (fieldsOf (rankOf op)) ≡ true → I (t .p) ≡ I′ (t .p)) → valueBy I v width t op ≡ valueBy I′ v width t op
+  value-by : (op : Op) → (slotted op ≡ true → I (t .p) ≡ I′ (t .p)) → valueBy I v width t op ≡ valueBy I′ v width t op
   unfolding valueBy
   value-by Variable h = ap (λ (x : Value). cond (eqb (t .sort .m) 0) (scalarValue (x .num)) (arrayValue (x .cell))) (h refl)
   value-by Constant h = refl
-  value-by Not h = refl
-  value-by And h = refl
-  value-by Or h = refl
-  value-by Implies h = refl
-  value-by Equal h = refl
+  value-by (Apply f) h = refl
   value-by Ite h = refl
-  value-by BvNot h = refl
-  value-by BvAnd h = refl
-  value-by BvOr h = refl
-  value-by BvAdd h = refl
-  value-by BvMul h = refl
-  value-by BvShl h = refl
-  value-by BvUlt h = refl
   value-by Select h = refl
   value-by Store h = refl
   value-by Unknown h = refl

@@ -5,7 +5,8 @@ use mathlib.Core.Bool.{Bool, true, _||_}
 use mathlib.Core.List.{List}
 use Prim.Native.Nat.{ℕ, _+_, _%_, _^_, _<_}
 use lib.ListN.{length}
-use Rattle.ops.specs.declared.Op.the-variants.{BvAdd, BvMul, Store}
+use Rattle.ops.specs.declared.Op.the-variants.{Apply, Store}
+use Rattle.ops.specs.declared.Function.the-variants.{BvAdd, BvMul}
 use Rattle.ops.specs.Numbers.{opOf}
 use Rattle.ops.specs.Meaning.{apply}
 use Rattle.table.specs.declared.Admission.the-variants.{Admitted}
@@ -33,12 +34,12 @@ CheckedValuesFit =
 
 -- Familiar facts: 200 + 100 at width 8 is 44 (P5), 16 × 16 is 0 (P6).
 abbrev pub Familiar : Type 0
-Familiar = (apply BvAdd 8 200 100 0 ≡ 44) × (apply BvMul 8 16 16 0 ≡ 0)
+Familiar = (apply (Apply BvAdd) 8 200 100 0 ≡ 44) × (apply (Apply BvMul) 8 16 16 0 ≡ 0)
 
 -- A sum is the operands' sum, kept modulo 2^n.
 abbrev pub SumIs : Type 0
 SumIs =
-    (w : List ℕ) (I : Interpretation) (k : ℕ) → opOf (termAt w k .op) ≡ BvAdd
+    (w : List ℕ) (I : Interpretation) (k : ℕ) → opOf (termAt w k .op) ≡ Apply BvAdd
     → valueAt w I k .num ≡ (valueIn (values w I k) (termAt w k .p) .num + valueIn (values w I k) (termAt w k .q) .num) % 2 ^ sortAt w (termAt w k .p) .n
 
 -- Two of the three axioms of ArraysEx (the third is of equal arrays, which no term compares): at its own index a store holds the stored value, at any other what the array beneath holds.

@@ -6,7 +6,7 @@ use Prim.Native.Nat.{ℕ}
 use lib.Dec.{eqb}
 use lib.ListN.{getD}
 use Rattle.ops.specs.declared.Op.{Op}
-use Rattle.ops.specs.declared.Op.the-variants.{Constant, Variable, Not, And, Or, Implies, Equal, Ite, BvNot, BvAnd, BvOr, BvAdd, BvMul, BvShl, BvUlt, Select, Store, Unknown}
+use Rattle.ops.specs.declared.Op.the-variants.{Constant, Variable, Apply, Ite, Select, Store, Unknown}
 use Rattle.ops.specs.Numbers.{opOf}
 use Rattle.ops.specs.Meaning.{apply}
 use Rattle.table.specs.declared.words.Term.{Term}
@@ -29,19 +29,8 @@ module _ (I : Interpretation) (v : ℕ → Value) (width : ℕ) (t : Term) where
   unfoldable pub valueBy : Op → Value
   valueBy Constant = scalarValue (t .p)
   valueBy Variable = cond (eqb (t .sort .m) 0) (scalarValue (I (t .p) .num)) (arrayValue (I (t .p) .cell))
-  valueBy Not = operated Not
-  valueBy And = operated And
-  valueBy Or = operated Or
-  valueBy Implies = operated Implies
-  valueBy Equal = operated Equal
+  valueBy (Apply f) = operated (Apply f)
   valueBy Ite = operated Ite
-  valueBy BvNot = operated BvNot
-  valueBy BvAnd = operated BvAnd
-  valueBy BvOr = operated BvOr
-  valueBy BvAdd = operated BvAdd
-  valueBy BvMul = operated BvMul
-  valueBy BvShl = operated BvShl
-  valueBy BvUlt = operated BvUlt
   valueBy Select = scalarValue (v (t .p) .cell (v (t .q) .num))
   valueBy Store = arrayValue (λ j. cond (eqb (v (t .q) .num) j) (v (t .r) .num) (v (t .p) .cell j))
   valueBy Unknown = scalarValue 0

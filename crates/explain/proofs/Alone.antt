@@ -1,13 +1,14 @@
--- An operand that is free and settles the operator by itself.
+-- An operand that is free and whose value settles the operator.
 -- Assumes nothing.
 use mathlib.Core.Path.{_≡_, refl}
-use mathlib.Core.Bool.{Bool, true, false, cond}
+use mathlib.Core.Bool.{Bool, true, false, cond, not, _||_}
 use Prim.Native.Nat.{ℕ}
-use Rattle.ops.specs.Meaning.{Operation, operation}
-use Rattle.ops.specs.Meaning.Operation.{leaf, unary, strict, absorbing, shift, choice}
-use Rattle.ops.specs.Condition.{absorbed, shifted, conditionOf, settles}
+use lib.Dec.{eqb}
+use Rattle.ops.specs.declared.Op.the-variants.{Constant, Variable, Apply, Ite, Select, Store, Unknown}
+use Rattle.ops.specs.Meaning.{Operation, holds, operation}
+use Rattle.ops.specs.Meaning.Operation.{unary, strict, absorbing, shift}
+use Rattle.ops.specs.Condition.{absorbed, shifted, chosen, conditionBy, settles}
 use Rattle.ops.proofs.Booleans.{never}
-use Rattle.explain.specs.Operands.{alone, wouldSettle}
 use Rattle.explain.specs.Laws.{FreeSettles}
 
 first-absorbs : (c a d b : Bool) → c ≡ true → a ≡ true → absorbed c a d b ≡ true
@@ -27,16 +28,33 @@ second-shifts c true true hd hb = refl
 second-shifts c true false hd hb = never hb
 second-shifts c false b hd hb = never hd
 
-by : (o : Operation) (n x y z : ℕ) (c d e second : Bool) → cond second d c ≡ true → alone o n (cond second y x) second ≡ true → conditionOf o n x y z c d e ≡ true
-by leaf n x y z c d e second free h = never h
-by (unary f) n x y z c d e second free h = never h
-by (strict f) n x y z c d e second free h = never h
-by (absorbing f a b) n x y z c d e true free h = second-absorbs c (a n x) d (b n y) free h
-by (absorbing f a b) n x y z c d e false free h = first-absorbs c (a n x) d (b n y) free h
-by (shift f b) n x y z c d e true free h = second-shifts c d (b n y) free h
-by (shift f b) n x y z c d e false free h = never h
-by choice n x y z c d e second free h = never h
+or-shut : (b : Bool) → (b || false) ≡ true → b ≡ true
+or-shut true h = refl
+or-shut false h = never h
+
+by : (o : Operation) (n x y : ℕ) (c d second : Bool) → cond second d c ≡ true
+    → conditionBy o n (cond second y x) (cond second y x) (not second) second ≡ true → conditionBy o n x y c d ≡ true
+by (unary f) n x y c d true free h = never h
+by (unary f) n x y c d false free h = free
+by (strict f) n x y c d true free h = never h
+by (strict f) n x y c d false free h = never h
+by (absorbing f a b) n x y c d true free h = second-absorbs c (a n x) d (b n y) free (or-shut (b n y) h)
+by (absorbing f a b) n x y c d false free h = first-absorbs c (a n x) d (b n y) free (or-shut (a n x) (or-shut (a n x || false) h))
+by (shift f b) n x y c d true free h = second-shifts c d (b n y) free (or-shut (b n y) h)
+by (shift f b) n x y c d false free h = never h
+
+-- of a choice no operand alone
+no-choice : (test same : Bool) → chosen true test false false same ≡ true → ⊥
+no-choice true same h = never h
+no-choice false same h = never h
 
 pub free-settles : FreeSettles
-unfolding wouldSettle settles
-free-settles op n x y z c d e second free h = by (operation op) n x y z c d e second free h
+unfolding settles
+free-settles Constant n x y z c d e second free h = never h
+free-settles Variable n x y z c d e second free h = never h
+free-settles (Apply f) n x y z c d e second free h = by (operation f) n x y c d second free h
+free-settles Ite n x y z c d e true free h = never h
+free-settles Ite n x y z c d e false free h = absurd (no-choice (holds x) (eqb x x) h)
+free-settles Select n x y z c d e second free h = never h
+free-settles Store n x y z c d e second free h = never h
+free-settles Unknown n x y z c d e second free h = never h

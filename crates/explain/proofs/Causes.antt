@@ -8,28 +8,30 @@ use mathlib.Core.Logic.{inl, inr, ⊎-elim}
 use Prim.Native.Nat.{ℕ, zero, suc, pred, _<_}
 use native.Mathlib.Nat.{not-suc-le-zero}
 use native.Mathlib.Omega.{arith}
-use lib.Dec.{eqb, ltb, leb}
+use lib.Dec.{eqb, ltb}
 use lib.ListN.{getD}
 use borrow.Author.Tests.{ltb-true, lt-ltb, not-false}
 use Rattle.ops.specs.declared.Op.{Op}
-use Rattle.ops.specs.declared.Op.the-variants.{Constant, Variable, Not, And, Or, Implies, Equal, Ite, BvNot, BvAnd, BvOr, BvAdd, BvMul, BvShl, BvUlt, Select, Store, Unknown}
+use Rattle.ops.specs.declared.Op.the-variants.{Constant, Variable, Apply, Ite, Select, Store, Unknown}
 use Rattle.ops.specs.Numbers.{opOf}
-use Rattle.ops.specs.Meaning.{holds, ones}
-use Rattle.ops.specs.Condition.{absorbed, shifted, chosen, settles}
+use Rattle.ops.specs.Meaning.{Operation, holds, operation}
+use Rattle.ops.specs.Meaning.Operation.{unary, strict, absorbing, shift}
+use Rattle.ops.specs.Ranks.{Arity, FunctionRank, arity, functionRank}
+use Rattle.ops.specs.Ranks.Arity.{one as one-operand, two as two-operands}
+use Rattle.ops.specs.Ranks.FunctionRank.{boolUnary, boolBinary, equality, bvUnary, bvBinary, bvCompare}
+use Rattle.ops.specs.Condition.{absorbed, shifted, chosen, conditionBy as operationCondition, settles}
 use Rattle.ops.proofs.Booleans.{never, and-parts, or-neither}
-use Rattle.table.specs.declared.ranks.Rank.{Rank}
-use Rattle.table.specs.declared.ranks.Rank.the-variants.{Literal, Input, BoolUnary, BoolBinary, Equality, Choice, BvUnary, BvBinary, BvCompare, Read, Write, Other}
 use Rattle.table.specs.declared.words.Sort.{Sort}
 use Rattle.table.specs.declared.words.Term.{Term}
 use Rattle.table.specs.Terms.{terms, termAt, sortAt, boolean, vector, scalar, array, vectorOf, sameSort}
-use Rattle.table.specs.Ranks.{rankOf, fieldsOf, slotted, writes}
-use Rattle.table.specs.Faults.{rank, variable, storing, typedAs}
+use Rattle.table.specs.Ranks.{applied, rankOf, slotted, writes}
+use Rattle.table.specs.Faults.{variable, storing, typedAs}
 use Rattle.table.specs.WellFormed.{WellFormed}
 use Rattle.setting.specs.Interpretation.{Value, Interpretation}
 use Rattle.evaluate.specs.Values.{valueIn, values, numbers}
 use Rattle.evaluate.proofs.Folds.{value-below, number-in}
 use Rattle.evaluate.proofs.Meaning.{same-array}
-use Rattle.table.proofs.OperandSorts.{isKnown, not-array, boolean-scalar, vector-scalar, same-sort, three, four, array-op, op-at, typing, typing-as, placing-as, two-placed, three-placed}
+use Rattle.table.proofs.OperandSorts.{isKnown, boolean-scalar, same-scalar, vector-of-scalar, three, four, unary-scalar, binary-scalars, array-op, no-store, op-at, typing, typing-as, placing-as, two-placed, three-placed, rank-below}
 use Rattle.judge.specs.Conditions.{Condition, conditionBy, conditionIn, conditions, conditionAt, truths, ownMarks}
 use Rattle.judge.specs.Readings.{truthIn}
 use Rattle.judge.proofs.Alike.{condition-below}
@@ -67,31 +69,6 @@ and-open false = refl
 
 pred-below : (n : ℕ) → 0 < n → pred n < n
 pred-below n b = omega arith
-
--- Sorts: what is no array is no store
-
-writes-array : (r : Rank) (x a b c : Sort) → writes r ≡ true → typedAs r x a b c ≡ true → array x ≡ true
-writes-array Literal x a b c s h = never s
-writes-array Input x a b c s h = never s
-writes-array BoolUnary x a b c s h = never s
-writes-array BoolBinary x a b c s h = never s
-writes-array Equality x a b c s h = never s
-writes-array Choice x a b c s h = never s
-writes-array BvUnary x a b c s h = never s
-writes-array BvBinary x a b c s h = never s
-writes-array BvCompare x a b c s h = never s
-writes-array Read x a b c s h = never s
-writes-array Write x a b c s h = four (array x) (sameSort a x) (vectorOf (x .m) b) (vectorOf (x .n) c) h .0
-writes-array Other x a b c s h = never s
-
-same-scalar : (a b : Sort) → sameSort a b ≡ true → scalar b ≡ true → scalar a ≡ true
-same-scalar a b h s = ap (λ (m : ℕ). eqb m 0) (same-sort a b h .m) ∙ s
-
-scalar-same : (a b : Sort) → sameSort a b ≡ true → scalar a ≡ true → scalar b ≡ true
-scalar-same a b h s = ap (λ (m : ℕ). eqb m 0) (sym (same-sort a b h .m)) ∙ s
-
-vector-of-scalar : (n : ℕ) (s : Sort) → vectorOf n s ≡ true → scalar s ≡ true
-vector-of-scalar n s h = and-parts (eqb (s .m) 0) (eqb (s .n) n) h .0
 
 -- Blames of one and of two
 
@@ -138,15 +115,11 @@ module _ (limit : ℕ) (w : List ℕ) (I : Interpretation) (f : WellFormed limit
       let d : i < terms w = omega arith in
       ap (λ (v : Value). v .num) (value-below w I k i c) ∙ sym (number-in w I (terms w) i ∙ ap (λ (v : Value). v .num) (value-below w I (terms w) i d))
 
-  no-store : (i : ℕ) → i < terms w → scalar (sortAt w i) ≡ true → storing (termAt w i) ≡ false
-  no-store i b s = go (storing (termAt w i)) refl
-    where
-      go : (z : Bool) → storing (termAt w i) ≡ z → z ≡ false
-      go true e = absurd (not-array (sortAt w i) s (writes-array (rank (termAt w i)) (sortAt w i) (sortAt w (termAt w i .p)) (sortAt w (termAt w i .q)) (sortAt w (termAt w i .r)) e (typing w i (f .sound i b))))
-      go false e = refl
+  plain-at : (i : ℕ) → i < terms w → scalar (sortAt w i) ≡ true → storing (termAt w i) ≡ false
+  plain-at i b s = let t = termAt w i in no-store (opOf (t .op)) (sortAt w i) (sortAt w (t .p)) (sortAt w (t .q)) (sortAt w (t .r)) (typing w i (f .sound i b)) s
 
   beneath : (k i : ℕ) → k < terms w → i < k → scalar (sortAt w i) ≡ true → truthIn ts i ≡ false → Beneath w ts k i
-  beneath k i b c s h = record { below = c; no-store = no-store i (omega arith) s; unfree = h }
+  beneath k i b c s h = record { below = c; no-store = plain-at i (omega arith) s; unfree = h }
 
   -- The chain of a read of term k, at an index that is free: its culprit
 
@@ -171,7 +144,7 @@ module _ (limit : ℕ) (w : List ℕ) (I : Interpretation) (f : WellFormed limit
       at-variable : opOf (x .op) ≡ Variable → K a .readFree j true ≡ false → Led a
       unfolding conditionBy
       at-variable e h =
-          let no : storing x ≡ false = ap (λ (o : Op). writes (rankOf o)) e in
+          let no : storing x ≡ false = ap (λ (o : Op). writes o) e in
           let own : K a .free ≡ not (ownMarks x) = ap (λ (o : Op). conditionBy ownMarks v co (sortAt w (x .p) .n) x o .free) e in
           let at-j : K a .readFree j true ≡ not (ownMarks x) && true = ap (λ (o : Op). conditionBy ownMarks v co (sortAt w (x .p) .n) x o .readFree j true) e in
           led-here a
@@ -182,7 +155,7 @@ module _ (limit : ℕ) (w : List ℕ) (I : Interpretation) (f : WellFormed limit
       module _ (e : opOf (x .op) ≡ Store) (pb : x .p < a) (qb : x .q < a) (rb : x .r < a) (qs : scalar (sortAt w (x .q)) ≡ true) (rs : scalar (sortAt w (x .r)) ≡ true)
           (rest : K (x .p) .readFree j true ≡ false → Led (x .p)) where
         stacks : stacked x a ≡ true
-        stacks = ap₂ _&&_ (ap (λ (o : Op). writes (rankOf o)) e) (lt-ltb (x .p) a pb)
+        stacks = ap₂ _&&_ (ap (λ (o : Op). writes o) e) (lt-ltb (x .p) a pb)
 
         abbrev same : Bool
         same = eqb (v (x .r) .num) (v (x .p) .cell j)
@@ -261,22 +234,44 @@ module _ (limit : ℕ) (w : List ℕ) (I : Interpretation) (f : WellFormed limit
     shut : (op : Op) → opOf (this .op) ≡ op → conditionBy ownMarks vk ck (sortAt w (this .p) .n) this op .free ≡ false
     shut op e = sym (ap (λ (o : Op). conditionBy ownMarks vk ck (sortAt w (this .p) .n) this o .free) e) ∙ sym (truth-at k b) ∙ h
 
-    abbrev settled : Op → Bool → Bool → Bool → Bool
-    settled op c d e = settles op (sortAt w (this .p) .n) (vk (this .p) .num) (vk (this .q) .num) (vk (this .r) .num) c d e
+    -- a function, by what settles it: what it blames is one operand, or two
+    one-suspect : (r : FunctionRank one-operand) → suspectsBy w vs ts this (applied r) ≡ one (this .p)
+    one-suspect boolUnary = refl
+    one-suspect bvUnary = refl
 
-    unary : (op : Op) → opOf (this .op) ≡ op → unfree ts (suspectsBy w vs ts this (rankOf op)) ≡ unfree ts (one (this .p)) → ck (this .p) .free ≡ false → this .p < k → scalar (sortAt w (this .p)) ≡ true → GoesOn w vs ts k
-    unary op e sus g pb ps =
-        let u = sym (free-of k (this .p) b pb) ∙ g in
-        goes op e (subst (Some P) (sym sus) (some-one P ts (this .p) u (beneath k (this .p) b pb ps u)))
+    two-suspects : (r : FunctionRank two-operands) → suspectsBy w vs ts this (applied r) ≡ two (this .p) (this .q)
+    two-suspects boolBinary = refl
+    two-suspects equality = refl
+    two-suspects bvBinary = refl
+    two-suspects bvCompare = refl
 
-    binary : (op : Op) → opOf (this .op) ≡ op → unfree ts (suspectsBy w vs ts this (rankOf op)) ≡ unfree ts (two (this .p) (this .q))
-        → settled op (ck (this .p) .free) (ck (this .q) .free) (ck (this .r) .free) ≡ false → settled op true true (ck (this .r) .free) ≡ true
-        → (this .p < k) × (this .q < k) → (scalar (sortAt w (this .p)) ≡ true) × (scalar (sortAt w (this .q)) ≡ true) → GoesOn w vs ts k
-    binary op e sus g free places scalars =
-        let tp = free-of k (this .p) b (places .0) in
-        let tq = free-of k (this .q) b (places .1) in
-        let u = one-shut (λ c d. settled op c d (ck (this .r) .free)) (truthIn ts (this .p)) (truthIn ts (this .q)) free (ap₂ (λ (c d : Bool). settled op c d (ck (this .r) .free)) (sym tp) (sym tq) ∙ g) in
-        goes op e (subst (Some P) (sym sus) (some-two P ts (this .p) (this .q) u (beneath k (this .p) b (places .0) (scalars .0)) (beneath k (this .q) b (places .1) (scalars .1))))
+    abbrev Typed : {a : Arity} → FunctionRank a → Type 0
+    Typed r = typedAs (applied r) (sortAt w k) (sortAt w (this .p)) (sortAt w (this .q)) (sortAt w (this .r)) ≡ true
+
+    two-found : (r : FunctionRank two-operands) → Typed r → (this .p < k) × (this .q < k) × (this .r < k)
+        → (g : Bool → Bool → Bool) → g true true ≡ true → g (ck (this .p) .free) (ck (this .q) .free) ≡ false → Some P (unfree ts (suspectsBy w vs ts this (applied r)))
+    two-found r h places g free none =
+        let scalars = binary-scalars r (sortAt w k) (sortAt w (this .p)) (sortAt w (this .q)) (sortAt w (this .r)) h in
+        let u = one-shut g (truthIn ts (this .p)) (truthIn ts (this .q)) free (ap₂ g (sym (free-of k (this .p) b (places .0))) (sym (free-of k (this .q) b (places .1))) ∙ none) in
+        subst (λ (s : Blame). Some P (unfree ts s)) (sym (two-suspects r))
+        (some-two P ts (this .p) (this .q) u (beneath k (this .p) b (places .0) (scalars .0)) (beneath k (this .q) b (places .1) (scalars .1)))
+
+    abbrev value : ℕ → ℕ
+    value i = vk i .num
+
+    found-by : (o : Operation) (r : FunctionRank (arity o)) → Typed r → (this .p < k) × (this .q < k) × (this .r < k)
+        → operationCondition o (sortAt w (this .p) .n) (value (this .p)) (value (this .q)) (ck (this .p) .free) (ck (this .q) .free) ≡ false → Some P (unfree ts (suspectsBy w vs ts this (applied r)))
+    found-by (unary g) r h places none =
+        let u = sym (free-of k (this .p) b (places .0)) ∙ none in
+        let s = unary-scalar r (sortAt w k) (sortAt w (this .p)) (sortAt w (this .q)) (sortAt w (this .r)) h in
+        subst (λ (y : Blame). Some P (unfree ts y)) (sym (one-suspect r)) (some-one P ts (this .p) u (beneath k (this .p) b (places .0) s u))
+    found-by (strict g) r h places none = two-found r h places (λ c d. c && d) refl none
+    found-by (absorbing g a z) r h places none =
+        let n = sortAt w (this .p) .n in
+        two-found r h places (λ c d. absorbed c (a n (value (this .p))) d (z n (value (this .q)))) (absorbed-free (a n (value (this .p))) (z n (value (this .q)))) none
+    found-by (shift g z) r h places none =
+        let n = sortAt w (this .p) .n in
+        two-found r h places (λ c d. shifted c d (z n (value (this .q)))) (shifted-free (z n (value (this .q)))) none
 
     -- a choice
     picked : (c test same : Bool) → truthIn ts (this .p) ≡ c → chosen c test (truthIn ts (this .q)) (truthIn ts (this .r)) same ≡ false
@@ -327,64 +322,22 @@ module _ (limit : ℕ) (w : List ℕ) (I : Interpretation) (f : WellFormed limit
     input e =
         let nothing : blameAt w vs ts k .count ≡ 0 = ap (λ (r : Blame). r .count) (blame-is Variable e) in
         record {
-          on = inl (ap (λ (o : Op). slotted (fieldsOf (rankOf o))) e, not-false (ownMarks this) (shut Variable e));
+          on = inl (ap (λ (o : Op). slotted o) e, not-false (ownMarks this) (shut Variable e));
           first = λ n. absurd (omega (arith, n, nothing));
           second = λ n. absurd (omega (arith, n, nothing));
         }
-
-    -- places and sorts of operands, by rank
-    abbrev Typed : Rank → Type 0
-    Typed r = typedAs r (sortAt w k) (sortAt w (this .p)) (sortAt w (this .q)) (sortAt w (this .r)) ≡ true
-
-    abbrev Scalars : Type 0
-    Scalars = (scalar (sortAt w (this .p)) ≡ true) × (scalar (sortAt w (this .q)) ≡ true)
-
-    one-place : ltb (this .p) k && eqb (this .q) 0 && eqb (this .r) 0 ≡ true → this .p < k
-    one-place g = ltb-true (this .p) k (three (ltb (this .p) k) (eqb (this .q) 0) (eqb (this .r) 0) g .0)
-
-    of-booleans : Typed BoolBinary → Scalars
-    of-booleans g =
-        let t = three (boolean (sortAt w k)) (boolean (sortAt w (this .p))) (boolean (sortAt w (this .q))) g in
-        (boolean-scalar (sortAt w (this .p)) (t .1), boolean-scalar (sortAt w (this .q)) (t .2))
-
-    of-equality : Typed Equality → Scalars
-    of-equality g =
-        let t = three (boolean (sortAt w k)) (scalar (sortAt w (this .p))) (sameSort (sortAt w (this .p)) (sortAt w (this .q))) g in
-        (t .1, scalar-same (sortAt w (this .p)) (sortAt w (this .q)) (t .2) (t .1))
-
-    of-vectors : Typed BvBinary → Scalars
-    of-vectors g =
-        let t = three (vector (sortAt w k)) (sameSort (sortAt w (this .p)) (sortAt w k)) (sameSort (sortAt w (this .q)) (sortAt w k)) g in
-        let s = vector-scalar (sortAt w k) (t .0) in
-        (same-scalar (sortAt w (this .p)) (sortAt w k) (t .1) s, same-scalar (sortAt w (this .q)) (sortAt w k) (t .2) s)
-
-    of-compare : Typed BvCompare → Scalars
-    of-compare g =
-        let t = three (boolean (sortAt w k)) (vector (sortAt w (this .p))) (sameSort (sortAt w (this .p)) (sortAt w (this .q))) g in
-        let s = vector-scalar (sortAt w (this .p)) (t .1) in
-        (s, scalar-same (sortAt w (this .p)) (sortAt w (this .q)) (t .2) s)
 
     goes-by : (op : Op) → opOf (this .op) ≡ op → storing this ≡ false → GoesOn w vs ts k
     unfolding conditionBy settles isKnown
     goes-by Constant e ns = never (sym (shut Constant e))
     goes-by Variable e ns = input e
-    goes-by Not e ns = unary Not e refl (shut Not e) (one-place (placing-as w k (f .sound k b) Not e)) (boolean-scalar (sortAt w (this .p)) (and-parts (boolean (sortAt w k)) (boolean (sortAt w (this .p))) (typing-as w k (f .sound k b) Not e) .1))
-    goes-by And e ns = binary And e refl (shut And e) (absorbed-free (not (holds (vk (this .p) .num))) (not (holds (vk (this .q) .num)))) (two-placed k this (placing-as w k (f .sound k b) And e)) (of-booleans (typing-as w k (f .sound k b) And e))
-    goes-by Or e ns = binary Or e refl (shut Or e) (absorbed-free (holds (vk (this .p) .num)) (holds (vk (this .q) .num))) (two-placed k this (placing-as w k (f .sound k b) Or e)) (of-booleans (typing-as w k (f .sound k b) Or e))
-    goes-by Implies e ns = binary Implies e refl (shut Implies e) (absorbed-free (not (holds (vk (this .p) .num))) (holds (vk (this .q) .num))) (two-placed k this (placing-as w k (f .sound k b) Implies e)) (of-booleans (typing-as w k (f .sound k b) Implies e))
-    goes-by Equal e ns = binary Equal e refl (shut Equal e) refl (two-placed k this (placing-as w k (f .sound k b) Equal e)) (of-equality (typing-as w k (f .sound k b) Equal e))
+    goes-by (Apply f′) e ns =
+        let r = functionRank f′ in
+        let s = f .sound k b in
+        goes (Apply f′) e (found-by (operation f′) r (typing-as w k s (Apply f′) e) (rank-below r k this (placing-as w k s (Apply f′) e)) (shut (Apply f′) e))
     goes-by Ite e ns = choice e
-    goes-by BvNot e ns =
-        let g = and-parts (vector (sortAt w k)) (sameSort (sortAt w (this .p)) (sortAt w k)) (typing-as w k (f .sound k b) BvNot e) in
-        unary BvNot e refl (shut BvNot e) (one-place (placing-as w k (f .sound k b) BvNot e)) (same-scalar (sortAt w (this .p)) (sortAt w k) (g .1) (vector-scalar (sortAt w k) (g .0)))
-    goes-by BvAnd e ns = binary BvAnd e refl (shut BvAnd e) (absorbed-free (eqb (vk (this .p) .num) 0) (eqb (vk (this .q) .num) 0)) (two-placed k this (placing-as w k (f .sound k b) BvAnd e)) (of-vectors (typing-as w k (f .sound k b) BvAnd e))
-    goes-by BvOr e ns = binary BvOr e refl (shut BvOr e) (absorbed-free (eqb (vk (this .p) .num) (ones (sortAt w (this .p) .n))) (eqb (vk (this .q) .num) (ones (sortAt w (this .p) .n)))) (two-placed k this (placing-as w k (f .sound k b) BvOr e)) (of-vectors (typing-as w k (f .sound k b) BvOr e))
-    goes-by BvAdd e ns = binary BvAdd e refl (shut BvAdd e) refl (two-placed k this (placing-as w k (f .sound k b) BvAdd e)) (of-vectors (typing-as w k (f .sound k b) BvAdd e))
-    goes-by BvMul e ns = binary BvMul e refl (shut BvMul e) (absorbed-free (eqb (vk (this .p) .num) 0) (eqb (vk (this .q) .num) 0)) (two-placed k this (placing-as w k (f .sound k b) BvMul e)) (of-vectors (typing-as w k (f .sound k b) BvMul e))
-    goes-by BvShl e ns = binary BvShl e refl (shut BvShl e) (shifted-free (leb (sortAt w (this .p) .n) (vk (this .q) .num))) (two-placed k this (placing-as w k (f .sound k b) BvShl e)) (of-vectors (typing-as w k (f .sound k b) BvShl e))
-    goes-by BvUlt e ns = binary BvUlt e refl (shut BvUlt e) refl (two-placed k this (placing-as w k (f .sound k b) BvUlt e)) (of-compare (typing-as w k (f .sound k b) BvUlt e))
     goes-by Select e ns = read e
-    goes-by Store e ns = never (sym ns ∙ ap (λ (o : Op). writes (rankOf o)) e)
+    goes-by Store e ns = never (sym ns ∙ ap (λ (o : Op). writes o) e)
     goes-by Unknown e ns = never (sym (ap isKnown e) ∙ op-at w k (f .sound k b))
 
   -- Every term on the way is such a term
@@ -411,7 +364,7 @@ module _ (limit : ℕ) (w : List ℕ) (I : Interpretation) (f : WellFormed limit
   pub rule-way : truthIn ts (pred (terms w)) ≡ false → Way (pred (terms w))
   rule-way u =
       let last : pred (terms w) < terms w = pred-below (terms w) (f .some) in
-      record { inside = last; plain = no-store (pred (terms w)) last (boolean-scalar (sortAt w (pred (terms w))) (f .rule)); unfree = u }
+      record { inside = last; plain = plain-at (pred (terms w)) last (boolean-scalar (sortAt w (pred (terms w))) (f .rule)); unfree = u }
 
   pub on-way-goes-on : (k : ℕ) → onWay (wayOf w vs ts (terms w)) k ≡ true → GoesOn w vs ts k
   on-way-goes-on k o =

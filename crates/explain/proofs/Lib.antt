@@ -1,4 +1,3 @@
-pub mod Booleans
 pub mod Walks
 pub mod Downward
 pub mod Suspects

@@ -1,30 +1,21 @@
 -- An operand of an operator: whether it is free, and whether its value settles the operator by itself.
 -- Assumes nothing.
-use mathlib.Core.Bool.{Bool, false, cond, _&&_}
+use mathlib.Core.Bool.{Bool, false, cond, not}
 use mathlib.Core.List.{List}
 use Prim.Native.Nat.{ℕ}
 use lib.ListN.{getD}
 use Rattle.ops.specs.declared.Op.{Op}
 use Rattle.ops.specs.Numbers.{opOf}
-use Rattle.ops.specs.Meaning.{Operation, operation}
-use Rattle.ops.specs.Meaning.Operation.{leaf, unary, strict, absorbing, shift, choice}
+use Rattle.ops.specs.Condition.{settles}
 use Rattle.table.specs.declared.words.Term.{Term}
 use Rattle.table.specs.Terms.{sortAt}
 use Rattle.judge.specs.Readings.{truthIn}
 use Rattle.explain.specs.declared.operands.Operand.{Operand}
 use Rattle.explain.specs.declared.operands.Operand.the-variants.{Settles, Free, Unfree, WouldSettle}
 
--- whether value x of the first operand, or of the second, settles the result at the first operand's width n
-abbrev pub alone : Operation → ℕ → ℕ → Bool → Bool
-alone leaf n x second = false
-alone (unary f) n x second = false
-alone (strict f) n x second = false
-alone (absorbing f a b) n x second = cond second (b n x) (a n x)
-alone (shift f b) n x second = second && b n x
-alone choice n x second = false
-
-unfoldable pub wouldSettle : Op → ℕ → ℕ → Bool → Bool
-wouldSettle op n x second = alone (operation op) n x second
+-- whether value x of the first operand, or of the second, settles the operator with only that operand free, at the first operand's width n
+abbrev pub wouldSettle : Op → ℕ → ℕ → Bool → Bool
+wouldSettle op n x second = settles op n x x x (not second) second false
 
 abbrev pub stateOf : Bool → Bool → Operand
 stateOf free settles = cond free (cond settles Settles Free) (cond settles WouldSettle Unfree)

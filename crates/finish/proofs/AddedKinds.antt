@@ -17,11 +17,12 @@ use Rattle.table.specs.Terms.{terms, termAt}
 use Rattle.table.specs.Faults.{variable, storing}
 use Rattle.table.proofs.FoldLaws.{length-fold}
 use Rattle.judge.specs.Conditions.{ownMarks}
-use Rattle.groups.specs.declared.lines.Line.{Line}
-use Rattle.groups.specs.declared.lines.Line.the-variants.{Literal, Input, Unary, Strict, Conjunction, Disjunction, Implication, Zero, Ones, Shift, Choice, Read, Write}
+use Rattle.groups.specs.declared.kinds.GroupKind.{GroupKind}
+use Rattle.groups.specs.declared.kinds.GroupKind.the-variants.{Literal, Input, Unary, Strict, Conjunction, Disjunction, Implication, Zero, Ones, Shift, Choice, Read, Write}
 use Rattle.groups.specs.Added.{andT, constantT}
 use Rattle.groups.specs.Groups.{storeGroup}
-use Rattle.groups.specs.Plans.{Plan, lineOf, lastOf, taken, cq, cr, planBy, planIn, planOf, groups, next, plans, planAt}
+use Rattle.groups.specs.FunctionGroups.{kindOf}
+use Rattle.groups.specs.Plans.{Plan, lastOf, taken, cq, cr, planBy, planIn, planOf, groups, next, plans, planAt}
 use Rattle.finish.specs.Finished.{conditionNumber, added}
 use Rattle.groups.proofs.GroupSizes.{plan-below, groups-more}
 
@@ -54,7 +55,7 @@ unfolding quiet
 quiet-taken c = record { whole = refl; read = λ s j cj. refl }
 
 module _ (marked : Term → Bool) (yes no : ℕ) (plan : ℕ → Plan) (b : ℕ) (t : Term) (before : (i : ℕ) → Quiet (plan i)) where
-  quiet-by : (line : Line) → Quiet (planBy marked yes no plan b t line)
+  quiet-by : (kind : GroupKind) → Quiet (planBy marked yes no plan b t kind)
   unfolding planBy quiet
   quiet-by Literal = record { whole = refl; read = λ s j cj. refl }
   quiet-by Input = record { whole = refl; read = λ s j cj. refl }
@@ -93,7 +94,7 @@ module _ (w : List ℕ) (marked : Term → Bool) where
   quiet-within zero k b = absurd (not-suc-le-zero b)
   quiet-within (suc n) k b =
       quiet-by marked (terms w) (terms w + 1) (planIn (plans w marked k)) (next w (plans w marked k)) (termAt w k)
-      (quiet-in k (λ i l. quiet-within n i (omega arith))) (lineOf (opOf (termAt w k .op)))
+      (quiet-in k (λ i l. quiet-within n i (omega arith))) (kindOf (opOf (termAt w k .op)))
 
   quiet-groups : (k : ℕ) → quiet (groups (plans w marked k)) ≡ true
   unfolding fold groups quiet

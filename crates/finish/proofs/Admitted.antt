@@ -12,38 +12,38 @@ use lib.ListN.{length, getD}
 use lib.Pow.{pow-pos, ones-lt}
 use borrow.Author.Tests.{eqb-true, ltb-true, lt-ltb, le-leb, eq-eqb, ne-eqb}
 use Rattle.ops.specs.declared.Op.{Op}
-use Rattle.ops.specs.declared.Op.the-variants.{Constant, Variable, Not, And, Or, Implies, Equal, Ite, BvNot, BvAnd, BvOr, BvAdd, BvMul, BvShl, BvUlt, Select, Store, Unknown}
+use Rattle.ops.specs.declared.Op.the-variants.{Constant, Variable, Apply, Ite, Select, Store, Unknown}
 use Rattle.ops.specs.Numbers.{opOf}
-use Rattle.ops.specs.Meaning.{ones}
+use Rattle.ops.specs.Meaning.{Operation, ones, operation}
+use Rattle.ops.specs.Ranks.{FunctionRank, arity, functionRank}
 use Rattle.ops.specs.Fits.{fits}
 use Rattle.ops.proofs.Booleans.{never, and-parts}
-use Rattle.ops.proofs.Fitting.{fits-below}
+use Rattle.ops.proofs.Widths.{fits-below}
 use Rattle.table.specs.declared.ranks.Rank.{Rank}
 use Rattle.table.specs.declared.ranks.Rank.the-variants.{Literal, Input, BoolUnary, BoolBinary, Equality, Choice, BvUnary, BvBinary, BvCompare, Read, Write, Other}
 use Rattle.table.specs.declared.words.Sort.{Sort}
 use Rattle.table.specs.declared.words.Term.{Term}
 use Rattle.table.specs.Terms.{terms, termAt, sortAt, boolean, vector, scalar, array, vectorOf, sameSort}
 use Rattle.table.specs.Folds.{fold}
-use Rattle.table.specs.Ranks.{rankOf, fieldsOf}
+use Rattle.table.specs.Ranks.{applied, rankOf, fieldsOf}
 use Rattle.table.specs.Faults.{rank, fields, variable, storing, known, sorted, placedAs, typedAs, typed, valuedAs, conflicts, anyBelow, clash, chain}
 use Rattle.table.specs.WellFormed.{Sound, WellFormed}
 use Rattle.table.proofs.FoldLaws.{fold-below}
 use Rattle.table.proofs.SoundTerms.{widths, store-below}
-use Rattle.table.proofs.OperandSorts.{isKnown, op-at, not-array, SameSort, same-sort, vector-scalar, three, four, two-placed, three-placed}
+use Rattle.table.proofs.OperandSorts.{isKnown, op-at, not-array, SameSort, same-sort, vector-scalar, three, four, unary-scalar, binary-scalars, two-placed, three-placed, one-below, rank-below}
 use Rattle.evaluate.proofs.Meaning.{same-array}
 use Rattle.judge.specs.Conditions.{ownMarks}
 use Rattle.groups.specs.Added.{andT, constantT}
-use Rattle.groups.specs.Groups.{strictGroup, absorbingGroup, shiftGroup, choiceGroup, storeGroup}
-use Rattle.groups.specs.Plans.{Plan, lineOf, lastOf, taken, grown, storeRead, planBy, planIn, groups, next, planOf, plans, planAt}
+use Rattle.groups.specs.Groups.{absorbingGroup, shiftGroup, choiceGroup, storeGroup}
+use Rattle.groups.specs.FunctionGroups.{FunctionGroup, functionGroup, groupKind, kindOf}
+use Rattle.groups.specs.FunctionGroups.FunctionGroup.{unary, strict, conjunction, disjunction, implication, byZero, byOnes, shift}
+use Rattle.groups.specs.Plans.{Plan, lastOf, taken, grown, storeRead, planBy, planIn, groups, next, planOf, plans, planAt}
 use Rattle.groups.proofs.GroupSizes.{next-more}
 use Rattle.finish.specs.Finished.{conditionNumber}
 use Rattle.finish.proofs.Layouts.{Has, has-left, has-right, Layout, true-at, false-at, group-has, count-is, last-at}
 use Rattle.finish.proofs.Good.{Below, later, Good, good-sound, and-good, constant-good, AllGood, GoodGroup, append-good, strict-good, conjunction-good, disjunction-good, implication-good, absorbing-good, shift-good, choosing-good, store-good}
 
 -- The table's own terms
-
-one-placed : (i : ℕ) (x : Term) → ltb (x .p) i && eqb (x .q) 0 && eqb (x .r) 0 ≡ true → x .p < i
-one-placed i x h = ltb-true (x .p) i (three (ltb (x .p) i) (eqb (x .q) 0) (eqb (x .r) 0) h .0)
 
 -- the tests of sorts look at operands only, which stand below
 module _ (k : ℕ) (x : Term) (s t : ℕ → Sort) (e : (i : ℕ) → i < k → s i ≡ t i) where
@@ -56,11 +56,11 @@ module _ (k : ℕ) (x : Term) (s t : ℕ → Sort) (e : (i : ℕ) → i < k → 
   typed-same : (r : Rank) → placedAs (fieldsOf r) k x ≡ true → typedAs r (x .sort) (s (x .p)) (s (x .q)) (s (x .r)) ≡ typedAs r (x .sort) (t (x .p)) (t (x .q)) (t (x .r))
   typed-same Literal place = refl
   typed-same Input place = refl
-  typed-same BoolUnary place = ap (λ (a : Sort). typedAs BoolUnary (x .sort) a a a) (e (x .p) (one-placed k x place))
+  typed-same BoolUnary place = ap (λ (a : Sort). typedAs BoolUnary (x .sort) a a a) (e (x .p) (one-below k x place .0))
   typed-same BoolBinary place = two-same BoolBinary (s (x .r)) (two-placed k x place)
   typed-same Equality place = two-same Equality (s (x .r)) (two-placed k x place)
   typed-same Choice place = three-same Choice (three-placed k x place)
-  typed-same BvUnary place = ap (λ (a : Sort). typedAs BvUnary (x .sort) a a a) (e (x .p) (one-placed k x place))
+  typed-same BvUnary place = ap (λ (a : Sort). typedAs BvUnary (x .sort) a a a) (e (x .p) (one-below k x place .0))
   typed-same BvBinary place = two-same BvBinary (s (x .r)) (two-placed k x place)
   typed-same BvCompare place = two-same BvCompare (s (x .r)) (two-placed k x place)
   typed-same Read place = two-same Read (s (x .r)) (two-placed k x place)
@@ -205,12 +205,6 @@ module _ (f : List ℕ) (marked : Term → Bool) (n k b : ℕ) (plan : ℕ → P
       let z = vector-scalar (t .sort) (parts .0) in
       (same-operand (t .p) (t .sort) (place .0) z (same-sort (sortAt f (t .p)) (t .sort) (parts .1)), same-operand (t .q) (t .sort) (place .1) z (same-sort (sortAt f (t .q)) (t .sort) (parts .2)))
 
-  two-alike : (t .p < k) × (t .q < k) → scalar (sortAt f (t .p)) ≡ true → sameSort (sortAt f (t .p)) (sortAt f (t .q)) ≡ true
-      → Operand (t .p) (sortAt f (t .p) .n) × Operand (t .q) (sortAt f (t .p) .n)
-  two-alike place z h =
-      let same = same-sort (sortAt f (t .p)) (sortAt f (t .q)) h in
-      (same-operand (t .p) (sortAt f (t .p)) (place .0) z (record { m = refl; n = refl }), same-operand (t .q) (sortAt f (t .p)) (place .1) z (record { m = sym (same .m); n = sym (same .n) }))
-
   -- of a vector: its width
   vector-width : typedBy BvBinary ≡ true → (0 < t .sort .n) × (sorted (constantT (t .sort .n) 0 .sort) ≡ true)
   vector-width h =
@@ -218,10 +212,7 @@ module _ (f : List ℕ) (marked : Term → Bool) (n k b : ℕ) (plan : ℕ → P
       let some : 0 < t .sort .n = ltb-true 0 (t .sort .n) (and-parts (eqb (t .sort .m) 0) (ltb 0 (t .sort .n)) own .1) in
       (some, vector-sorted (t .sort .n) some (widths (t .sort) sort .n-most))
 
-  -- by the lines
-  strict-planned : {i j : ℕ} → Operand (t .p) i × Operand (t .q) j → Has f b (strictGroup cp cq) → Planned f b (t .sort) (grown marked n (n + 1) plan b t (strictGroup cp cq))
-  strict-planned o has = grown-planned (strict-good f b (o .0 .free) (o .1 .free) has)
-
+  -- by the kinds of groups
   absorbing-planned : (value : ℕ) → fits (t .sort .n) value ≡ true → (t .p < k) × (t .q < k) → typedBy BvBinary ≡ true
       → Has f b (absorbingGroup b (t .sort .n) value (t .p) (t .q) cp cq)
       → Planned f b (t .sort) (grown marked n (n + 1) plan b t (absorbingGroup b (t .sort .n) value (t .p) (t .q) cp cq))
@@ -294,38 +285,34 @@ module _ (f : List ℕ) (marked : Term → Bool) (n k b : ℕ) (plan : ℕ → P
   input-planned true = taken-planned (n + 1) NO
   input-planned false = taken-planned n YES
 
+  -- a function, by its kind of group
+  function-planned : (o : Operation) (r : FunctionRank (arity o)) (g : FunctionGroup o r) → typedBy (applied r) ≡ true → (t .p < k) × (t .q < k) × (t .r < k)
+      → Has f b (planBy marked n (n + 1) plan b t (groupKind g) .group) → Planned f b (t .sort) (planBy marked n (n + 1) plan b t (groupKind g))
+  unfolding planBy
+  function-planned o r unary h place has = taken-planned cp (earlier (t .p) (place .0) .condition (unary-scalar r (t .sort) (sortAt f (t .p)) (sortAt f (t .q)) (sortAt f (t .r)) h))
+  function-planned o r strict h place has =
+      let s = binary-scalars r (t .sort) (sortAt f (t .p)) (sortAt f (t .q)) (sortAt f (t .r)) h in
+      grown-planned (strict-good f b (earlier (t .p) (place .0) .condition (s .0)) (earlier (t .q) (place .1) .condition (s .1)) has)
+  function-planned o r conjunction h place has =
+      let e = two-booleans (place .0, place .1) h in
+      grown-planned (conjunction-good f b (e .0 .free) (e .1 .free) (e .0 .value) (e .1 .value) has)
+  function-planned o r disjunction h place has =
+      let e = two-booleans (place .0, place .1) h in
+      grown-planned (disjunction-good f b (e .0 .free) (e .1 .free) (e .0 .value) (e .1 .value) has)
+  function-planned o r implication h place has =
+      let e = two-booleans (place .0, place .1) h in
+      grown-planned (implication-good f b (e .0 .free) (e .1 .free) (e .0 .value) (e .1 .value) has)
+  function-planned o r byZero h place has = absorbing-planned 0 (fits-below (t .sort .n) 0 (pow-pos (t .sort .n))) (place .0, place .1) h has
+  function-planned o r byOnes h place has = absorbing-planned (ones (t .sort .n)) (fits-below (t .sort .n) (ones (t .sort .n)) (ones-lt (t .sort .n))) (place .0, place .1) h has
+  function-planned o r shift h place has = shift-planned (place .0, place .1) h has
+
   planned-by : (op : Op) → isKnown op ≡ true → typedBy (rankOf op) ≡ true → placedAs (fieldsOf (rankOf op)) k t ≡ true
-      → Has f b (planBy marked n (n + 1) plan b t (lineOf op) .group) → Planned f b (t .sort) (planBy marked n (n + 1) plan b t (lineOf op))
+      → Has f b (planBy marked n (n + 1) plan b t (kindOf op) .group) → Planned f b (t .sort) (planBy marked n (n + 1) plan b t (kindOf op))
   unfolding planBy isKnown
   planned-by Constant known h place has = taken-planned n YES
   planned-by Variable known h place has = input-planned (marked t)
-  planned-by Not known h place has =
-      taken-planned cp (width-operand (t .p) 0 (one-placed k t place) (and-parts (boolean (t .sort)) (boolean (sortAt f (t .p))) h .1) .free)
-  planned-by And known h place has =
-      let o = two-booleans (two-placed k t place) h in
-      grown-planned (conjunction-good f b (o .0 .free) (o .1 .free) (o .0 .value) (o .1 .value) has)
-  planned-by Or known h place has =
-      let o = two-booleans (two-placed k t place) h in
-      grown-planned (disjunction-good f b (o .0 .free) (o .1 .free) (o .0 .value) (o .1 .value) has)
-  planned-by Implies known h place has =
-      let o = two-booleans (two-placed k t place) h in
-      grown-planned (implication-good f b (o .0 .free) (o .1 .free) (o .0 .value) (o .1 .value) has)
-  planned-by Equal known h place has =
-      let parts = three (boolean (t .sort)) (scalar (sortAt f (t .p))) (sameSort (sortAt f (t .p)) (sortAt f (t .q))) h in
-      strict-planned (two-alike (two-placed k t place) (parts .1) (parts .2)) has
+  planned-by (Apply f′) known h place has = function-planned (operation f′) (functionRank f′) (functionGroup f′) h (rank-below (functionRank f′) k t place) has
   planned-by Ite known h place has = choice-planned (three-placed k t place) h has
-  planned-by BvNot known h place has =
-      let parts = and-parts (vector (t .sort)) (sameSort (sortAt f (t .p)) (t .sort)) h in
-      taken-planned cp
-      (same-operand (t .p) (t .sort) (one-placed k t place) (vector-scalar (t .sort) (parts .0)) (same-sort (sortAt f (t .p)) (t .sort) (parts .1)) .free)
-  planned-by BvAnd known h place has = absorbing-planned 0 (fits-below (t .sort .n) 0 (pow-pos (t .sort .n))) (two-placed k t place) h has
-  planned-by BvOr known h place has = absorbing-planned (ones (t .sort .n)) (fits-below (t .sort .n) (ones (t .sort .n)) (ones-lt (t .sort .n))) (two-placed k t place) h has
-  planned-by BvAdd known h place has = strict-planned (two-vectors (two-placed k t place) h) has
-  planned-by BvMul known h place has = absorbing-planned 0 (fits-below (t .sort .n) 0 (pow-pos (t .sort .n))) (two-placed k t place) h has
-  planned-by BvShl known h place has = shift-planned (two-placed k t place) h has
-  planned-by BvUlt known h place has =
-      let parts = three (boolean (t .sort)) (vector (sortAt f (t .p))) (sameSort (sortAt f (t .p)) (sortAt f (t .q))) h in
-      strict-planned (two-alike (two-placed k t place) (vector-scalar (sortAt f (t .p)) (parts .1)) (parts .2)) has
   planned-by Select known h place has = read-planned (two-placed k t place) h has
   planned-by Store known h place has = store-planned (three-placed k t place) h
   planned-by Unknown known h place has = never known

@@ -11,29 +11,31 @@ use lib.Dec.{eqb, ltb}
 use lib.ListN.{length, length-append}
 use borrow.Author.Tests.{eqb-true, ltb-true}
 use Rattle.ops.specs.declared.Op.{Op}
-use Rattle.ops.specs.declared.Op.the-variants.{Constant, Variable, Not, And, Or, Implies, Equal, Ite, BvNot, BvAnd, BvOr, BvAdd, BvMul, BvShl, BvUlt, Select, Store, Unknown}
+use Rattle.ops.specs.declared.Op.the-variants.{Constant, Variable, Apply, Ite, Select, Store, Unknown}
 use Rattle.ops.specs.Numbers.{opOf}
-use Rattle.ops.specs.Meaning.{bit, holds, ones, apply}
-use Rattle.ops.specs.Condition.{settles}
+use Rattle.ops.specs.Meaning.{Operation, bit, holds, ones, operation, apply}
+use Rattle.ops.specs.Condition.{conditionBy as operationCondition, settles}
+use Rattle.ops.specs.Ranks.{FunctionRank, arity, functionRank}
+use Rattle.ops.specs.Ranks.Arity.{two}
 use Rattle.ops.proofs.Booleans.{never, and-parts}
-use Rattle.table.specs.declared.ranks.Rank.{Rank}
-use Rattle.table.specs.declared.ranks.Rank.the-variants.{Literal, Input, BoolUnary, BoolBinary, Equality, Choice, BvUnary, BvBinary, BvCompare, Read, Write, Other}
-use Rattle.table.specs.declared.ranks.Fields.the-variants.{One, Two}
+use Rattle.table.specs.declared.ranks.Rank.the-variants.{BvBinary}
 use Rattle.table.specs.declared.words.Sort.{Sort}
 use Rattle.table.specs.declared.words.Term.{Term}
 use Rattle.table.specs.Terms.{terms, termAt, sortAt, boolean, vector, scalar, array, vectorOf, sameSort}
-use Rattle.table.specs.Ranks.{rankOf, fieldsOf, writes}
-use Rattle.table.specs.Faults.{rank, fields, storing, placedAs, typedAs}
+use Rattle.table.specs.Ranks.{applied, rankOf, fieldsOf, writes}
+use Rattle.table.specs.Faults.{fields, storing, placedAs, typedAs}
 use Rattle.table.specs.WellFormed.{WellFormed}
 use Rattle.table.proofs.FoldLaws.{fold-below}
 use Rattle.table.proofs.SoundTerms.{past-end}
 use Rattle.setting.specs.Interpretation.{Value, Interpretation}
 use Rattle.evaluate.specs.Values.{scalarValue, arrayValue, operated, valueBy, valueIn, valueOf, values, valueAt}
 use Rattle.evaluate.proofs.Folds.{value-below}
-use Rattle.table.proofs.OperandSorts.{isKnown, not-array, same-sort, boolean-scalar, vector-scalar, three, four, op-at, typing, two-placed, three-placed}
+use Rattle.table.proofs.OperandSorts.{isKnown, same-sort, boolean-scalar, same-scalar, vector-of-scalar, three, four, unary-scalar, binary-scalars, no-store, op-at, typing, two-placed, three-placed, rank-below}
 use Rattle.judge.specs.Conditions.{Condition, plain, storeFree, conditionBy, conditionIn, conditions, conditionAt, ownMarks}
 use Rattle.judge.proofs.Alike.{condition-below}
-use Rattle.groups.specs.Plans.{lineOf, Plan, lastOf, taken, storeRead, planBy, planIn, planOf, next, plans, planAt}
+use Rattle.groups.specs.FunctionGroups.{FunctionGroup, functionGroup, groupKind, kindOf}
+use Rattle.groups.specs.FunctionGroups.FunctionGroup.{unary, strict, conjunction, disjunction, implication, byZero, byOnes, shift}
+use Rattle.groups.specs.Plans.{Plan, lastOf, taken, storeRead, planBy, planIn, planOf, next, plans, planAt}
 use Rattle.groups.specs.Groups.{variableGroup, storeGroup}
 use Rattle.finish.specs.Finished.{conditionNumber}
 use Rattle.finish.proofs.Layouts.{Has, has-left, has-right, Layout, true-at, false-at, group-has, last-at}
@@ -41,22 +43,6 @@ use Rattle.judge.proofs.Meaning.{holds-bit}
 use Rattle.finish.proofs.GroupValues.{Known, and-num, constant-num, strict-group, and-group, or-group, implies-group, absorbing-group, shift-group, choice-group, store-group}
 
 -- The value of a term depends on the terms below alone
-
--- unused fields are 0, which is below too
-one-below : (k : ℕ) (t : Term) → placedAs One k t ≡ true → (t .p < k) × (t .q < k) × (t .r < k)
-one-below k t h =
-    let parts = three (ltb (t .p) k) (eqb (t .q) 0) (eqb (t .r) 0) h in
-    let p = ltb-true (t .p) k (parts .0) in
-    let q = eqb-true (t .q) 0 (parts .1) in
-    let r = eqb-true (t .r) 0 (parts .2) in
-    (p, omega arith, omega arith)
-
-two-below : (k : ℕ) (t : Term) → placedAs Two k t ≡ true → (t .p < k) × (t .q < k) × (t .r < k)
-two-below k t h =
-    let parts = two-placed k t h in
-    let p = parts .0 in
-    let r = eqb-true (t .r) 0 (three (ltb (t .p) k) (ltb (t .q) k) (eqb (t .r) 0) h .2) in
-    (p, parts .1, omega arith)
 
 module _ (I : Interpretation) (v v′ : ℕ → Value) (n n′ k : ℕ) (t : Term) (same : (i : ℕ) → i < k → v i ≡ v′ i) (width : t .p < k → n ≡ n′) where
   same-operated : (op : Op) → (t .p < k) × (t .q < k) × (t .r < k) → operated I v n t op ≡ operated I v′ n′ t op
@@ -72,19 +58,8 @@ module _ (I : Interpretation) (v v′ : ℕ → Value) (n n′ k : ℕ) (t : Ter
   unfolding valueBy
   same-value Constant h = refl
   same-value Variable h = refl
-  same-value Not h = same-operated Not (one-below k t h)
-  same-value And h = same-operated And (two-below k t h)
-  same-value Or h = same-operated Or (two-below k t h)
-  same-value Implies h = same-operated Implies (two-below k t h)
-  same-value Equal h = same-operated Equal (two-below k t h)
+  same-value (Apply f) h = same-operated (Apply f) (rank-below (functionRank f) k t h)
   same-value Ite h = same-operated Ite (three-placed k t h)
-  same-value BvNot h = same-operated BvNot (one-below k t h)
-  same-value BvAnd h = same-operated BvAnd (two-below k t h)
-  same-value BvOr h = same-operated BvOr (two-below k t h)
-  same-value BvAdd h = same-operated BvAdd (two-below k t h)
-  same-value BvMul h = same-operated BvMul (two-below k t h)
-  same-value BvShl h = same-operated BvShl (two-below k t h)
-  same-value BvUlt h = same-operated BvUlt (two-below k t h)
   same-value Select h =
       let place = two-placed k t h in
       let p = same (t .p) (place .0) in
@@ -135,30 +110,6 @@ record Agree (f : List ℕ) (val : ℕ → Value) (stores : Bool) (plan : Plan) 
   own : stores ≡ false → val (plan .condition) .num ≡ bit (c .free)
   read : (s : ℕ) {j cj x : ℕ} {d : Bool} → Known val j cj x d → Has f s (plan .readGroup s j cj) → val (lastOf s (plan .readGroup s j cj)) .num ≡ bit (c .readFree x d)
 
--- a term of a Boolean or vector sort is no store
-no-store : (r : Rank) (x a b c : Sort) → typedAs r x a b c ≡ true → scalar x ≡ true → writes r ≡ false
-no-store Literal x a b c h s = refl
-no-store Input x a b c h s = refl
-no-store BoolUnary x a b c h s = refl
-no-store BoolBinary x a b c h s = refl
-no-store Equality x a b c h s = refl
-no-store Choice x a b c h s = refl
-no-store BvUnary x a b c h s = refl
-no-store BvBinary x a b c h s = refl
-no-store BvCompare x a b c h s = refl
-no-store Read x a b c h s = refl
-no-store Write x a b c h s = absurd (not-array x s (four (array x) (sameSort a x) (vectorOf (x .m) b) (vectorOf (x .n) c) h .0))
-no-store Other x a b c h s = refl
-
-same-scalar : (a b : Sort) → sameSort a b ≡ true → scalar b ≡ true → scalar a ≡ true
-same-scalar a b h s = ap (λ (m : ℕ). eqb m 0) (same-sort a b h .m) ∙ s
-
-scalar-same : (a b : Sort) → sameSort a b ≡ true → scalar a ≡ true → scalar b ≡ true
-scalar-same a b h s = ap (λ (m : ℕ). eqb m 0) (sym (same-sort a b h .m)) ∙ s
-
-vector-of-scalar : (n : ℕ) (s : Sort) → vectorOf n s ≡ true → scalar s ≡ true
-vector-of-scalar n s h = and-parts (eqb (s .m) 0) (eqb (s .n) n) h .0
-
 module _ (f : List ℕ) (I : Interpretation) (val : ℕ → Value) (law : (k : ℕ) → val k ≡ valueOf f I val (termAt f k)) where
   -- no store: a read of it asks for its condition and the index's
   plain-agrees : {stores : Bool} {group : List Term} {n : ℕ} {x : Bool} → val n .num ≡ bit x
@@ -199,68 +150,44 @@ module _ (f : List ℕ) (I : Interpretation) (val : ℕ → Value) (law : (k : �
         (before (t .p) l .read s index (has-left f s under own h)) (has-right f s under own h)
 
     -- two operands
-
-    abbrev Both : Type 0
-    Both = Operand (t .p) × Operand (t .q)
-
-    both : placedAs Two k t ≡ true → scalar (sorts (t .p)) ≡ true → scalar (sorts (t .q)) ≡ true → Both
-    both place sp sq = let l = two-placed k t place in (operand (t .p) (l .0) sp, operand (t .q) (l .1) sq)
-
-    truths : placedAs Two k t ≡ true → typedAs BoolBinary (t .sort) (sorts (t .p)) (sorts (t .q)) (sorts (t .r)) ≡ true → Both
-    truths place h =
-        let s = three (boolean (t .sort)) (boolean (sorts (t .p))) (boolean (sorts (t .q))) h in
-        both place (boolean-scalar (sorts (t .p)) (s .1)) (boolean-scalar (sorts (t .q)) (s .2))
-
-    vectors : placedAs Two k t ≡ true → typedAs BvBinary (t .sort) (sorts (t .p)) (sorts (t .q)) (sorts (t .r)) ≡ true → Both
-    vectors place h =
-        let s = three (vector (t .sort)) (sameSort (sorts (t .p)) (t .sort)) (sameSort (sorts (t .q)) (t .sort)) h in
-        let x = vector-scalar (t .sort) (s .0) in
-        both place (same-scalar (sorts (t .p)) (t .sort) (s .1) x) (same-scalar (sorts (t .q)) (t .sort) (s .2) x)
+    both : (r : FunctionRank two) → typedAs (applied r) (t .sort) (sorts (t .p)) (sorts (t .q)) (sorts (t .r)) ≡ true → (t .p < k) × (t .q < k) × (t .r < k) → Operand (t .p) × Operand (t .q)
+    both r h place =
+        let s = binary-scalars r (t .sort) (sorts (t .p)) (sorts (t .q)) (sorts (t .r)) h in
+        (operand (t .p) (place .0) (s .0), operand (t .q) (place .1) (s .1))
 
     vector-width : typedAs BvBinary (t .sort) (sorts (t .p)) (sorts (t .q)) (sorts (t .r)) ≡ true → t .sort .n ≡ sorts (t .p) .n
     vector-width h = sym (same-sort (sorts (t .p)) (t .sort) (three (vector (t .sort)) (sameSort (sorts (t .p)) (t .sort)) (sameSort (sorts (t .q)) (t .sort)) h .1) .n)
 
-    alikes : placedAs Two k t ≡ true → scalar (sorts (t .p)) ≡ true → sameSort (sorts (t .p)) (sorts (t .q)) ≡ true → Both
-    alikes place s e = both place s (scalar-same (sorts (t .p)) (sorts (t .q)) e s)
+    -- a function, by its kind of group
+    agree-function : (o : Operation) (r : FunctionRank (arity o)) (g : FunctionGroup o r) → typedAs (applied r) (t .sort) (sorts (t .p)) (sorts (t .q)) (sorts (t .r)) ≡ true
+        → (t .p < k) × (t .q < k) × (t .r < k) → Has f b (planBy ownMarks yes no plan b t (groupKind g) .group)
+        → Agree f val false (planBy ownMarks yes no plan b t (groupKind g)) (plain (operationCondition o (sorts (t .p) .n) (v (t .p) .num) (v (t .q) .num) (c (t .p) .free) (c (t .q) .free)))
+    unfolding planBy
+    agree-function o r unary h place has = plain-agrees (operand (t .p) (place .0) (unary-scalar r (t .sort) (sorts (t .p)) (sorts (t .q)) (sorts (t .r)) h) .free)
+    agree-function o r strict h place has = let e = both r h place in plain-agrees (strict-group f I val law b (e .0) (e .1) has)
+    agree-function o r conjunction h place has = let e = both r h place in plain-agrees (and-group f I val law b (e .0) (e .1) has)
+    agree-function o r disjunction h place has = let e = both r h place in plain-agrees (or-group f I val law b (e .0) (e .1) has)
+    agree-function o r implication h place has = let e = both r h place in plain-agrees (implies-group f I val law b (e .0) (e .1) has)
+    agree-function o r byZero h place has = let e = both r h place in plain-agrees (absorbing-group f I val law b (e .0) (e .1) (t .sort .n) 0 0 refl has)
+    agree-function o r byOnes h place has =
+        let e = both r h place in
+        plain-agrees (absorbing-group f I val law b (e .0) (e .1) (t .sort .n) (ones (t .sort .n)) (ones (sorts (t .p) .n)) (ap ones (vector-width h)) has)
+    agree-function o r shift h place has = let e = both r h place in plain-agrees (shift-group f I val law b (e .0) (e .1) (t .sort .n) (sorts (t .p) .n) (vector-width h) has)
 
     -- the term, by its operator
     agree-by : (op : Op) → isKnown op ≡ true → typedAs (rankOf op) (t .sort) (sorts (t .p)) (sorts (t .q)) (sorts (t .r)) ≡ true → placedAs (fieldsOf (rankOf op)) k t ≡ true
-        → Has f b (planBy ownMarks yes no plan b t (lineOf op) .group)
-        → Agree f val (writes (rankOf op)) (planBy ownMarks yes no plan b t (lineOf op)) (conditionBy ownMarks v c (sorts (t .p) .n) t op)
+        → Has f b (planBy ownMarks yes no plan b t (kindOf op) .group)
+        → Agree f val (writes op) (planBy ownMarks yes no plan b t (kindOf op)) (conditionBy ownMarks v c (sorts (t .p) .n) t op)
     unfolding planBy conditionBy settles isKnown
     agree-by Constant known h place has = plain-agrees yes-is
     agree-by Variable known h place has = plain-agrees (mark-is (ownMarks t))
-    agree-by Not known h place has =
-        plain-agrees (operand (t .p) (one-below k t place .0) (boolean-scalar (sorts (t .p)) (and-parts (boolean (t .sort)) (boolean (sorts (t .p))) h .1)) .free)
-    agree-by And known h place has = let o = truths place h in plain-agrees (and-group f I val law b (o .0) (o .1) has)
-    agree-by Or known h place has = let o = truths place h in plain-agrees (or-group f I val law b (o .0) (o .1) has)
-    agree-by Implies known h place has = let o = truths place h in plain-agrees (implies-group f I val law b (o .0) (o .1) has)
-    agree-by Equal known h place has =
-        let s = three (boolean (t .sort)) (scalar (sorts (t .p))) (sameSort (sorts (t .p)) (sorts (t .q))) h in
-        let o = alikes place (s .1) (s .2) in
-        plain-agrees (strict-group f I val law b (o .0) (o .1) has)
+    agree-by (Apply f′) known h place has = agree-function (operation f′) (functionRank f′) (functionGroup f′) h (rank-below (functionRank f′) k t place) has
     agree-by Ite known h place has =
         let s = four (scalar (t .sort)) (boolean (sorts (t .p))) (sameSort (sorts (t .q)) (t .sort)) (sameSort (sorts (t .r)) (t .sort)) h in
         let l = three-placed k t place in
         plain-agrees
         (choice-group f I val law b (operand (t .p) (l .0) (boolean-scalar (sorts (t .p)) (s .1))) (operand (t .q) (l .1) (same-scalar (sorts (t .q)) (t .sort) (s .2) (s .0)))
         (operand (t .r) (l .2) (same-scalar (sorts (t .r)) (t .sort) (s .3) (s .0))) has)
-    agree-by BvNot known h place has =
-        let s = and-parts (vector (t .sort)) (sameSort (sorts (t .p)) (t .sort)) h in
-        plain-agrees (operand (t .p) (one-below k t place .0) (same-scalar (sorts (t .p)) (t .sort) (s .1) (vector-scalar (t .sort) (s .0))) .free)
-    agree-by BvAnd known h place has = let o = vectors place h in plain-agrees (absorbing-group f I val law b (o .0) (o .1) (t .sort .n) 0 0 refl has)
-    agree-by BvOr known h place has =
-        let o = vectors place h in
-        plain-agrees (absorbing-group f I val law b (o .0) (o .1) (t .sort .n) (ones (t .sort .n)) (ones (sorts (t .p) .n)) (ap ones (vector-width h)) has)
-    agree-by BvAdd known h place has = let o = vectors place h in plain-agrees (strict-group f I val law b (o .0) (o .1) has)
-    agree-by BvMul known h place has = let o = vectors place h in plain-agrees (absorbing-group f I val law b (o .0) (o .1) (t .sort .n) 0 0 refl has)
-    agree-by BvShl known h place has =
-        let o = vectors place h in
-        plain-agrees (shift-group f I val law b (o .0) (o .1) (t .sort .n) (sorts (t .p) .n) (vector-width h) has)
-    agree-by BvUlt known h place has =
-        let s = three (boolean (t .sort)) (vector (sorts (t .p))) (sameSort (sorts (t .p)) (sorts (t .q))) h in
-        let o = alikes place (vector-scalar (sorts (t .p)) (s .1)) (s .2) in
-        plain-agrees (strict-group f I val law b (o .0) (o .1) has)
     agree-by Select known h place has =
         let l = two-placed k t place in
         let s = three (array (sorts (t .p))) (vectorOf (sorts (t .p) .m) (sorts (t .q))) (vectorOf (sorts (t .p) .n) (t .sort)) h in
@@ -290,7 +217,7 @@ module _ (w f : List ℕ) (I : Interpretation) (wf : WellFormed 512 w) (l : Layo
       (subst (λ (c : Condition). Agree f (valueAt f I) (storing (termAt w i)) (planAt w ownMarks i) c) (sym (condition-below w ownMarks I k i b)) h)
 
   pub scalar-stores : (k : ℕ) → k < terms w → scalar (sortAt w k) ≡ true → storing (termAt w k) ≡ false
-  scalar-stores k b = let t = termAt w k in no-store (rank t) (t .sort) (sortAt w (t .p)) (sortAt w (t .q)) (sortAt w (t .r)) (typing w k (wf .sound k b))
+  scalar-stores k b = let t = termAt w k in no-store (opOf (t .op)) (t .sort) (sortAt w (t .p)) (sortAt w (t .q)) (sortAt w (t .r)) (typing w k (wf .sound k b))
 
   -- one term, those before it being known to agree
   agree-step : (k : ℕ) → k < terms w → ((i : ℕ) → i < k → AgreeAt i) → AgreeAt k

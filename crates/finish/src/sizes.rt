@@ -4,28 +4,28 @@ ghost use Rattle.table.specs.Terms.{terms};
 ghost use Rattle.table.specs.WellFormed.{WellFormed};
 ghost use Rattle.groups.specs.Sizes.{sizeOf, sizes};
 ghost use Rattle.finish.specs.Finished.{finished};
-use groups::Line;
-use groups::line_of;
+use groups::GroupKind;
+use groups::kind_of;
 use table::Term;
 
 // The terms of a term's group.
 fn size_of(table: &[u32], x: Term) -> u32
     ensures { λ r. ⌜ r ≡ sizeOf (now (table .entry)) x ⌝ }
 {
-    match line_of(x.op) {
-        Line::Literal => 0,
-        Line::Input => 0,
-        Line::Unary => 0,
-        Line::Strict => 1,
-        Line::Conjunction => 7,
-        Line::Disjunction => 5,
-        Line::Implication => 6,
-        Line::Zero => 8,
-        Line::Ones => 8,
-        Line::Shift => 6,
-        Line::Choice => 6,
-        Line::Read => 1 + 9 * admission::chain(table, x.p),
-        Line::Write => 0,
+    match kind_of(x.op) {
+        GroupKind::Literal => 0,
+        GroupKind::Input => 0,
+        GroupKind::Unary => 0,
+        GroupKind::Strict => 1,
+        GroupKind::Conjunction => 7,
+        GroupKind::Disjunction => 5,
+        GroupKind::Implication => 6,
+        GroupKind::Zero => 8,
+        GroupKind::Ones => 8,
+        GroupKind::Shift => 6,
+        GroupKind::Choice => 6,
+        GroupKind::Read => 1 + 9 * admission::chain(table, x.p),
+        GroupKind::Write => 0,
     }
 }
 

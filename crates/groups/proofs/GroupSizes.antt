@@ -9,8 +9,10 @@ use native.Mathlib.Nat.{not-suc-le-zero, le-trans}
 use native.Mathlib.Omega.{arith}
 use lib.ListN.{length, length-append}
 use Rattle.ops.specs.declared.Op.{Op}
-use Rattle.ops.specs.declared.Op.the-variants.{Constant, Variable, Not, And, Or, Implies, Equal, Ite, BvNot, BvAnd, BvOr, BvAdd, BvMul, BvShl, BvUlt, Select, Store, Unknown}
+use Rattle.ops.specs.declared.Op.the-variants.{Constant, Variable, Apply, Ite, Select, Store, Unknown}
 use Rattle.ops.specs.Numbers.{opOf}
+use Rattle.ops.specs.Meaning.{Operation}
+use Rattle.ops.specs.Ranks.{FunctionRank, arity}
 use Rattle.ops.proofs.Booleans.{never}
 use Rattle.table.specs.declared.words.Term.{Term}
 use Rattle.table.specs.Folds.{fold}
@@ -23,8 +25,10 @@ use Rattle.table.proofs.SoundTerms.{past-end}
 use Rattle.evaluate.specs.Steps.{stepsOf, steps}
 use Rattle.table.proofs.OperandSorts.{isKnown, op-at, two-placed, three-placed}
 use Rattle.judge.specs.Conditions.{ownMarks}
+use Rattle.groups.specs.FunctionGroups.{FunctionGroup, functionGroup, groupKind, kindOf}
+use Rattle.groups.specs.FunctionGroups.FunctionGroup.{unary, strict, conjunction, disjunction, implication, byZero, byOnes, shift}
 use Rattle.groups.specs.Groups.{storeGroup}
-use Rattle.groups.specs.Plans.{Plan, lineOf, lastOf, taken, cq, cr, planBy, planIn, planOf, groups, next, plans, planAt}
+use Rattle.groups.specs.Plans.{Plan, lastOf, taken, cq, cr, planBy, planIn, planOf, groups, next, plans, planAt}
 use Rattle.groups.specs.Sizes.{sizeBy, sizeOf, sizes}
 
 -- The stores of a chain
@@ -72,7 +76,7 @@ module _ (w : List ℕ) (limit : ℕ) (f : WellFormed limit w) (k : ℕ) where
     where
       go : Dec (k < terms w) → chain 17 w k ≤ 16
       go (yes b) = f .sound k b .short
-      go (no b) = omega (arith, chain-end w k (ap (λ (op : ℕ). writes (rankOf (opOf op))) (past-end limit w f k 0 (omega arith))))
+      go (no b) = omega (arith, chain-end w k (ap (λ (op : ℕ). writes (opOf op)) (past-end limit w f k 0 (omega arith))))
 
 -- The groups of one term
 
@@ -83,30 +87,30 @@ record Sized (x : Plan) (size readSize : ℕ) : Type 0 where
 -- by its operator: i is its number, c the count of stores from its first operand inward
 module _ (marked : Term → Bool) (yes no : ℕ) (plan : ℕ → Plan) (b : ℕ) (t : Term) (i c : ℕ)
     (below : t .p < i → (s j cj : ℕ) → length (plan (t .p) .readGroup s j cj) ≡ 1 + 9 * c) where
-  store-size : (s j cj : ℕ) → t .p < i → length (planBy marked yes no plan b t (lineOf Store) .readGroup s j cj) ≡ 1 + 9 * suc c
+  store-size : (s j cj : ℕ) → t .p < i → length (planBy marked yes no plan b t (kindOf Store) .readGroup s j cj) ≡ 1 + 9 * suc c
   unfolding planBy
   store-size s j cj l =
       let under : List Term = plan (t .p) .readGroup s j cj in
       length-append under (storeGroup (s + length under) (t .sort .n) (t .p) (t .q) (t .r) j (cq marked yes no plan b t) (cr marked yes no plan b t) cj (lastOf s under))
       ∙ omega (arith, below l s j cj)
 
-  sized-by : (op : Op) → isKnown op ≡ true → placedAs (fieldsOf (rankOf op)) i t ≡ true → Sized (planBy marked yes no plan b t (lineOf op)) (sizeBy (lineOf op) c) (1 + 9 * cond (writes (rankOf op)) (suc c) 0)
+  sized-function : {o : Operation} {r : FunctionRank (arity o)} (g : FunctionGroup o r) → Sized (planBy marked yes no plan b t (groupKind g)) (sizeBy (groupKind g) c) 1
+  unfolding planBy
+  sized-function unary = record { whole = refl; read = λ s j cj. refl }
+  sized-function strict = record { whole = refl; read = λ s j cj. refl }
+  sized-function conjunction = record { whole = refl; read = λ s j cj. refl }
+  sized-function disjunction = record { whole = refl; read = λ s j cj. refl }
+  sized-function implication = record { whole = refl; read = λ s j cj. refl }
+  sized-function byZero = record { whole = refl; read = λ s j cj. refl }
+  sized-function byOnes = record { whole = refl; read = λ s j cj. refl }
+  sized-function shift = record { whole = refl; read = λ s j cj. refl }
+
+  sized-by : (op : Op) → isKnown op ≡ true → placedAs (fieldsOf (rankOf op)) i t ≡ true → Sized (planBy marked yes no plan b t (kindOf op)) (sizeBy (kindOf op) c) (1 + 9 * cond (writes op) (suc c) 0)
   unfolding planBy isKnown
   sized-by Constant k place = record { whole = refl; read = λ s j cj. refl }
   sized-by Variable k place = record { whole = refl; read = λ s j cj. refl }
-  sized-by Not k place = record { whole = refl; read = λ s j cj. refl }
-  sized-by And k place = record { whole = refl; read = λ s j cj. refl }
-  sized-by Or k place = record { whole = refl; read = λ s j cj. refl }
-  sized-by Implies k place = record { whole = refl; read = λ s j cj. refl }
-  sized-by Equal k place = record { whole = refl; read = λ s j cj. refl }
+  sized-by (Apply f) k place = sized-function (functionGroup f)
   sized-by Ite k place = record { whole = refl; read = λ s j cj. refl }
-  sized-by BvNot k place = record { whole = refl; read = λ s j cj. refl }
-  sized-by BvAnd k place = record { whole = refl; read = λ s j cj. refl }
-  sized-by BvOr k place = record { whole = refl; read = λ s j cj. refl }
-  sized-by BvAdd k place = record { whole = refl; read = λ s j cj. refl }
-  sized-by BvMul k place = record { whole = refl; read = λ s j cj. refl }
-  sized-by BvShl k place = record { whole = refl; read = λ s j cj. refl }
-  sized-by BvUlt k place = record { whole = refl; read = λ s j cj. refl }
   sized-by Select k place = record { whole = below (two-placed i t place .0) b (t .q) (cq marked yes no plan b t); read = λ s j cj. refl }
   sized-by Store k place = record { whole = refl; read = λ s j cj. store-size s j cj (three-placed i t place .0) }
   sized-by Unknown k place = never k
@@ -169,22 +173,21 @@ next-more w k = ap (λ (g : List Term). terms w + 2 + length g) (groups-more w o
 -- How many they are at most
 
 -- eight terms, but for a read
-size-most : (op : Op) (c : ℕ) → sizeBy (lineOf op) c ≤ cond (reads (rankOf op)) (1 + 9 * c) 8
+function-most : {o : Operation} {r : FunctionRank (arity o)} (g : FunctionGroup o r) (c : ℕ) → sizeBy (groupKind g) c ≤ 8
+function-most unary c = omega arith
+function-most strict c = omega arith
+function-most conjunction c = omega arith
+function-most disjunction c = omega arith
+function-most implication c = omega arith
+function-most byZero c = omega arith
+function-most byOnes c = omega arith
+function-most shift c = omega arith
+
+size-most : (op : Op) (c : ℕ) → sizeBy (kindOf op) c ≤ cond (reads op) (1 + 9 * c) 8
 size-most Constant c = omega arith
 size-most Variable c = omega arith
-size-most Not c = omega arith
-size-most And c = omega arith
-size-most Or c = omega arith
-size-most Implies c = omega arith
-size-most Equal c = omega arith
+size-most (Apply f) c = function-most (functionGroup f) c
 size-most Ite c = omega arith
-size-most BvNot c = omega arith
-size-most BvAnd c = omega arith
-size-most BvOr c = omega arith
-size-most BvAdd c = omega arith
-size-most BvMul c = omega arith
-size-most BvShl c = omega arith
-size-most BvUlt c = omega arith
 size-most Select c = omega arith
 size-most Store c = omega arith
 size-most Unknown c = omega arith

@@ -7,8 +7,10 @@ use Prim.Native.Nat.{ℕ, pred, _+_, _≤_, _<_}
 use native.Mathlib.Omega.{arith}
 use lib.ListN.{length, getD, length-append}
 use Rattle.ops.specs.declared.Op.{Op}
-use Rattle.ops.specs.declared.Op.the-variants.{Constant, Variable, Not, And, Or, Implies, Equal, Ite, BvNot, BvAnd, BvOr, BvAdd, BvMul, BvShl, BvUlt, Select, Store, Unknown}
+use Rattle.ops.specs.declared.Op.the-variants.{Constant, Variable, Apply, Ite, Select, Store, Unknown}
 use Rattle.ops.specs.Numbers.{opOf}
+use Rattle.ops.specs.Meaning.{Operation}
+use Rattle.ops.specs.Ranks.{FunctionRank, arity}
 use Rattle.ops.proofs.Booleans.{never}
 use Rattle.table.specs.declared.words.Term.{Term}
 use Rattle.table.specs.Terms.{terms, termAt}
@@ -20,8 +22,10 @@ use Rattle.table.proofs.OperandSorts.{isKnown, op-at, three-placed}
 use Rattle.judge.specs.Conditions.{ownMarks}
 use Rattle.groups.specs.declared.groups.Written.{Written}
 use Rattle.groups.specs.Added.{laid}
+use Rattle.groups.specs.FunctionGroups.{FunctionGroup, functionGroup, groupKind, kindOf}
+use Rattle.groups.specs.FunctionGroups.FunctionGroup.{unary, strict, conjunction, disjunction, implication, byZero, byOnes, shift}
 use Rattle.groups.specs.Groups.{variableGroup, storeGroup}
-use Rattle.groups.specs.Plans.{Plan, lineOf, lastOf, taken, planBy, planIn, planOf, next, plans, planAt}
+use Rattle.groups.specs.Plans.{Plan, lastOf, taken, planBy, planIn, planOf, next, plans, planAt}
 use Rattle.groups.specs.Writing.{conditionNumbers, Numbered, after}
 use Rattle.groups.proofs.GroupSizes.{plan-below, read-most}
 use Rattle.groups.proofs.Rooms.{laid-append}
@@ -38,50 +42,40 @@ number-is w conditions h i b = recorded w conditions h i ∙ ap (λ (x : Plan). 
 
 -- any other term's read is and(C(v), C(j))
 module _ (marked : Term → Bool) (yes no : ℕ) (plan : ℕ → Plan) (b : ℕ) (t : Term) (s j cj : ℕ) where
-  end-by : (op : Op) → isKnown op ≡ true → writes (rankOf op) ≡ false
-      → variableGroup (planBy marked yes no plan b t (lineOf op) .condition) cj ≡ planBy marked yes no plan b t (lineOf op) .readGroup s j cj
+  function-end : {o : Operation} {r : FunctionRank (arity o)} (g : FunctionGroup o r)
+      → variableGroup (planBy marked yes no plan b t (groupKind g) .condition) cj ≡ planBy marked yes no plan b t (groupKind g) .readGroup s j cj
+  unfolding planBy
+  function-end unary = refl
+  function-end strict = refl
+  function-end conjunction = refl
+  function-end disjunction = refl
+  function-end implication = refl
+  function-end byZero = refl
+  function-end byOnes = refl
+  function-end shift = refl
+
+  end-by : (op : Op) → isKnown op ≡ true → writes op ≡ false
+      → variableGroup (planBy marked yes no plan b t (kindOf op) .condition) cj ≡ planBy marked yes no plan b t (kindOf op) .readGroup s j cj
   unfolding planBy isKnown
   end-by Constant k e = refl
   end-by Variable k e = refl
-  end-by Not k e = refl
-  end-by And k e = refl
-  end-by Or k e = refl
-  end-by Implies k e = refl
-  end-by Equal k e = refl
+  end-by (Apply f) k e = function-end (functionGroup f)
   end-by Ite k e = refl
-  end-by BvNot k e = refl
-  end-by BvAnd k e = refl
-  end-by BvOr k e = refl
-  end-by BvAdd k e = refl
-  end-by BvMul k e = refl
-  end-by BvShl k e = refl
-  end-by BvUlt k e = refl
   end-by Select k e = refl
   end-by Store k e = never (sym e)
   end-by Unknown k e = never k
 
   -- a store's: the group beneath and nine terms
   store-by : (below : List Term) (ci ce : ℕ) → plan (t .p) .readGroup s j cj ≡ below → plan (t .q) .condition ≡ ci → plan (t .r) .condition ≡ ce
-      → planBy marked yes no plan b t (lineOf Store) .readGroup s j cj ≡ below ++ storeGroup (s + length below) (t .sort .n) (t .p) (t .q) (t .r) j ci ce cj (lastOf s below)
+      → planBy marked yes no plan b t (kindOf Store) .readGroup s j cj ≡ below ++ storeGroup (s + length below) (t .sort .n) (t .p) (t .q) (t .r) j ci ce cj (lastOf s below)
   unfolding planBy
   store-by below ci ce e f g = rw (e, f, g)
 
-store-op : (op : Op) → writes (rankOf op) ≡ true → op ≡ Store
+store-op : (op : Op) → writes op ≡ true → op ≡ Store
 store-op Constant e = never e
 store-op Variable e = never e
-store-op Not e = never e
-store-op And e = never e
-store-op Or e = never e
-store-op Implies e = never e
-store-op Equal e = never e
+store-op (Apply f) e = never e
 store-op Ite e = never e
-store-op BvNot e = never e
-store-op BvAnd e = never e
-store-op BvOr e = never e
-store-op BvAdd e = never e
-store-op BvMul e = never e
-store-op BvShl e = never e
-store-op BvUlt e = never e
 store-op Select e = never e
 store-op Store e = refl
 store-op Unknown e = never e
@@ -124,7 +118,7 @@ module _ (w conditions : List ℕ) (f : WellFormed 512 w) (h : Numbered w condit
     -- a store over the array beneath
     grows : group a ≡ group (x .p) ++ storeGroup (b + length (group (x .p))) (x .sort .n) (x .p) (x .q) (x .r) j (getD conditions (x .q) 0) (getD conditions (x .r) 0) cj (lastOf b (group (x .p)))
     grows =
-        ap (λ (o : Op). planBy ownMarks (terms w) (terms w + 1) (planIn (plans w ownMarks a)) (next w (plans w ownMarks a)) (termAt w a) (lineOf o) .readGroup b j cj) op-is
+        ap (λ (o : Op). planBy ownMarks (terms w) (terms w + 1) (planIn (plans w ownMarks a)) (next w (plans w ownMarks a)) (termAt w a) (kindOf o) .readGroup b j cj) op-is
         ∙ store-by ownMarks (terms w) (terms w + 1) (planIn (plans w ownMarks a)) (next w (plans w ownMarks a)) (termAt w a) b j cj
         (group (termAt w a .p)) (getD conditions (termAt w a .q) 0) (getD conditions (termAt w a .r) 0)
         (ap (λ (y : Plan). y .readGroup b j cj) (plan-below w ownMarks a (termAt w a .p) (placing .0))) (number-of (termAt w a .q) (placing .1)) (number-of (termAt w a .r) (placing .2))

@@ -8,8 +8,10 @@ use native.Mathlib.Nat.{add-zero}
 use native.Mathlib.Omega.{arith}
 use lib.ListN.{length, getD}
 use Rattle.ops.specs.declared.Op.{Op}
-use Rattle.ops.specs.declared.Op.the-variants.{Constant, Variable, Not, And, Or, Implies, Equal, Ite, BvNot, BvAnd, BvOr, BvAdd, BvMul, BvShl, BvUlt, Select, Store, Unknown}
+use Rattle.ops.specs.declared.Op.the-variants.{Constant, Variable, Apply, Ite, Select, Store, Unknown}
 use Rattle.ops.specs.Numbers.{opOf}
+use Rattle.ops.specs.Meaning.{Operation}
+use Rattle.ops.specs.Ranks.{FunctionRank, arity}
 use Rattle.ops.proofs.Booleans.{never}
 use Rattle.table.specs.declared.words.Term.{Term}
 use Rattle.table.specs.Terms.{terms, termAt}
@@ -20,15 +22,17 @@ use Rattle.table.proofs.SoundTerms.{n-most-at}
 use Rattle.table.proofs.OperandSorts.{two-placed}
 use Rattle.judge.specs.Conditions.{ownMarks}
 use Rattle.groups.specs.declared.groups.Written.{Written}
-use Rattle.groups.specs.declared.lines.Line.{Line}
-use Rattle.groups.specs.declared.lines.Line.the-variants.{Literal, Input, Unary, Strict, Conjunction, Disjunction, Implication, Zero, Ones, Shift, Choice, Read, Write}
+use Rattle.groups.specs.declared.kinds.GroupKind.{GroupKind}
+use Rattle.groups.specs.declared.kinds.GroupKind.the-variants.{Literal, Input, Unary, Strict, Conjunction, Disjunction, Implication, Zero, Ones, Shift, Choice, Read, Write}
+use Rattle.groups.specs.FunctionGroups.{FunctionGroup, functionGroup, groupKind, kindOf}
+use Rattle.groups.specs.FunctionGroups.FunctionGroup.{unary, strict, conjunction, disjunction, implication, byZero, byOnes, shift}
 use Rattle.groups.specs.Added.{laid, laidFrom}
-use Rattle.groups.specs.Plans.{Plan, lineOf, lastOf, planBy, planIn, next, plans, planAt}
+use Rattle.groups.specs.Plans.{Plan, lastOf, planBy, planIn, next, plans, planAt}
 use Rattle.groups.specs.Writing.{Numbered, after, written}
 use Rattle.groups.proofs.GroupSizes.{plan-below, next-more}
 use Rattle.groups.proofs.ReadGroups.{recorded}
 
-isRead : Line → Bool
+isRead : GroupKind → Bool
 isRead Literal = false
 isRead Input = false
 isRead Unary = false
@@ -43,46 +47,46 @@ isRead Choice = false
 isRead Read = true
 isRead Write = false
 
-read-op : (op : Op) → isRead (lineOf op) ≡ true → op ≡ Select
+function-unread : {o : Operation} {r : FunctionRank (arity o)} (g : FunctionGroup o r) → isRead (groupKind g) ≡ false
+unfolding isRead
+function-unread unary = refl
+function-unread strict = refl
+function-unread conjunction = refl
+function-unread disjunction = refl
+function-unread implication = refl
+function-unread byZero = refl
+function-unread byOnes = refl
+function-unread shift = refl
+
+read-op : (op : Op) → isRead (kindOf op) ≡ true → op ≡ Select
 unfolding isRead
 read-op Constant e = never e
 read-op Variable e = never e
-read-op Not e = never e
-read-op And e = never e
-read-op Or e = never e
-read-op Implies e = never e
-read-op Equal e = never e
+read-op (Apply f) e = never (sym (function-unread (functionGroup f)) ∙ e)
 read-op Ite e = never e
-read-op BvNot e = never e
-read-op BvAnd e = never e
-read-op BvOr e = never e
-read-op BvAdd e = never e
-read-op BvMul e = never e
-read-op BvShl e = never e
-read-op BvUlt e = never e
 read-op Select e = refl
 read-op Store e = never e
 read-op Unknown e = never e
 
 module _ (w conditions : List ℕ) (f : WellFormed 512 w) (h : Numbered w conditions) (b i yes : ℕ) (all : i ≡ length conditions) (inside : i < terms w) (yes-is : yes ≡ terms w)
-    (b-is : b ≡ next w (plans w ownMarks i)) (x : Term) (here : x ≡ termAt w i) (line : Line) (line-is : line ≡ lineOf (opOf (x .op))) where
+    (b-is : b ≡ next w (plans w ownMarks i)) (x : Term) (here : x ≡ termAt w i) (kind : GroupKind) (kind-is : kind ≡ kindOf (opOf (x .op))) where
   abbrev pub before : ℕ → Plan
   before k = planIn (plans w ownMarks i) k
 
-  abbrev pub planned : Line → Plan
+  abbrev pub planned : GroupKind → Plan
   planned l = planBy ownMarks yes (yes + 1) before b x l
 
   -- the number that conditions has of an operand
   pub number-in : (k : ℕ) → getD conditions k 0 ≡ before k .condition
   number-in k = recorded w conditions h k ∙ ap (λ (n : ℕ). planIn (plans w ownMarks n) k .condition) (sym all)
 
-  plan-is : (l : Line) → line ≡ l → planned l ≡ planAt w ownMarks i
+  plan-is : (l : GroupKind) → kind ≡ l → planned l ≡ planAt w ownMarks i
   plan-is l e =
-      ap planned (sym e ∙ line-is)
-      ∙ ap (λ (y : Term). planBy ownMarks yes (yes + 1) before b y (lineOf (opOf (y .op)))) here
-      ∙ ap₂ (λ (n s : ℕ). planBy ownMarks n (n + 1) before s (termAt w i) (lineOf (opOf (termAt w i .op)))) yes-is b-is
+      ap planned (sym e ∙ kind-is)
+      ∙ ap (λ (y : Term). planBy ownMarks yes (yes + 1) before b y (kindOf (opOf (y .op)))) here
+      ∙ ap₂ (λ (n s : ℕ). planBy ownMarks n (n + 1) before s (termAt w i) (kindOf (opOf (termAt w i .op)))) yes-is b-is
 
-  written-is : (l : Line) → line ≡ l → (r : Written) → r .condition ≡ planned l .condition → r .next ≡ b + length (planned l .group) → r ≡ written w i
+  written-is : (l : GroupKind) → kind ≡ l → (r : Written) → r .condition ≡ planned l .condition → r .next ≡ b + length (planned l .group) → r ≡ written w i
   written-is l e r c n =
       let condition : r .condition ≡ planAt w ownMarks i .condition = c ∙ ap (λ (y : Plan). y .condition) (plan-is l e) in
       let next-is : r .next ≡ next w (plans w ownMarks (suc i)) =
@@ -90,7 +94,7 @@ module _ (w conditions : List ℕ) (f : WellFormed 512 w) (h : Numbered w condit
       λ k. record { condition = condition k; next = next-is k }
 
   -- a group g, whose last is the condition
-  pub grows : (l : Line) → line ≡ l → (g : List Term) → g ≡ planned l .group → planned l .condition ≡ lastOf b (planned l .group) → (r : Written) (room last : List ℕ)
+  pub grows : (l : GroupKind) → kind ≡ l → (g : List Term) → g ≡ planned l .group → planned l .condition ≡ lastOf b (planned l .group) → (r : Written) (room last : List ℕ)
       → (r ≡ after b g) × (last ≡ laid room b g) → (r ≡ written w i) × (last ≡ laid room b (planAt w ownMarks i .group))
   grows l e g same c r room last (answer, wrote) = (
     written-is l e r (ap (λ (y : Written). y .condition) answer ∙ ap (lastOf b) same ∙ sym c) (ap (λ (y : Written). y .next) answer ∙ ap (λ (y : List Term). b + length y) same),
@@ -98,7 +102,7 @@ module _ (w conditions : List ℕ) (f : WellFormed 512 w) (h : Numbered w condit
   )
 
   -- nothing added
-  pub stays : (l : Line) → line ≡ l → planned l .group ≡ [] → (c : ℕ) → c ≡ planned l .condition → (r : Written) (room : List ℕ)
+  pub stays : (l : GroupKind) → kind ≡ l → planned l .group ≡ [] → (c : ℕ) → c ≡ planned l .condition → (r : Written) (room : List ℕ)
       → r ≡ record { condition = c; next = b } → (r ≡ written w i) × (room ≡ laid room b (planAt w ownMarks i .group))
   unfolding laidFrom
   stays l e none c is r room answer = (
@@ -107,16 +111,16 @@ module _ (w conditions : List ℕ) (f : WellFormed 512 w) (h : Numbered w condit
   )
 
   -- a read's array is an earlier term
-  pub read-below : line ≡ Read → x .p < length conditions
+  pub read-below : kind ≡ Read → x .p < length conditions
   unfolding isRead
   read-below e =
-      let op : opOf (x .op) ≡ Select = read-op (opOf (x .op)) (ap isRead (sym line-is ∙ e)) in
+      let op : opOf (x .op) ≡ Select = read-op (opOf (x .op)) (ap isRead (sym kind-is ∙ e)) in
       let op-at : opOf (termAt w i .op) ≡ Select = ap (λ (y : Term). opOf (y .op)) (sym here) ∙ op in
       let low : termAt w i .p < i = two-placed i (termAt w i) (subst (λ (o : Op). placedAs (fieldsOf (rankOf o)) i (termAt w i) ≡ true) op-at (f .sound i inside .is-placed)) .0 in
       subst (λ (y : Term). y .p < length conditions) (sym here) (omega arith)
 
   -- its group
-  pub read-is : line ≡ Read → (cq : ℕ) → cq ≡ getD conditions (x .q) 0 → planAt w ownMarks (x .p) .readGroup b (x .q) cq ≡ planned Read .group
+  pub read-is : kind ≡ Read → (cq : ℕ) → cq ≡ getD conditions (x .q) 0 → planAt w ownMarks (x .p) .readGroup b (x .q) cq ≡ planned Read .group
   unfolding planBy
   read-is e cq is =
       ap₂ (λ (y : Plan) (n : ℕ). y .readGroup b (x .q) n) (sym (plan-below w ownMarks i (x .p) (let low : x .p < length conditions = read-below e in omega arith))) (is ∙ number-in (x .q))

@@ -4,37 +4,15 @@ use mathlib.Core.Bool.{Bool, cond}
 use mathlib.Core.List.{List, [], _∷_, _++_}
 use Prim.Native.Nat.{ℕ, pred, _+_}
 use lib.ListN.{length, getD}
-use Rattle.ops.specs.declared.Op.{Op}
-use Rattle.ops.specs.declared.Op.the-variants.{Constant, Variable, Not, And, Or, Implies, Equal, Ite, BvNot, BvAnd, BvOr, BvAdd, BvMul, BvShl, BvUlt, Select, Store, Unknown}
 use Rattle.ops.specs.Numbers.{opOf}
 use Rattle.ops.specs.Meaning.{ones}
 use Rattle.table.specs.declared.words.Term.{Term}
 use Rattle.table.specs.Folds.{fold}
 use Rattle.table.specs.Terms.{terms, termAt}
-use Rattle.groups.specs.declared.lines.Line.{Line}
-use Rattle.groups.specs.declared.lines.Line.the-variants.{Literal, Input, Unary, Strict, Conjunction, Disjunction, Implication, Zero, Ones, Shift, Choice, Read, Write}
+use Rattle.groups.specs.declared.kinds.GroupKind.{GroupKind}
+use Rattle.groups.specs.declared.kinds.GroupKind.the-variants.{Literal, Input, Unary, Strict, Conjunction, Disjunction, Implication, Zero, Ones, Shift, Choice, Read, Write}
+use Rattle.groups.specs.FunctionGroups.{kindOf}
 use Rattle.groups.specs.Groups.{strictGroup, andGroup, orGroup, impliesGroup, absorbingGroup, shiftGroup, choiceGroup, variableGroup, storeGroup}
-
--- the lines of "The condition of each term"
-abbrev pub lineOf : Op → Line
-lineOf Constant = Literal
-lineOf Variable = Input
-lineOf Not = Unary
-lineOf And = Conjunction
-lineOf Or = Disjunction
-lineOf Implies = Implication
-lineOf Equal = Strict
-lineOf Ite = Choice
-lineOf BvNot = Unary
-lineOf BvAnd = Zero
-lineOf BvOr = Ones
-lineOf BvAdd = Strict
-lineOf BvMul = Zero
-lineOf BvShl = Shift
-lineOf BvUlt = Strict
-lineOf Select = Read
-lineOf Store = Write
-lineOf Unknown = Write
 
 -- Of a term: the group of terms added for it; the number of C(t); and, of an array, the group of a read of it, from the group's
 -- first number, the index's number and that of the index's condition.
@@ -72,7 +50,7 @@ module _ (marked : Term → Bool) (yes no : ℕ) (plan : ℕ → Plan) (b : ℕ)
       let below : List Term = plan (t .p) .readGroup s j cj in
       below ++ storeGroup (s + length below) (t .sort .n) (t .p) (t .q) (t .r) j cq cr cj (lastOf s below)
 
-  unfoldable pub planBy : Line → Plan
+  unfoldable pub planBy : GroupKind → Plan
   planBy Literal = taken yes
   planBy Input = taken (cond (marked t) no yes)
   planBy Unary = taken cp
@@ -101,7 +79,7 @@ abbrev pub next : List ℕ → List Plan → ℕ
 next w ps = terms w + 2 + length (groups ps)
 
 abbrev pub planOf : List ℕ → (Term → Bool) → List Plan → Term → Plan
-planOf w marked ps t = planBy marked (terms w) (terms w + 1) (planIn ps) (next w ps) t (lineOf (opOf (t .op)))
+planOf w marked ps t = planBy marked (terms w) (terms w + 1) (planIn ps) (next w ps) t (kindOf (opOf (t .op)))
 
 -- the plans of the first k terms
 abbrev pub plans : List ℕ → (Term → Bool) → ℕ → List Plan

@@ -6,12 +6,12 @@ use Rattle.ops.specs.Numbers.{opOf}
 use Rattle.table.specs.declared.words.Term.{Term}
 use Rattle.table.specs.Terms.{termAt}
 use Rattle.table.specs.Faults.{chain}
-use Rattle.groups.specs.declared.lines.Line.{Line}
-use Rattle.groups.specs.declared.lines.Line.the-variants.{Literal, Input, Unary, Strict, Conjunction, Disjunction, Implication, Zero, Ones, Shift, Choice, Read, Write}
-use Rattle.groups.specs.Plans.{lineOf}
+use Rattle.groups.specs.declared.kinds.GroupKind.{GroupKind}
+use Rattle.groups.specs.declared.kinds.GroupKind.the-variants.{Literal, Input, Unary, Strict, Conjunction, Disjunction, Implication, Zero, Ones, Shift, Choice, Read, Write}
+use Rattle.groups.specs.FunctionGroups.{kindOf}
 
 -- the terms of a group; stores is the count of stores in a read's chain
-abbrev pub sizeBy : Line → ℕ → ℕ
+abbrev pub sizeBy : GroupKind → ℕ → ℕ
 sizeBy Literal stores = 0
 sizeBy Input stores = 0
 sizeBy Unary stores = 0
@@ -27,7 +27,7 @@ sizeBy Read stores = 1 + 9 * stores
 sizeBy Write stores = 0
 
 abbrev pub sizeOf : List ℕ → Term → ℕ
-sizeOf w t = sizeBy (lineOf (opOf (t .op))) (chain 17 w (t .p))
+sizeOf w t = sizeBy (kindOf (opOf (t .op))) (chain 17 w (t .p))
 
 -- of the first k terms
 unfoldable pub sizes : List ℕ → ℕ → ℕ

@@ -17,8 +17,8 @@ use crate::groups::disjunction;
 use crate::groups::implication;
 use crate::groups::shift;
 use crate::groups::strict;
-use crate::lines::Line;
-use crate::lines::line_of;
+use crate::kinds::GroupKind;
+use crate::kinds::kind_of;
 use crate::reads::read_group;
 use setting::number_at;
 use table::Term;
@@ -61,19 +61,19 @@ pub fn write_group(
     let cp = number_at(conditions, x.p);
     let cq = number_at(conditions, x.q);
     let n = x.sort.n;
-    match line_of(x.op) {
-        Line::Literal => taken(yes, b),
-        Line::Input => taken(input(x, yes), b),
-        Line::Unary => taken(cp, b),
-        Line::Strict => strict(room, b, cp, cq),
-        Line::Conjunction => conjunction(room, b, x.p, x.q, cp, cq),
-        Line::Disjunction => disjunction(room, b, x.p, x.q, cp, cq),
-        Line::Implication => implication(room, b, x.p, x.q, cp, cq),
-        Line::Zero => absorbing(room, b, n, 0, x.p, x.q, cp, cq),
-        Line::Ones => absorbing(room, b, n, ops::ones(n), x.p, x.q, cp, cq),
-        Line::Shift => shift(room, b, n, x.q, cp, cq),
-        Line::Choice => choice(room, b, x.p, x.q, x.r, cp, cq, number_at(conditions, x.r)),
-        Line::Read => read_group(table, conditions, room, b, x.p, x.q, cq),
-        Line::Write => taken(0, b),
+    match kind_of(x.op) {
+        GroupKind::Literal => taken(yes, b),
+        GroupKind::Input => taken(input(x, yes), b),
+        GroupKind::Unary => taken(cp, b),
+        GroupKind::Strict => strict(room, b, cp, cq),
+        GroupKind::Conjunction => conjunction(room, b, x.p, x.q, cp, cq),
+        GroupKind::Disjunction => disjunction(room, b, x.p, x.q, cp, cq),
+        GroupKind::Implication => implication(room, b, x.p, x.q, cp, cq),
+        GroupKind::Zero => absorbing(room, b, n, 0, x.p, x.q, cp, cq),
+        GroupKind::Ones => absorbing(room, b, n, ops::ones(n), x.p, x.q, cp, cq),
+        GroupKind::Shift => shift(room, b, n, x.q, cp, cq),
+        GroupKind::Choice => choice(room, b, x.p, x.q, x.r, cp, cq, number_at(conditions, x.r)),
+        GroupKind::Read => read_group(table, conditions, room, b, x.p, x.q, cq),
+        GroupKind::Write => taken(0, b),
     }
 }

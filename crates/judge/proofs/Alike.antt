@@ -11,7 +11,7 @@ use lib.Dec.{eqb}
 use lib.ListN.{getD, List·getD-eq-default}
 use borrow.Author.Tests.{eqb-true, eqb-false, ltb-true, lt-ltb}
 use Rattle.ops.specs.declared.Op.{Op}
-use Rattle.ops.specs.declared.Op.the-variants.{Constant, Variable, Not, And, Or, Implies, Equal, Ite, BvNot, BvAnd, BvOr, BvAdd, BvMul, BvShl, BvUlt, Select, Store, Unknown}
+use Rattle.ops.specs.declared.Op.the-variants.{Constant, Variable, Apply, Ite, Select, Store, Unknown}
 use Rattle.ops.specs.Numbers.{opOf}
 use Rattle.ops.specs.Meaning.{holds}
 use Rattle.ops.specs.Fits.{fits}
@@ -132,24 +132,13 @@ module _ (marked : Term → Bool) (I I′ : Interpretation) (v v′ : ℕ → Va
 
   -- the term, by its operator
   alike-by : (op : Op) → typedAs (rankOf op) (t .sort) (sorts (t .p)) (sorts (t .q)) (sorts (t .r)) ≡ true → placedAs (fieldsOf (rankOf op)) i t ≡ true
-      → (slotted (fieldsOf (rankOf op)) ≡ true → marked t ≡ false → Same (t .sort) (I (t .p)) (I′ (t .p)))
+      → (slotted op ≡ true → marked t ≡ false → Same (t .sort) (I (t .p)) (I′ (t .p)))
       → Alike (2 ^ t .sort .m) (valueBy I v (sorts (t .p) .n) t op) (valueBy I′ v′ (sorts (t .p) .n) t op) (conditionBy marked v c (sorts (t .p) .n) t op) (conditionBy marked v′ c′ (sorts (t .p) .n) t op)
   unfolding valueBy conditionBy
   alike-by Constant h place input = alike-scalar (2 ^ t .sort .m) (same-agree true (t .p))
   alike-by Variable h place input = variable-alike (eqb (t .sort .m) 0) (marked t) refl (input refl)
-  alike-by Not h place input = alike-operated Not
-  alike-by And h place input = alike-operated And
-  alike-by Or h place input = alike-operated Or
-  alike-by Implies h place input = alike-operated Implies
-  alike-by Equal h place input = alike-operated Equal
+  alike-by (Apply f) h place input = alike-operated (Apply f)
   alike-by Ite h place input = alike-operated Ite
-  alike-by BvNot h place input = alike-operated BvNot
-  alike-by BvAnd h place input = alike-operated BvAnd
-  alike-by BvOr h place input = alike-operated BvOr
-  alike-by BvAdd h place input = alike-operated BvAdd
-  alike-by BvMul h place input = alike-operated BvMul
-  alike-by BvShl h place input = alike-operated BvShl
-  alike-by BvUlt h place input = alike-operated BvUlt
   alike-by Select h place input =
       alike-scalar (2 ^ t .sort .m) (select-alike (c (t .q) .free) (c′ (t .q) .free) (alike (t .q) .whole) (index-below h (two-placed i t place .1)))
   alike-by Store h place input =

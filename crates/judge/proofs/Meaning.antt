@@ -10,7 +10,7 @@ use native.Mathlib.Omega.{arith}
 use lib.Dec.{eqb}
 use lib.ListN.{length, getD}
 use Rattle.ops.specs.declared.Op.{Op}
-use Rattle.ops.specs.declared.Op.the-variants.{Constant, Variable, Not, And, Or, Implies, Equal, Ite, BvNot, BvAnd, BvOr, BvAdd, BvMul, BvShl, BvUlt, Select, Store, Unknown}
+use Rattle.ops.specs.declared.Op.the-variants.{Constant, Variable, Apply, Ite, Select, Store, Unknown}
 use Rattle.ops.specs.Numbers.{opOf}
 use Rattle.ops.specs.Meaning.{bit, holds}
 use Rattle.ops.specs.Condition.{chosen, settles}
@@ -104,7 +104,7 @@ module _ (limit : ℕ) (w row : List ℕ) (look : ℕ → ℕ → ℕ → ℕ) (
 
     input-reading : opOf (x .op) ≡ Variable → readingAt w (numbers w I k) (truths w ownMarks I k) a j cj (cellBeneath limit w row look f a j) ≡ meant a j cj
     input-reading e =
-        let no-store : storing x ≡ false = ap (λ (o : Op). writes (rankOf o)) e in
+        let no-store : storing x ≡ false = ap (λ (o : Op). writes o) e in
         let vs = input-cell e no-store in
         let fs = input-free e in
         sym (reading-end w (numbers w I k) (truths w ownMarks I k) (store-below limit w f) j cj (cellBeneath limit w row look f a j) a no-store)
@@ -113,7 +113,7 @@ module _ (limit : ℕ) (w row : List ℕ) (look : ℕ → ℕ → ℕ → ℕ) (
     -- a store, whose operands are below
     module _ (e : opOf (x .op) ≡ Store) (pb : x .p < a) (qb : x .q < a) (rb : x .r < a) (arr : array (sortAt w (x .p)) ≡ true) where
       stores : storing x ≡ true
-      stores = ap (λ (o : Op). writes (rankOf o)) e
+      stores = ap (λ (o : Op). writes o) e
 
       -- what the front of the room holds
       fq : getD (numbers w I k) (x .q) 0 ≡ W (x .q) .num
@@ -207,8 +207,8 @@ module _ (w front ts : List ℕ) (v : ℕ → Value) (c : ℕ → Condition) (x 
 
   abbrev truthBy : Op → Bool
   truthBy op =
-      cond (immediate (fieldsOf (rankOf op))) true
-      (cond (slotted (fieldsOf (rankOf op))) (not (ownMarks x))
+      cond (immediate op) true
+      (cond (slotted op) (not (ownMarks x))
       (settles op width (getD front (x .p) 0) (getD front (x .q) 0) (getD front (x .r) 0) (truthIn ts (x .p)) (truthIn ts (x .q)) (truthIn ts (x .r))))
 
   settles-same : (op : Op)
@@ -216,23 +216,12 @@ module _ (w front ts : List ℕ) (v : ℕ → Value) (c : ℕ → Condition) (x 
       ≡ settles op width (v (x .p) .num) (v (x .q) .num) (v (x .r) .num) (c (x .p) .free) (c (x .q) .free) (c (x .r) .free)
   settles-same op = λ i. settles op width (is (x .p) i) (is (x .q) i) (is (x .r) i) (free (x .p) i) (free (x .q) i) (free (x .r) i)
 
-  truth-by : (op : Op) → reads (rankOf op) ≡ false → truthBy op ≡ conditionBy ownMarks v c width x op .free
+  truth-by : (op : Op) → reads op ≡ false → truthBy op ≡ conditionBy ownMarks v c width x op .free
   unfolding conditionBy settles
   truth-by Constant h = refl
   truth-by Variable h = refl
-  truth-by Not h = settles-same Not
-  truth-by And h = settles-same And
-  truth-by Or h = settles-same Or
-  truth-by Implies h = settles-same Implies
-  truth-by Equal h = settles-same Equal
+  truth-by (Apply f) h = settles-same (Apply f)
   truth-by Ite h = settles-same Ite
-  truth-by BvNot h = settles-same BvNot
-  truth-by BvAnd h = settles-same BvAnd
-  truth-by BvOr h = settles-same BvOr
-  truth-by BvAdd h = settles-same BvAdd
-  truth-by BvMul h = settles-same BvMul
-  truth-by BvShl h = settles-same BvShl
-  truth-by BvUlt h = settles-same BvUlt
   truth-by Select h = never (sym h)
   truth-by Store h = refl
   truth-by Unknown h = refl

@@ -7,7 +7,7 @@ use Prim.Native.Nat.{ℕ}
 use lib.Dec.{eqb}
 use lib.ListN.{getD}
 use Rattle.ops.specs.declared.Op.{Op}
-use Rattle.ops.specs.declared.Op.the-variants.{Constant, Variable, Not, And, Or, Implies, Equal, Ite, BvNot, BvAnd, BvOr, BvAdd, BvMul, BvShl, BvUlt, Select, Store, Unknown}
+use Rattle.ops.specs.declared.Op.the-variants.{Constant, Variable, Apply, Ite, Select, Store, Unknown}
 use Rattle.ops.specs.Numbers.{opOf}
 use Rattle.ops.specs.Meaning.{bit}
 use Rattle.ops.specs.Condition.{chosen, settles}
@@ -39,19 +39,8 @@ module _ (marked : Term → Bool) (v : ℕ → Value) (c : ℕ → Condition) (w
   unfoldable pub conditionBy : Op → Condition
   conditionBy Constant = plain true
   conditionBy Variable = plain (not (marked t))
-  conditionBy Not = settling Not
-  conditionBy And = settling And
-  conditionBy Or = settling Or
-  conditionBy Implies = settling Implies
-  conditionBy Equal = settling Equal
+  conditionBy (Apply f) = settling (Apply f)
   conditionBy Ite = settling Ite
-  conditionBy BvNot = settling BvNot
-  conditionBy BvAnd = settling BvAnd
-  conditionBy BvOr = settling BvOr
-  conditionBy BvAdd = settling BvAdd
-  conditionBy BvMul = settling BvMul
-  conditionBy BvShl = settling BvShl
-  conditionBy BvUlt = settling BvUlt
   conditionBy Select = plain (c (t .p) .readFree (v (t .q) .num) (c (t .q) .free))
   -- a store has no C
   conditionBy Store = record { free = false; readFree = storeFree }

@@ -1,19 +1,21 @@
--- Where one operand settles the result, the other cannot change it.
+-- The functions, one by one: where one operand settles the result the other cannot change it, and the value fits.
 -- Assumes nothing.
 use mathlib.Core.Path.{_≡_, refl, sym, ap, _∙_}
 use mathlib.Core.Bool.{Bool, true, false, not, _&&_, _||_}
 use Prim.Native.Nat.{ℕ, _+_, _*_, _%_, _^_, _<_}
 use native.Mathlib.Nat.{zero-mul, mul-zero, zero-mod, mod-eq-of-lt, add-right-cancel}
 use lib.Bits.{bitAnd, bitOr, and-zero-l, and-zero-r, and-comm, and-mask, or-comm, or-mod, or-add-and}
-use lib.Dec.{eqb, leb}
-use lib.Pow.{ones-lt}
+use lib.Dec.{eqb, ltb, leb}
+use lib.Pow.{ones-lt, ones-sub-lt}
 use borrow.Author.Tests.{eqb-true, leb-true}
-use Rattle.ops.specs.declared.Op.the-variants.{Constant, Variable, Not, And, Or, Implies, Equal, Ite, BvNot, BvAnd, BvOr, BvAdd, BvMul, BvShl, BvUlt, Select, Store, Unknown}
-use Rattle.ops.specs.declared.Op.{Op}
-use Rattle.ops.specs.Meaning.{bit, holds, ones, operation, apply}
+use Rattle.ops.specs.declared.Function.the-variants.{Not, And, Or, Implies, Equal, BvNot, BvAnd, BvOr, BvAdd, BvMul, BvShl, BvUlt}
+use Rattle.ops.specs.declared.Function.{Function}
+use Rattle.ops.specs.Meaning.{bit, holds, ones, operation, valueOf}
+use Rattle.ops.specs.Ranks.{functionRank, rankWidth}
+use Rattle.ops.specs.Fits.{fits}
 use Rattle.ops.specs.Laws.{first, second, Absorbs, Absorption}
 use Rattle.ops.proofs.Booleans.{never, and-shut, or-open}
-use Rattle.ops.proofs.Widths.{mod-below, shifted-out}
+use Rattle.ops.proofs.Widths.{mod-below, shifted-out, fits-below, fits-mod, fits-bit}
 
 -- truths
 
@@ -62,52 +64,50 @@ module _ (n : ℕ) where
   out : (x x′ y : ℕ) → leb n y ≡ true → (x * 2 ^ y) % 2 ^ n ≡ (x′ * 2 ^ y) % 2 ^ n
   out x x′ y e = shifted-out n x y (leb-true n y e) ∙ sym (shifted-out n x′ y (leb-true n y e))
 
--- an operator that no value settles
-unsettled : (op : Op) (n : ℕ) → ((x : ℕ) → first (operation op) n x ≡ false) → ((y : ℕ) → second (operation op) n y ≡ false) → Absorbs op n
-unsettled op n a b =
-    record { by-first = λ x y y′ z p. never (sym (a x) ∙ p); by-second = λ x x′ y z p. never (sym (b y) ∙ p) }
+-- What is shown function by function: where one operand settles the result the other cannot change it, and the value fits.
+pub record Lawful (f : Function) (n : ℕ) : Type 0 where
+  pub absorbed : Absorbs f n
+  pub fitted : (x y : ℕ) → fits (rankWidth (functionRank f) n) (valueOf f n x y) ≡ true
+
+module _ (f : Function) (n : ℕ) (fitted : (x y : ℕ) → fits (rankWidth (functionRank f) n) (valueOf f n x y) ≡ true) where
+  absorbing : ((x y y′ : ℕ) → first (operation f) n x ≡ true → valueOf f n x y ≡ valueOf f n x y′) → ((x x′ y : ℕ) → second (operation f) n y ≡ true → valueOf f n x y ≡ valueOf f n x′ y) → Lawful f n
+  absorbing a b = record { absorbed = record { by-first = a; by-second = b }; fitted = fitted }
+
+  -- a function that no value settles
+  unsettled : ((x : ℕ) → first (operation f) n x ≡ false) → ((y : ℕ) → second (operation f) n y ≡ false) → Lawful f n
+  unsettled a b = absorbing (λ x y y′ p. never (sym (a x) ∙ p)) (λ x x′ y p. never (sym (b y) ∙ p))
+
+pub lawful : (f : Function) (n : ℕ) → Lawful f n
+lawful Not n = unsettled Not n (λ x y. fits-bit (not (holds x))) (λ x. refl) (λ y. refl)
+lawful And n =
+    absorbing And n (λ x y. fits-bit (holds x && holds y))
+    (λ x y y′ p. ap bit (and-first (holds x) (holds y) (holds y′) p))
+    (λ x x′ y p. ap bit (and-second (holds x) (holds x′) (holds y) p))
+lawful Or n =
+    absorbing Or n (λ x y. fits-bit (holds x || holds y))
+    (λ x y y′ p. ap bit (or-first (holds x) (holds y) (holds y′) p))
+    (λ x x′ y p. ap bit (or-second (holds x) (holds x′) (holds y) p))
+lawful Implies n =
+    absorbing Implies n (λ x y. fits-bit (not (holds x) || holds y))
+    (λ x y y′ p. ap bit (or-first (not (holds x)) (holds y) (holds y′) p))
+    (λ x x′ y p. ap bit (or-second (not (holds x)) (not (holds x′)) (holds y) p))
+lawful Equal n = unsettled Equal n (λ x y. fits-bit (eqb x y)) (λ x. refl) (λ y. refl)
+lawful BvNot n = unsettled BvNot n (λ x y. fits-below n _ (ones-sub-lt n (x % 2 ^ n))) (λ x. refl) (λ y. refl)
+lawful BvAnd n =
+    absorbing BvAnd n (λ x y. fits-mod n _)
+    (one-first (λ u w. bitAnd u w % 2 ^ n) 0 (λ w. nothing n (and-zero-l w)))
+    (one-second (λ u w. bitAnd u w % 2 ^ n) 0 (λ u. nothing n (and-zero-r u)))
+lawful BvOr n =
+    absorbing BvOr n (λ x y. fits-mod n _)
+    (one-first (λ u w. bitOr u w % 2 ^ n) (ones n) (or-ones n))
+    (one-second (λ u w. bitOr u w % 2 ^ n) (ones n) (ones-or n))
+lawful BvAdd n = unsettled BvAdd n (λ x y. fits-mod n _) (λ x. refl) (λ y. refl)
+lawful BvMul n =
+    absorbing BvMul n (λ x y. fits-mod n _)
+    (one-first (λ u w. (u * w) % 2 ^ n) 0 (λ w. nothing n (zero-mul w)))
+    (one-second (λ u w. (u * w) % 2 ^ n) 0 (λ u. nothing n (mul-zero u)))
+lawful BvShl n = absorbing BvShl n (λ x y. fits-mod n _) (λ x y y′ p. never p) (out n)
+lawful BvUlt n = unsettled BvUlt n (λ x y. fits-bit (ltb x y)) (λ x. refl) (λ y. refl)
 
 pub absorption : Absorption
-unfolding apply
-absorption Constant n = unsettled Constant n (λ x. refl) (λ y. refl)
-absorption Variable n = unsettled Variable n (λ x. refl) (λ y. refl)
-absorption Not n = unsettled Not n (λ x. refl) (λ y. refl)
-absorption And n =
-    record {
-      by-first = λ x y y′ z p. ap bit (and-first (holds x) (holds y) (holds y′) p);
-      by-second = λ x x′ y z p. ap bit (and-second (holds x) (holds x′) (holds y) p);
-    }
-absorption Or n =
-    record {
-      by-first = λ x y y′ z p. ap bit (or-first (holds x) (holds y) (holds y′) p);
-      by-second = λ x x′ y z p. ap bit (or-second (holds x) (holds x′) (holds y) p);
-    }
-absorption Implies n =
-    record {
-      by-first = λ x y y′ z p. ap bit (or-first (not (holds x)) (holds y) (holds y′) p);
-      by-second = λ x x′ y z p. ap bit (or-second (not (holds x)) (not (holds x′)) (holds y) p);
-    }
-absorption Equal n = unsettled Equal n (λ x. refl) (λ y. refl)
-absorption Ite n = unsettled Ite n (λ x. refl) (λ y. refl)
-absorption BvNot n = unsettled BvNot n (λ x. refl) (λ y. refl)
-absorption BvAnd n =
-    record {
-      by-first = λ x y y′ z. one-first (λ u w. bitAnd u w % 2 ^ n) 0 (λ w. nothing n (and-zero-l w)) x y y′;
-      by-second = λ x x′ y z. one-second (λ u w. bitAnd u w % 2 ^ n) 0 (λ u. nothing n (and-zero-r u)) x x′ y;
-    }
-absorption BvOr n =
-    record {
-      by-first = λ x y y′ z. one-first (λ u w. bitOr u w % 2 ^ n) (ones n) (or-ones n) x y y′;
-      by-second = λ x x′ y z. one-second (λ u w. bitOr u w % 2 ^ n) (ones n) (ones-or n) x x′ y;
-    }
-absorption BvAdd n = unsettled BvAdd n (λ x. refl) (λ y. refl)
-absorption BvMul n =
-    record {
-      by-first = λ x y y′ z. one-first (λ u w. (u * w) % 2 ^ n) 0 (λ w. nothing n (zero-mul w)) x y y′;
-      by-second = λ x x′ y z. one-second (λ u w. (u * w) % 2 ^ n) 0 (λ u. nothing n (mul-zero u)) x x′ y;
-    }
-absorption BvShl n = record { by-first = λ x y y′ z p. never p; by-second = λ x x′ y z p. out n x x′ y p }
-absorption BvUlt n = unsettled BvUlt n (λ x. refl) (λ y. refl)
-absorption Select n = unsettled Select n (λ x. refl) (λ y. refl)
-absorption Store n = unsettled Store n (λ x. refl) (λ y. refl)
-absorption Unknown n = unsettled Unknown n (λ x. refl) (λ y. refl)
+absorption f n = lawful f n .absorbed

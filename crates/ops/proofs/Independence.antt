@@ -6,15 +6,15 @@ use mathlib.Core.Logic.{⊎-elim}
 use Prim.Native.Nat.{ℕ}
 use lib.Dec.{eqb}
 use borrow.Author.Tests.{eqb-true}
-use Rattle.ops.specs.declared.Op.{Op}
-use Rattle.ops.specs.Meaning.{Operation, holds, operation, valueOf, apply}
-use Rattle.ops.specs.Meaning.Operation.{leaf, unary, strict, absorbing, shift, choice}
-use Rattle.ops.specs.Condition.{absorbed, shifted, chosen, conditionOf, settles}
+use Rattle.ops.specs.declared.Op.the-variants.{Constant, Variable, Apply, Ite, Select, Store, Unknown}
+use Rattle.ops.specs.Meaning.{Operation, holds, operation, valueBy, valueOf, apply}
+use Rattle.ops.specs.Meaning.Operation.{unary, strict, absorbing, shift}
+use Rattle.ops.specs.Condition.{absorbed, shifted, chosen, conditionBy, conditionOf, settles}
 use Rattle.ops.specs.Laws.{first, second, Agree, Independence, ChoiceIndependence}
 use Rattle.ops.proofs.Booleans.{and-parts, or-parts, and-same, or-same}
 use Rattle.ops.proofs.Absorption.{absorption}
 
-module _ {x x′ y y′ z z′ : ℕ} {c c′ d d′ e e′ : Bool} (p : Agree c c′ x x′) (q : Agree d d′ y y′) (r : Agree e e′ z z′) where
+module _ {x x′ y y′ : ℕ} {c c′ d d′ : Bool} (p : Agree c c′ x x′) (q : Agree d d′ y y′) where
   both-condition : (c && d) ≡ (c′ && d′)
   both-condition = and-same (p .condition) (λ h. q .condition)
 
@@ -79,19 +79,22 @@ choice-independence test test′ y y′ z z′ c c′ d d′ e e′ free same q 
         either test test′ (q .value (free-both .0)) (r .value (free-both .1)) (eqb-true y z (parts .1))
 
 -- one operation, with what its tests promise
-operation-agree : (o : Operation) (n : ℕ) {x x′ y y′ z z′ : ℕ} {c c′ d d′ e e′ : Bool} → Agree c c′ x x′ → Agree d d′ y y′ → Agree e e′ z z′
-    → (first o n x ≡ true → valueOf o n x y z ≡ valueOf o n x y′ z) → (second o n y ≡ true → valueOf o n x y z ≡ valueOf o n x′ y z)
-    → Agree (conditionOf o n x y z c d e) (conditionOf o n x′ y′ z′ c′ d′ e′) (valueOf o n x y z) (valueOf o n x′ y′ z′)
-operation-agree leaf n p q r by-first by-second = record { condition = refl; value = λ h. refl }
-operation-agree (unary f) n p q r by-first by-second = record { condition = p .condition; value = λ h. ap (f n) (p .value h) }
-operation-agree (strict f) n p q r by-first by-second = record { condition = both-condition p q r; value = both-value p q r (f n) }
-operation-agree (absorbing f a b) n p q r by-first by-second = absorbed-agree p q r (f n) (a n) (b n) by-first by-second
-operation-agree (shift f b) n p q r by-first by-second = shifted-agree p q r (f n) (b n) (b n) by-second
-operation-agree choice n {x} {x′} {y} {y′} {z} {z′} {c} {c′} {d} {d′} {e} {e′} p q r by-first by-second =
-    choice-independence (holds x) (holds x′) y y′ z z′ c c′ d d′ e e′ (p .condition) (λ h. ap holds (p .value h)) q r
+operation-agree : (o : Operation) (n : ℕ) {x x′ y y′ : ℕ} {c c′ d d′ : Bool} → Agree c c′ x x′ → Agree d d′ y y′
+    → (first o n x ≡ true → valueBy o n x y ≡ valueBy o n x y′) → (second o n y ≡ true → valueBy o n x y ≡ valueBy o n x′ y)
+    → Agree (conditionBy o n x y c d) (conditionBy o n x′ y′ c′ d′) (valueBy o n x y) (valueBy o n x′ y′)
+operation-agree (unary f) n p q by-first by-second = record { condition = p .condition; value = λ h. ap (f n) (p .value h) }
+operation-agree (strict f) n p q by-first by-second = record { condition = both-condition p q; value = both-value p q (f n) }
+operation-agree (absorbing f a b) n p q by-first by-second = absorbed-agree p q (f n) (a n) (b n) by-first by-second
+operation-agree (shift f b) n p q by-first by-second = shifted-agree p q (f n) (b n) (b n) by-second
 
 pub independence : Independence
 unfolding apply settles
-independence op n x x′ y y′ z z′ c c′ d d′ e e′ p q r =
-    let a = absorption op n in
-    operation-agree (operation op) n p q r (a .by-first x y y′ z) (a .by-second x x′ y z)
+independence Constant n x x′ y y′ z z′ c c′ d d′ e e′ p q r = record { condition = refl; value = λ h. refl }
+independence Variable n x x′ y y′ z z′ c c′ d d′ e e′ p q r = record { condition = refl; value = λ h. refl }
+independence (Apply f) n x x′ y y′ z z′ c c′ d d′ e e′ p q r =
+    let a = absorption f n in
+    operation-agree (operation f) n p q (a .by-first x y y′) (a .by-second x x′ y)
+independence Ite n x x′ y y′ z z′ c c′ d d′ e e′ p q r = choice-independence (holds x) (holds x′) y y′ z z′ c c′ d d′ e e′ (p .condition) (λ h. ap holds (p .value h)) q r
+independence Select n x x′ y y′ z z′ c c′ d d′ e e′ p q r = record { condition = refl; value = λ h. refl }
+independence Store n x x′ y y′ z z′ c c′ d d′ e e′ p q r = record { condition = refl; value = λ h. refl }
+independence Unknown n x x′ y y′ z z′ c c′ d d′ e e′ p q r = record { condition = refl; value = λ h. refl }

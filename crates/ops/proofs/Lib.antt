@@ -1,6 +1,7 @@
 pub mod Lists
+pub mod Past
 pub mod Booleans
 pub mod Widths
-pub mod Fitting
 pub mod Absorption
+pub mod Fitting
 pub mod Independence

@@ -1,13 +1,16 @@
 -- Numbers modulo a power of two, at every width n.
 -- Assumes nothing.
 use mathlib.Core.Path.{_≡_, refl, sym, ap, _∙_, subst⁻¹}
-use Prim.Native.Nat.{ℕ, _+_, _*_, _-_, _/_, _%_, _^_, _≤_, _<_}
+use mathlib.Core.Bool.{Bool, true, false}
+use Prim.Native.Nat.{ℕ, zero, suc, _+_, _*_, _-_, _/_, _%_, _^_, _≤_, _<_}
 use native.Mathlib.Nat.{one-mul, mod-eq-of-lt, mod-lt, lt-of-lt-of-le, lt-of-le-of-lt, le-of-lt, mul-le-mul-left, mul-lt-mul-of-pos-right, mul-assoc, mul-mod-left, sub-add-cancel, div-eq-of-lt, le-div-iff-mul-le}
 use native.Mathlib.Decide.{decLt}
 use native.Mathlib.Omega.{arith}
-use lib.Dec.{eqb, ltb, lit<}
-use lib.Pow.{pow-pos, pow-mono, pow-add, shl-exact, mod-mod-pow, le-ones}
-use borrow.Author.Tests.{eq-eqb, ne-eqb, lt-ltb, le-ltb}
+use lib.Dec.{eqb, ltb, lit<, eqb·suc-zero}
+use lib.Pow.{pow-pos, pow-mono, pow-lt, pow-add, shl-exact, mod-mod-pow, le-ones}
+use borrow.Author.Tests.{eq-eqb, ne-eqb, lt-ltb, le-ltb, le-leb}
+use Rattle.ops.specs.Meaning.{bit}
+use Rattle.ops.specs.Fits.{fits}
 
 -- one shifted to the left within the word
 pub one-shifted : (n : ℕ) → n < 32 → (1 * 2 ^ n) % 2 ^ 32 ≡ 2 ^ n
@@ -31,6 +34,10 @@ mod-below n v = mod-lt v (pow-pos n)
 pub mod-ones : (n v : ℕ) → v % 2 ^ n ≤ 2 ^ n - 1
 mod-ones n v = le-ones n (mod-below n v)
 
+-- no number of 32 bits is a vector of more ones
+pub no-ones : (n x : ℕ) → 32 < n → x < 2 ^ 32 → eqb x (2 ^ n - 1) ≡ false
+no-ones n x h b = ne-eqb x (2 ^ n - 1) (λ e. absurd (omega (arith, e, b, pow-lt h)))
+
 -- the whole product of two numbers
 pub product-below : (k : ℕ) {a b : ℕ} → a < 2 ^ k → b < 2 ^ k → a * b < 2 ^ (k + k)
 product-below k {a} {b} ha hb =
@@ -53,3 +60,15 @@ shr-test v k = go (decLt v (2 ^ k))
         let above : 2 ^ k ≤ v = omega arith in
         let one-below : 1 ≤ v / 2 ^ k = le-div-iff-mul-le (pow-pos k) .1 (omega (arith, above)) in
         ne-eqb (v / 2 ^ k) 0 (omega arith) ∙ sym (le-ltb _ _ above)
+
+-- a number below 2^n fits width n, for a Boolean too
+pub fits-below : (n v : ℕ) → v < 2 ^ n → fits n v ≡ true
+fits-below zero v h = le-leb v 1 (omega arith)
+fits-below (suc n) v h = rw (eqb·suc-zero n) (lt-ltb v (2 ^ suc n) h)
+
+pub fits-mod : (n v : ℕ) → fits n (v % 2 ^ n) ≡ true
+fits-mod n v = fits-below n (v % 2 ^ n) (mod-below n v)
+
+pub fits-bit : (b : Bool) → fits 0 (bit b) ≡ true
+fits-bit true = refl
+fits-bit false = refl

@@ -5,8 +5,10 @@ use mathlib.Core.Bool.{Bool, true, false, not, _&&_, _||_, cond}
 use Prim.Native.Nat.{ℕ}
 use lib.Dec.{eqb}
 use Rattle.ops.specs.declared.Op.{Op}
+use Rattle.ops.specs.declared.Op.the-variants.{Constant, Variable, Apply, Ite, Select, Store, Unknown}
+use Rattle.ops.specs.declared.Function.{Function}
 use Rattle.ops.specs.Meaning.{Operation, holds, operation}
-use Rattle.ops.specs.Meaning.Operation.{leaf, unary, strict, absorbing, shift, choice}
+use Rattle.ops.specs.Meaning.Operation.{unary, strict, absorbing, shift}
 
 -- and, or, implies, vector and, product, vector or: an operand that is free and settles, or both free
 abbrev pub absorbed : Bool → Bool → Bool → Bool → Bool
@@ -20,14 +22,22 @@ shifted c d b = (d && b) || (c && d)
 abbrev pub chosen : Bool → Bool → Bool → Bool → Bool → Bool
 chosen c test d e same = (c && cond test d e) || ((d && e) && same)
 
-abbrev pub conditionOf : Operation → ℕ → ℕ → ℕ → ℕ → Bool → Bool → Bool → Bool
-conditionOf leaf n x y z c d e = false
-conditionOf (unary f) n x y z c d e = c
-conditionOf (strict f) n x y z c d e = c && d
-conditionOf (absorbing f a b) n x y z c d e = absorbed c (a n x) d (b n y)
-conditionOf (shift f b) n x y z c d e = shifted c d (b n y)
-conditionOf choice n x y z c d e = chosen c (holds x) d e (eqb y z)
+abbrev pub conditionBy : Operation → ℕ → ℕ → ℕ → Bool → Bool → Bool
+conditionBy (unary f) n x y c d = c
+conditionBy (strict f) n x y c d = c && d
+conditionBy (absorbing f a b) n x y c d = absorbed c (a n x) d (b n y)
+conditionBy (shift f b) n x y c d = shifted c d (b n y)
 
--- the condition of an operator, from the first operand's width and the operands' values and conditions
+-- the condition of a function, from the first operand's width and the operands' values and conditions
+abbrev pub conditionOf : Function → ℕ → ℕ → ℕ → Bool → Bool → Bool
+conditionOf f n x y c d = conditionBy (operation f) n x y c d
+
+-- the condition of an operator
 unfoldable pub settles : Op → ℕ → ℕ → ℕ → ℕ → Bool → Bool → Bool → Bool
-settles op n x y z c d e = conditionOf (operation op) n x y z c d e
+settles Constant n x y z c d e = false
+settles Variable n x y z c d e = false
+settles (Apply f) n x y z c d e = conditionOf f n x y c d
+settles Ite n x y z c d e = chosen c (holds x) d e (eqb y z)
+settles Select n x y z c d e = false
+settles Store n x y z c d e = false
+settles Unknown n x y z c d e = false

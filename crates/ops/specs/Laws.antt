@@ -7,80 +7,70 @@ use Prim.Native.Nat.{ℕ, _-_, _^_, _<_}
 use lib.Bits.{bitAnd, bitOr}
 use lib.Dec.{eqb}
 use Rattle.ops.specs.declared.Op.{Op}
-use Rattle.ops.specs.declared.Op.the-variants.{Constant, Variable, Not, And, Or, Implies, Equal, Ite, BvNot, BvAnd, BvOr, BvAdd, BvMul, BvShl, BvUlt, Select, Store, Unknown}
-use Rattle.ops.specs.Meaning.{Operation, ones, operation, apply}
-use Rattle.ops.specs.Meaning.Operation.{leaf, unary, strict, absorbing, shift, choice}
+use Rattle.ops.specs.declared.Op.the-variants.{Constant, Variable, Apply, Ite, Select, Store, Unknown}
+use Rattle.ops.specs.declared.Function.{Function}
+use Rattle.ops.specs.declared.Function.the-variants.{BvNot, BvAnd, BvOr}
+use Rattle.ops.specs.Meaning.{Operation, ones, operation, valueOf, apply}
+use Rattle.ops.specs.Meaning.Operation.{unary, strict, absorbing, shift}
+use Rattle.ops.specs.Ranks.{functionRank, rankWidth}
 use Rattle.ops.specs.Condition.{chosen, settles}
 use Rattle.ops.specs.Fits.{fits}
 
--- The width of an operator's value (0: a Boolean), from the width n of its first operand and m of its second.
+-- The width of an operator's value (0: a Boolean), from the widths n and m of its first and second operand.
 abbrev pub resultWidth : Op → ℕ → ℕ → ℕ
 resultWidth Constant n m = n
 resultWidth Variable n m = n
-resultWidth Not n m = 0
-resultWidth And n m = 0
-resultWidth Or n m = 0
-resultWidth Implies n m = 0
-resultWidth Equal n m = 0
+resultWidth (Apply f) n m = rankWidth (functionRank f) n
 resultWidth Ite n m = m
-resultWidth BvNot n m = n
-resultWidth BvAnd n m = n
-resultWidth BvOr n m = n
-resultWidth BvAdd n m = n
-resultWidth BvMul n m = n
-resultWidth BvShl n m = n
-resultWidth BvUlt n m = 0
 resultWidth Select n m = n
 resultWidth Store n m = n
 resultWidth Unknown n m = n
 
-abbrev pub chooses : Operation → Bool
-chooses leaf = false
-chooses (unary f) = false
-chooses (strict f) = false
-chooses (absorbing f a b) = false
-chooses (shift f b) = false
-chooses choice = true
+-- a choice
+abbrev pub chooses : Op → Bool
+chooses Constant = false
+chooses Variable = false
+chooses (Apply f) = false
+chooses Ite = true
+chooses Select = false
+chooses Store = false
+chooses Unknown = false
 
 -- Values fit their sort. Only a choice asks something of its operands: that the branches fit their width m.
 abbrev pub Fitting : Type 0
 Fitting =
-    (op : Op) (n m x y z : ℕ) → (chooses (operation op) ≡ true → (fits m y ≡ true) × (fits m z ≡ true))
+    (op : Op) (n m x y z : ℕ) → (chooses op ≡ true → (fits m y ≡ true) × (fits m z ≡ true))
     → fits (resultWidth op n m) (apply op n x y z) ≡ true
 
 -- On vectors of width n the reduction of not, and, or changes nothing: they are SMT-LIB's, bit by bit.
 pub record BitByBit (n x y : ℕ) : Type 0 where
-  pub bvnot : apply BvNot n x y 0 ≡ ones n - x
-  pub bvand : apply BvAnd n x y 0 ≡ bitAnd x y
-  pub bvor : apply BvOr n x y 0 ≡ bitOr x y
+  pub bvnot : valueOf BvNot n x y ≡ ones n - x
+  pub bvand : valueOf BvAnd n x y ≡ bitAnd x y
+  pub bvor : valueOf BvOr n x y ≡ bitOr x y
 
 abbrev pub Bitwise : Type 0
 Bitwise = (n x y : ℕ) → x < 2 ^ n → y < 2 ^ n → BitByBit n x y
 
 -- the tests of an operator: which values of the first and of the second operand settle the result
 abbrev pub first : Operation → ℕ → ℕ → Bool
-first leaf n x = false
 first (unary f) n x = false
 first (strict f) n x = false
 first (absorbing f a b) n x = a n x
 first (shift f b) n x = false
-first choice n x = false
 
 abbrev pub second : Operation → ℕ → ℕ → Bool
-second leaf n y = false
 second (unary f) n y = false
 second (strict f) n y = false
 second (absorbing f a b) n y = b n y
 second (shift f b) n y = b n y
-second choice n y = false
 
 -- Where one operand settles the result, the other cannot change it (source 004: R-absorption).
-pub record Absorbs (op : Op) (n : ℕ) : Type 0 where
-  pub by-first : (x y y′ z : ℕ) → first (operation op) n x ≡ true → apply op n x y z ≡ apply op n x y′ z
-  pub by-second : (x x′ y z : ℕ) → second (operation op) n y ≡ true → apply op n x y z ≡ apply op n x′ y z
+pub record Absorbs (f : Function) (n : ℕ) : Type 0 where
+  pub by-first : (x y y′ : ℕ) → first (operation f) n x ≡ true → valueOf f n x y ≡ valueOf f n x y′
+  pub by-second : (x x′ y : ℕ) → second (operation f) n y ≡ true → valueOf f n x y ≡ valueOf f n x′ y
 
 abbrev pub Absorption : Type 0
-Absorption = (op : Op) (n : ℕ) → Absorbs op n
+Absorption = (f : Function) (n : ℕ) → Absorbs f n
 
 -- Two runs agree on a term: one condition, and where it is true one value.
 pub record Agree (c c′ : Bool) (x x′ : ℕ) : Type 0 where

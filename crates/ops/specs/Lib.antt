@@ -1,5 +1,6 @@
 pub mod Numbers
 pub mod Meaning
+pub mod Ranks
 pub mod Condition
 pub mod Fits
 pub mod Laws

@@ -7,7 +7,9 @@ use Prim.Native.Nat.{ℕ, _+_, _-_, _*_, _%_, _^_}
 use lib.Bits.{bitAnd, bitOr}
 use lib.Dec.{eqb, ltb, leb}
 use Rattle.ops.specs.declared.Op.{Op}
-use Rattle.ops.specs.declared.Op.the-variants.{Constant, Variable, Not, And, Or, Implies, Equal, Ite, BvNot, BvAnd, BvOr, BvAdd, BvMul, BvShl, BvUlt, Select, Store, Unknown}
+use Rattle.ops.specs.declared.Op.the-variants.{Constant, Variable, Apply, Ite, Select, Store, Unknown}
+use Rattle.ops.specs.declared.Function.{Function}
+use Rattle.ops.specs.declared.Function.the-variants.{Not, And, Or, Implies, Equal, BvNot, BvAnd, BvOr, BvAdd, BvMul, BvShl, BvUlt}
 
 abbrev pub bit : Bool → ℕ
 bit true = 1
@@ -23,8 +25,6 @@ ones n = 2 ^ n - 1
 -- What an operator does with the first operand's width n and the operands' values x, y (and z). A test of n and an
 -- operand's value says where that value settles the result.
 pub data Operation : Type 0 where
-  -- none on numbers: constants, variables, reads and stores
-  leaf : Operation
   unary : (value : ℕ → ℕ → ℕ) → Operation
   -- no value of one operand settles it
   strict : (value : ℕ → ℕ → ℕ → ℕ) → Operation
@@ -32,18 +32,13 @@ pub data Operation : Type 0 where
   absorbing : (value : ℕ → ℕ → ℕ → ℕ) (first second : ℕ → ℕ → Bool) → Operation
   -- a value of the second operand may settle it
   shift : (value : ℕ → ℕ → ℕ → ℕ) (second : ℕ → ℕ → Bool) → Operation
-  -- the first operand picks one of the other two
-  choice : Operation
 
-abbrev pub operation : Op → Operation
-operation Constant = leaf
-operation Variable = leaf
+abbrev pub operation : Function → Operation
 operation Not = unary (λ n x. bit (not (holds x)))
 operation And = absorbing (λ n x y. bit (holds x && holds y)) (λ n x. not (holds x)) (λ n y. not (holds y))
 operation Or = absorbing (λ n x y. bit (holds x || holds y)) (λ n x. holds x) (λ n y. holds y)
 operation Implies = absorbing (λ n x y. bit (not (holds x) || holds y)) (λ n x. not (holds x)) (λ n y. holds y)
 operation Equal = strict (λ n x y. bit (eqb x y))
-operation Ite = choice
 operation BvNot = unary (λ n x. ones n - x % 2 ^ n)
 operation BvAnd = absorbing (λ n x y. bitAnd x y % 2 ^ n) (λ n x. eqb x 0) (λ n y. eqb y 0)
 operation BvOr = absorbing (λ n x y. bitOr x y % 2 ^ n) (λ n x. eqb x (ones n)) (λ n y. eqb y (ones n))
@@ -51,18 +46,23 @@ operation BvAdd = strict (λ n x y. (x + y) % 2 ^ n)
 operation BvMul = absorbing (λ n x y. (x * y) % 2 ^ n) (λ n x. eqb x 0) (λ n y. eqb y 0)
 operation BvShl = shift (λ n x y. (x * 2 ^ y) % 2 ^ n) (λ n y. leb n y)
 operation BvUlt = strict (λ n x y. bit (ltb x y))
-operation Select = leaf
-operation Store = leaf
-operation Unknown = leaf
 
-abbrev pub valueOf : Operation → ℕ → ℕ → ℕ → ℕ → ℕ
-valueOf leaf n x y z = 0
-valueOf (unary f) n x y z = f n x
-valueOf (strict f) n x y z = f n x y
-valueOf (absorbing f a b) n x y z = f n x y
-valueOf (shift f b) n x y z = f n x y
-valueOf choice n x y z = cond (holds x) y z
+abbrev pub valueBy : Operation → ℕ → ℕ → ℕ → ℕ
+valueBy (unary f) n x y = f n x
+valueBy (strict f) n x y = f n x y
+valueBy (absorbing f a b) n x y = f n x y
+valueBy (shift f b) n x y = f n x y
 
--- the value of an operator, from the first operand's width and the operands' values
+-- the value of a function, from the first operand's width and the operands' values
+abbrev pub valueOf : Function → ℕ → ℕ → ℕ → ℕ
+valueOf f n x y = valueBy (operation f) n x y
+
+-- the value of an operator
 unfoldable pub apply : Op → ℕ → ℕ → ℕ → ℕ → ℕ
-apply op n x y z = valueOf (operation op) n x y z
+apply Constant n x y z = 0
+apply Variable n x y z = 0
+apply (Apply f) n x y z = valueOf f n x y
+apply Ite n x y z = cond (holds x) y z
+apply Select n x y z = 0
+apply Store n x y z = 0
+apply Unknown n x y z = 0

@@ -4,11 +4,12 @@ use mathlib.Core.List.{List, [], _∷_}
 use Prim.Native.Nat.{ℕ}
 use lib.ListN.{getD}
 use Rattle.ops.specs.declared.Op.{Op}
-use Rattle.ops.specs.declared.Op.the-variants.{Constant, Variable, Not, And, Or, Implies, Equal, Ite, BvNot, BvAnd, BvOr, BvAdd, BvMul, BvShl, BvUlt, Select, Store, Unknown}
+use Rattle.ops.specs.declared.Op.the-variants.{Constant, Variable, Apply, Ite, Select, Store, Unknown}
+use Rattle.ops.specs.declared.Function.the-variants.{Not, And, Or, Implies, Equal, BvNot, BvAnd, BvOr, BvAdd, BvMul, BvShl, BvUlt}
 
 -- the operators in the order of their numbers, from 0
 abbrev pub ops : List Op
-ops = Constant ∷ Variable ∷ Not ∷ And ∷ Or ∷ Implies ∷ Equal ∷ Ite ∷ BvNot ∷ BvAnd ∷ BvOr ∷ BvAdd ∷ BvMul ∷ BvShl ∷ BvUlt ∷ Select ∷ Store ∷ []
+ops = Constant ∷ Variable ∷ Apply Not ∷ Apply And ∷ Apply Or ∷ Apply Implies ∷ Apply Equal ∷ Ite ∷ Apply BvNot ∷ Apply BvAnd ∷ Apply BvOr ∷ Apply BvAdd ∷ Apply BvMul ∷ Apply BvShl ∷ Apply BvUlt ∷ Select ∷ Store ∷ []
 
 -- the operator of a number; past the list there is none
 abbrev pub opOf : ℕ → Op

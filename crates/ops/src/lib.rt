@@ -2,21 +2,19 @@
 ghost use mathlib.Core.Path.{_≡_};
 ghost use mathlib.Core.Bool.{true, false, not, cond, _&&_, _||_};
 ghost use Prim.Native.Nat.{_+_, _-_, _*_, _%_, _^_, _≤_};
+ghost use lib.Dec.{eqb};
 ghost use Rattle.ops.specs.Numbers.{opOf};
-ghost use Rattle.ops.specs.Meaning.{bit, holds, apply};
-ghost use Rattle.ops.specs.Condition.{absorbed, shifted, chosen, settles};
+ghost use Rattle.ops.specs.Meaning.{bit, holds, valueOf, apply};
+ghost use Rattle.ops.specs.Condition.{absorbed, shifted, chosen, conditionOf, settles};
 ghost use Rattle.ops.specs.Fits.{fits};
 
-// The operators by SMT-LIB's names (Core, FixedSizeBitVectors, ArraysEx), and one for every number that has none.
-pub enum Op {
-    Constant,
-    Variable,
+// The functions on numbers, by SMT-LIB's names (Core, FixedSizeBitVectors).
+pub enum Function {
     Not,
     And,
     Or,
     Implies,
     Equal,
-    Ite,
     BvNot,
     BvAnd,
     BvOr,
@@ -24,6 +22,14 @@ pub enum Op {
     BvMul,
     BvShl,
     BvUlt,
+}
+
+// What a term is: a function of its operands, one of the others, or a number that has no operator.
+pub enum Op {
+    Constant,
+    Variable,
+    Apply(Function),
+    Ite,
     Select,
     Store,
     Unknown,
@@ -36,19 +42,19 @@ pub fn op_of(number: u32) -> Op
     match number {
         0 => Op::Constant,
         1 => Op::Variable,
-        2 => Op::Not,
-        3 => Op::And,
-        4 => Op::Or,
-        5 => Op::Implies,
-        6 => Op::Equal,
+        2 => Op::Apply(Function::Not),
+        3 => Op::Apply(Function::And),
+        4 => Op::Apply(Function::Or),
+        5 => Op::Apply(Function::Implies),
+        6 => Op::Apply(Function::Equal),
         7 => Op::Ite,
-        8 => Op::BvNot,
-        9 => Op::BvAnd,
-        10 => Op::BvOr,
-        11 => Op::BvAdd,
-        12 => Op::BvMul,
-        13 => Op::BvShl,
-        14 => Op::BvUlt,
+        8 => Op::Apply(Function::BvNot),
+        9 => Op::Apply(Function::BvAnd),
+        10 => Op::Apply(Function::BvOr),
+        11 => Op::Apply(Function::BvAdd),
+        12 => Op::Apply(Function::BvMul),
+        13 => Op::Apply(Function::BvShl),
+        14 => Op::Apply(Function::BvUlt),
         15 => Op::Select,
         16 => Op::Store,
         _ => Op::Unknown,
@@ -74,6 +80,13 @@ pub fn ones(n: u32) -> u32
     ensures { λ r. ⌜ r ≡ 2 ^ n - 1 ⌝ }
 {
     if n < 32 { (1u32 << n) - 1 } else { 4294967295 }
+}
+
+// Whether x is the vector of n ones; over 32 it is none.
+fn all_ones(n: u32, x: u32) -> bool
+    ensures { λ r. ⌜ r ≡ eqb x (2 ^ n - 1) ⌝ }
+{
+    if n <= 32 { x == ones(n) } else { false }
 }
 
 fn bvnot(n: u32, x: u32) -> u32
@@ -112,30 +125,24 @@ pub fn ite(test: bool, y: u32, z: u32) -> u32
     if test { y } else { z }
 }
 
-// The value of an operator, from the first operand's width and the operands' values.
-pub fn apply(op: Op, n: u32, x: u32, y: u32, z: u32) -> u32
+// The value of a function, from the first operand's width and the operands' values.
+fn value_of(f: Function, n: u32, x: u32, y: u32) -> u32
     requires { ⌜ n ≤ 32 ⌝ }
-    ensures { λ r. ⌜ r ≡ apply op n x y z ⌝ }
+    ensures { λ r. ⌜ r ≡ valueOf f n x y ⌝ }
 {
-    match op {
-        Op::Constant => 0,
-        Op::Variable => 0,
-        Op::Not => bit(x != 1),
-        Op::And => bit((x == 1) & (y == 1)),
-        Op::Or => bit((x == 1) | (y == 1)),
-        Op::Implies => bit((x != 1) | (y == 1)),
-        Op::Equal => bit(x == y),
-        Op::Ite => ite(x == 1, y, z),
-        Op::BvNot => bvnot(n, x),
-        Op::BvAnd => reduce(n, x & y),
-        Op::BvOr => reduce(n, x | y),
-        Op::BvAdd => bvadd(n, x, y),
-        Op::BvMul => bvmul(n, x, y),
-        Op::BvShl => bvshl(n, x, y),
-        Op::BvUlt => bit(x < y),
-        Op::Select => 0,
-        Op::Store => 0,
-        Op::Unknown => 0,
+    match f {
+        Function::Not => bit(x != 1),
+        Function::And => bit((x == 1) & (y == 1)),
+        Function::Or => bit((x == 1) | (y == 1)),
+        Function::Implies => bit((x != 1) | (y == 1)),
+        Function::Equal => bit(x == y),
+        Function::BvNot => bvnot(n, x),
+        Function::BvAnd => reduce(n, x & y),
+        Function::BvOr => reduce(n, x | y),
+        Function::BvAdd => bvadd(n, x, y),
+        Function::BvMul => bvmul(n, x, y),
+        Function::BvShl => bvshl(n, x, y),
+        Function::BvUlt => bit(x < y),
     }
 }
 
@@ -159,27 +166,51 @@ pub fn chosen(c: bool, test: bool, d: bool, e: bool, same: bool) -> bool
     (c & ((test & d) | (!test & e))) | ((d & e) & same)
 }
 
+// The condition of a function, from the first operand's width and the operands' values and conditions.
+fn condition_of(f: Function, n: u32, x: u32, y: u32, c: bool, d: bool) -> bool
+    ensures { λ r. ⌜ r ≡ conditionOf f n x y c d ⌝ }
+{
+    match f {
+        Function::Not => c,
+        Function::And => absorbed(c, x != 1, d, y != 1),
+        Function::Or => absorbed(c, x == 1, d, y == 1),
+        Function::Implies => absorbed(c, x != 1, d, y == 1),
+        Function::Equal => c & d,
+        Function::BvNot => c,
+        Function::BvAnd => absorbed(c, x == 0, d, y == 0),
+        Function::BvOr => absorbed(c, all_ones(n, x), d, all_ones(n, y)),
+        Function::BvAdd => c & d,
+        Function::BvMul => absorbed(c, x == 0, d, y == 0),
+        Function::BvShl => shifted(c, d, n <= y),
+        Function::BvUlt => c & d,
+    }
+}
+
+// The value of an operator, from the first operand's width and the operands' values.
+pub fn apply(op: Op, n: u32, x: u32, y: u32, z: u32) -> u32
+    requires { ⌜ n ≤ 32 ⌝ }
+    ensures { λ r. ⌜ r ≡ apply op n x y z ⌝ }
+{
+    match op {
+        Op::Constant => 0,
+        Op::Variable => 0,
+        Op::Apply(f) => value_of(f, n, x, y),
+        Op::Ite => ite(x == 1, y, z),
+        Op::Select => 0,
+        Op::Store => 0,
+        Op::Unknown => 0,
+    }
+}
+
 // The condition of an operator, from the first operand's width and the operands' values and conditions.
 pub fn settles(op: Op, n: u32, x: u32, y: u32, z: u32, c: bool, d: bool, e: bool) -> bool
-    requires { ⌜ n ≤ 32 ⌝ }
     ensures { λ r. ⌜ r ≡ settles op n x y z c d e ⌝ }
 {
     match op {
         Op::Constant => false,
         Op::Variable => false,
-        Op::Not => c,
-        Op::And => absorbed(c, x != 1, d, y != 1),
-        Op::Or => absorbed(c, x == 1, d, y == 1),
-        Op::Implies => absorbed(c, x != 1, d, y == 1),
-        Op::Equal => c & d,
+        Op::Apply(f) => condition_of(f, n, x, y, c, d),
         Op::Ite => chosen(c, x == 1, d, e, y == z),
-        Op::BvNot => c,
-        Op::BvAnd => absorbed(c, x == 0, d, y == 0),
-        Op::BvOr => absorbed(c, x == ones(n), d, y == ones(n)),
-        Op::BvAdd => c & d,
-        Op::BvMul => absorbed(c, x == 0, d, y == 0),
-        Op::BvShl => shifted(c, d, n <= y),
-        Op::BvUlt => c & d,
         Op::Select => false,
         Op::Store => false,
         Op::Unknown => false,

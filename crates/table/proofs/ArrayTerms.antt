@@ -12,7 +12,7 @@ use Rattle.ops.specs.declared.Op.the-variants.{Variable, Store}
 use Rattle.ops.specs.Numbers.{opOf}
 use Rattle.table.specs.declared.words.Sort.{Sort}
 use Rattle.table.specs.Terms.{terms, termAt, sortAt, array, vectorOf, sameSort}
-use Rattle.table.specs.Ranks.{rankOf, fieldsOf, slotted, writes}
+use Rattle.table.specs.Ranks.{slotted, writes}
 use Rattle.table.specs.Faults.{variable, storing, chain}
 use Rattle.table.specs.WellFormed.{WellFormed, Under, ArrayTerms}
 use Rattle.table.specs.WellFormed.Under.{base, store}
@@ -47,9 +47,9 @@ module _ (limit : ℕ) (t : List ℕ) (f : WellFormed limit t) where
       by : (op : Op) → opOf (termAt t k .op) ≡ op → (op ≡ Variable) ⊎ (op ≡ Store)
           → (termAt t k .p < terms t → array (sortAt t (termAt t k .p)) ≡ true → chain left t (termAt t k .p) < left → Under t (chain left t (termAt t k .p)) (termAt t k .p))
           → Under t (cond (storing (termAt t k)) (suc (chain left t (termAt t k .p))) 0) k
-      by op e (inl v) later = rw (ap (λ (o : Op). writes (rankOf o)) (e ∙ v)) (base (ap (λ (o : Op). slotted (fieldsOf (rankOf o))) (e ∙ v)))
+      by op e (inl v) later = rw (ap (λ (o : Op). writes o) (e ∙ v)) (base (ap (λ (o : Op). slotted o) (e ∙ v)))
       by op e (inr v) later =
-          let w : storing (termAt t k) ≡ true = ap (λ (o : Op). writes (rankOf o)) (e ∙ v) in
+          let w : storing (termAt t k) ≡ true = ap (λ (o : Op). writes o) (e ∙ v) in
           let below : termAt t k .p < k = beneath k b (e ∙ v) in
           let same = one-sort k b (e ∙ v) in
           let fewer : chain left t (termAt t k .p) < left = let s : cond (storing (termAt t k)) (suc (chain left t (termAt t k .p))) 0 < suc left = short in let u = rw w at s in omega arith in

@@ -11,16 +11,18 @@ use lib.Dec.{eqb, ltb, leb}
 use lib.ListN.{length, getD}
 use borrow.Author.Tests.{eqb-true, ltb-true, leb-true, le-ltb, eq-eqb}
 use Rattle.ops.specs.declared.Op.{Op}
-use Rattle.ops.specs.declared.Op.the-variants.{Constant, Variable, Not, And, Or, Implies, Equal, Ite, BvNot, BvAnd, BvOr, BvAdd, BvMul, BvShl, BvUlt, Select, Store, Unknown}
+use Rattle.ops.specs.declared.Op.the-variants.{Constant, Variable, Apply, Ite, Select, Store, Unknown}
 use Rattle.ops.specs.Numbers.{ops, opOf}
+use Rattle.ops.specs.Ranks.{Arity, FunctionRank, functionRank}
+use Rattle.ops.specs.Ranks.Arity.{one, two}
+use Rattle.ops.specs.Ranks.FunctionRank.{boolUnary, boolBinary, equality, bvUnary, bvBinary, bvCompare}
 use Rattle.ops.proofs.Booleans.{never, and-parts}
 use Rattle.table.specs.declared.words.Sort.{Sort}
 use Rattle.table.specs.declared.words.Term.{Term}
 use Rattle.table.specs.Terms.{termAt, sortAt, boolean, vector, scalar, array, vectorOf, sameSort}
 use Rattle.table.specs.Bench.{every}
-use Rattle.table.specs.declared.ranks.Fields.{Fields}
-use Rattle.table.specs.declared.ranks.Fields.the-variants.{Value, Slot, One, Two, Three}
-use Rattle.table.specs.Ranks.{rankOf, fieldsOf, slotted, immediate}
+use Rattle.table.specs.declared.ranks.Fields.the-variants.{One, Two}
+use Rattle.table.specs.Ranks.{applied, rankOf, fieldsOf, slotted, immediate, writes}
 use Rattle.table.specs.Faults.{known, placedAs, typedAs, typed}
 use Rattle.table.specs.WellFormed.{Sound}
 
@@ -29,19 +31,8 @@ use Rattle.table.specs.WellFormed.{Sound}
 unfoldable pub isKnown : Op → Bool
 isKnown Constant = true
 isKnown Variable = true
-isKnown Not = true
-isKnown And = true
-isKnown Or = true
-isKnown Implies = true
-isKnown Equal = true
+isKnown (Apply f) = true
 isKnown Ite = true
-isKnown BvNot = true
-isKnown BvAnd = true
-isKnown BvOr = true
-isKnown BvAdd = true
-isKnown BvMul = true
-isKnown BvShl = true
-isKnown BvUlt = true
 isKnown Select = true
 isKnown Store = true
 isKnown Unknown = false
@@ -79,6 +70,15 @@ boolean-scalar s h = and-parts (eqb (s .m) 0) (eqb (s .n) 0) h .0
 pub vector-scalar : (s : Sort) → vector s ≡ true → scalar s ≡ true
 vector-scalar s h = and-parts (eqb (s .m) 0) (ltb 0 (s .n)) h .0
 
+pub same-scalar : (a b : Sort) → sameSort a b ≡ true → scalar b ≡ true → scalar a ≡ true
+same-scalar a b h s = ap (λ (m : ℕ). eqb m 0) (same-sort a b h .m) ∙ s
+
+pub scalar-same : (a b : Sort) → sameSort a b ≡ true → scalar a ≡ true → scalar b ≡ true
+scalar-same a b h s = ap (λ (m : ℕ). eqb m 0) (sym (same-sort a b h .m)) ∙ s
+
+pub vector-of-scalar : (n : ℕ) (s : Sort) → vectorOf n s ≡ true → scalar s ≡ true
+vector-of-scalar n s h = and-parts (eqb (s .m) 0) (eqb (s .n) n) h .0
+
 -- three tests in a row
 pub three : (a b c : Bool) → a && b && c ≡ true → (a ≡ true) × (b ≡ true) × (c ≡ true)
 three a b c h =
@@ -92,27 +92,48 @@ four a b c d h =
     let t = three a b c (abc-d .0) in
     (t .0, t .1, t .2, abc-d .1)
 
+-- a function's term is no array, by its rank
+pub rank-scalar : {n : Arity} (r : FunctionRank n) (x a b c : Sort) → typedAs (applied r) x a b c ≡ true → scalar x ≡ true
+rank-scalar boolUnary x a b c h = boolean-scalar x (and-parts (boolean x) (boolean a) h .0)
+rank-scalar boolBinary x a b c h = boolean-scalar x (three (boolean x) (boolean a) (boolean b) h .0)
+rank-scalar equality x a b c h = boolean-scalar x (three (boolean x) (scalar a) (sameSort a b) h .0)
+rank-scalar bvUnary x a b c h = vector-scalar x (and-parts (vector x) (sameSort a x) h .0)
+rank-scalar bvBinary x a b c h = vector-scalar x (three (vector x) (sameSort a x) (sameSort b x) h .0)
+rank-scalar bvCompare x a b c h = boolean-scalar x (three (boolean x) (vector a) (sameSort a b) h .0)
+
+-- nor are its operands
+pub unary-scalar : (r : FunctionRank one) (x a b c : Sort) → typedAs (applied r) x a b c ≡ true → scalar a ≡ true
+unary-scalar boolUnary x a b c h = boolean-scalar a (and-parts (boolean x) (boolean a) h .1)
+unary-scalar bvUnary x a b c h = let s = and-parts (vector x) (sameSort a x) h in same-scalar a x (s .1) (vector-scalar x (s .0))
+
+pub binary-scalars : (r : FunctionRank two) (x a b c : Sort) → typedAs (applied r) x a b c ≡ true → (scalar a ≡ true) × (scalar b ≡ true)
+binary-scalars boolBinary x a b c h = let s = three (boolean x) (boolean a) (boolean b) h in (boolean-scalar a (s .1), boolean-scalar b (s .2))
+binary-scalars equality x a b c h = let s = three (boolean x) (scalar a) (sameSort a b) h in (s .1, scalar-same a b (s .2) (s .1))
+binary-scalars bvBinary x a b c h =
+    let s = three (vector x) (sameSort a x) (sameSort b x) h in
+    (same-scalar a x (s .1) (vector-scalar x (s .0)), same-scalar b x (s .2) (vector-scalar x (s .0)))
+binary-scalars bvCompare x a b c h = let s = three (boolean x) (vector a) (sameSort a b) h in (vector-scalar a (s .1), scalar-same a b (s .2) (vector-scalar a (s .1)))
+
 -- only variables and stores are arrays
 pub array-op : (op : Op) (x a b c : Sort) → isKnown op ≡ true → typedAs (rankOf op) x a b c ≡ true → array x ≡ true → (op ≡ Variable) ⊎ (op ≡ Store)
 unfolding isKnown
 array-op Constant x a b c k h r = absurd (not-array x h r)
 array-op Variable x a b c k h r = inl refl
-array-op Not x a b c k h r = absurd (not-array x (boolean-scalar x (and-parts (boolean x) (boolean a) h .0)) r)
-array-op And x a b c k h r = absurd (not-array x (boolean-scalar x (three (boolean x) (boolean a) (boolean b) h .0)) r)
-array-op Or x a b c k h r = absurd (not-array x (boolean-scalar x (three (boolean x) (boolean a) (boolean b) h .0)) r)
-array-op Implies x a b c k h r = absurd (not-array x (boolean-scalar x (three (boolean x) (boolean a) (boolean b) h .0)) r)
-array-op Equal x a b c k h r = absurd (not-array x (boolean-scalar x (three (boolean x) (scalar a) (sameSort a b) h .0)) r)
+array-op (Apply f) x a b c k h r = absurd (not-array x (rank-scalar (functionRank f) x a b c h) r)
 array-op Ite x a b c k h r = absurd (not-array x (four (scalar x) (boolean a) (sameSort b x) (sameSort c x) h .0) r)
-array-op BvNot x a b c k h r = absurd (not-array x (vector-scalar x (and-parts (vector x) (sameSort a x) h .0)) r)
-array-op BvAnd x a b c k h r = absurd (not-array x (vector-scalar x (three (vector x) (sameSort a x) (sameSort b x) h .0)) r)
-array-op BvOr x a b c k h r = absurd (not-array x (vector-scalar x (three (vector x) (sameSort a x) (sameSort b x) h .0)) r)
-array-op BvAdd x a b c k h r = absurd (not-array x (vector-scalar x (three (vector x) (sameSort a x) (sameSort b x) h .0)) r)
-array-op BvMul x a b c k h r = absurd (not-array x (vector-scalar x (three (vector x) (sameSort a x) (sameSort b x) h .0)) r)
-array-op BvShl x a b c k h r = absurd (not-array x (vector-scalar x (three (vector x) (sameSort a x) (sameSort b x) h .0)) r)
-array-op BvUlt x a b c k h r = absurd (not-array x (boolean-scalar x (three (boolean x) (vector a) (sameSort a b) h .0)) r)
-array-op Select x a b c k h r = absurd (not-array x (and-parts (eqb (x .m) 0) (eqb (x .n) (a .n)) (three (array a) (vectorOf (a .m) b) (vectorOf (a .n) x) h .2) .0) r)
+array-op Select x a b c k h r = absurd (not-array x (vector-of-scalar (a .n) x (three (array a) (vectorOf (a .m) b) (vectorOf (a .n) x) h .2)) r)
 array-op Store x a b c k h r = inr refl
 array-op Unknown x a b c k h r = never k
+
+-- a term of a Boolean or vector sort is no store
+pub no-store : (op : Op) (x a b c : Sort) → typedAs (rankOf op) x a b c ≡ true → scalar x ≡ true → writes op ≡ false
+no-store Constant x a b c h s = refl
+no-store Variable x a b c h s = refl
+no-store (Apply f) x a b c h s = refl
+no-store Ite x a b c h s = refl
+no-store Select x a b c h s = refl
+no-store Store x a b c h s = absurd (not-array x s (four (array x) (sameSort a x) (vectorOf (x .m) b) (vectorOf (x .n) c) h .0))
+no-store Unknown x a b c h s = refl
 
 -- What admission says of term k, by its operator
 
@@ -142,19 +163,37 @@ three-placed i x h =
     let parts = three (ltb (x .p) i) (ltb (x .q) i) (ltb (x .r) i) h in
     (ltb-true (x .p) i (parts .0), ltb-true (x .q) i (parts .1), ltb-true (x .r) i (parts .2))
 
--- of any operator, all fields are below: those that it does not use are 0
-pub operands-placed : (fields : Fields) (i : ℕ) (x : Term) → placedAs fields i x ≡ true → immediate fields ≡ false → slotted fields ≡ false → (x .p < i) × (x .q < i) × (x .r < i)
-operands-placed Value i x h c v = never (sym c)
-operands-placed Slot i x h c v = never (sym v)
-operands-placed One i x h c v =
+-- all fields are below: those that are not used are 0
+pub one-below : (i : ℕ) (x : Term) → placedAs One i x ≡ true → (x .p < i) × (x .q < i) × (x .r < i)
+one-below i x h =
     let parts = three (ltb (x .p) i) (eqb (x .q) 0) (eqb (x .r) 0) h in
     let p : x .p < i = ltb-true (x .p) i (parts .0) in
     let q : x .q ≡ 0 = eqb-true (x .q) 0 (parts .1) in
     let r : x .r ≡ 0 = eqb-true (x .r) 0 (parts .2) in
     (p, omega arith, omega arith)
-operands-placed Two i x h c v =
+
+pub two-below : (i : ℕ) (x : Term) → placedAs Two i x ≡ true → (x .p < i) × (x .q < i) × (x .r < i)
+two-below i x h =
     let parts = three (ltb (x .p) i) (ltb (x .q) i) (eqb (x .r) 0) h in
     let p : x .p < i = ltb-true (x .p) i (parts .0) in
     let r : x .r ≡ 0 = eqb-true (x .r) 0 (parts .2) in
     (p, ltb-true (x .q) i (parts .1), omega arith)
-operands-placed Three i x h c v = three-placed i x h
+
+-- of a function, by its rank
+pub rank-below : {n : Arity} (r : FunctionRank n) (i : ℕ) (x : Term) → placedAs (fieldsOf (applied r)) i x ≡ true → (x .p < i) × (x .q < i) × (x .r < i)
+rank-below boolUnary i x h = one-below i x h
+rank-below boolBinary i x h = two-below i x h
+rank-below equality i x h = two-below i x h
+rank-below bvUnary i x h = one-below i x h
+rank-below bvBinary i x h = two-below i x h
+rank-below bvCompare i x h = two-below i x h
+
+-- of any operator
+pub operands-placed : (op : Op) (i : ℕ) (x : Term) → placedAs (fieldsOf (rankOf op)) i x ≡ true → immediate op ≡ false → slotted op ≡ false → (x .p < i) × (x .q < i) × (x .r < i)
+operands-placed Constant i x h c v = never (sym c)
+operands-placed Variable i x h c v = never (sym v)
+operands-placed (Apply f) i x h c v = rank-below (functionRank f) i x h
+operands-placed Ite i x h c v = three-placed i x h
+operands-placed Select i x h c v = two-below i x h
+operands-placed Store i x h c v = three-placed i x h
+operands-placed Unknown i x h c v = three-placed i x h

@@ -10,10 +10,10 @@ use native.Mathlib.Omega.{arith}
 use lib.ListN.{length, List·getD-eq-default}
 use lib.Dec.{eqb, ltb, leb}
 use borrow.Author.Tests.{eqb-true, ltb-true, leb-true}
+use Rattle.ops.specs.declared.Op.{Op}
+use Rattle.ops.specs.declared.Op.the-variants.{Constant, Variable, Apply, Ite, Select, Store, Unknown}
 use Rattle.ops.specs.Numbers.{opOf}
 use Rattle.ops.proofs.Booleans.{never, and-parts, or-parts}
-use Rattle.table.specs.declared.ranks.Rank.{Rank}
-use Rattle.table.specs.declared.ranks.Rank.the-variants.{Literal, Input, BoolUnary, BoolBinary, Equality, Choice, BvUnary, BvBinary, BvCompare, Read, Write, Other}
 use Rattle.table.specs.declared.words.Sort.{Sort}
 use Rattle.table.specs.declared.words.Term.{Term}
 use Rattle.table.specs.Terms.{terms, wordAt, termAt, sortAt, boolean, array}
@@ -60,22 +60,17 @@ widths s h = ⊎-elim (λ k. ⊎-elim bool vec (or-parts (boolean s) (eqb (s .m)
 pub slot-most : (t : List ℕ) (k : ℕ) → Sound t k → variable (termAt t k) ≡ true → termAt t k .p ≤ 255
 slot-most t k s v =
     let x = termAt t k in
-    leb-true (x .p) 255 (and-parts (leb (x .p) 255) (leb (x .q) 1) (sym (slot-valued (fields x) x v) ∙ s .is-valued) .0)
+    leb-true (x .p) 255 (and-parts (leb (x .p) 255) (leb (x .q) 1) (sym (slot-valued (opOf (x .op)) x v) ∙ s .is-valued) .0)
 
 -- a store's array is an earlier term
-writes-placed : (r : Rank) (i : ℕ) (x : Term) → writes r ≡ true → placedAs (fieldsOf r) i x ≡ true → x .p < i
-writes-placed Literal i x s h = never s
-writes-placed Input i x s h = never s
-writes-placed BoolUnary i x s h = never s
-writes-placed BoolBinary i x s h = never s
-writes-placed Equality i x s h = never s
-writes-placed Choice i x s h = never s
-writes-placed BvUnary i x s h = never s
-writes-placed BvBinary i x s h = never s
-writes-placed BvCompare i x s h = never s
-writes-placed Read i x s h = never s
-writes-placed Write i x s h = ltb-true (x .p) i (and-parts (ltb (x .p) i) (ltb (x .q) i) (and-parts (ltb (x .p) i && ltb (x .q) i) (ltb (x .r) i) h .0) .0)
-writes-placed Other i x s h = never s
+writes-placed : (op : Op) (i : ℕ) (x : Term) → writes op ≡ true → placedAs (fieldsOf (rankOf op)) i x ≡ true → x .p < i
+writes-placed Constant i x s h = never s
+writes-placed Variable i x s h = never s
+writes-placed (Apply f) i x s h = never s
+writes-placed Ite i x s h = never s
+writes-placed Select i x s h = never s
+writes-placed Store i x s h = ltb-true (x .p) i (and-parts (ltb (x .p) i) (ltb (x .q) i) (and-parts (ltb (x .p) i && ltb (x .q) i) (ltb (x .r) i) h .0) .0)
+writes-placed Unknown i x s h = never s
 
 -- past a table's end every number is 0
 module _ (limit : ℕ) (t : List ℕ) (w : WellFormed limit t) where
@@ -97,5 +92,5 @@ module _ (limit : ℕ) (t : List ℕ) (w : WellFormed limit t) where
   store-below k s = go (decLt k (terms t))
     where
       go : Dec (k < terms t) → termAt t k .p < k
-      go (yes b) = writes-placed (rank (termAt t k)) k (termAt t k) s (w .sound k b .is-placed)
-      go (no b) = never (sym (ap (λ (op : ℕ). writes (rankOf (opOf op))) (past-end k 0 (omega arith))) ∙ s)
+      go (yes b) = writes-placed (opOf (termAt t k .op)) k (termAt t k) s (w .sound k b .is-placed)
+      go (no b) = never (sym (ap (λ (op : ℕ). writes (opOf op)) (past-end k 0 (omega arith))) ∙ s)

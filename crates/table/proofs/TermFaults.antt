@@ -12,19 +12,24 @@ use Rattle.ops.proofs.Booleans.{never, and-parts}
 use Rattle.table.specs.declared.ranks.Fields.{Fields}
 use Rattle.table.specs.declared.ranks.Fields.the-variants.{Value, Slot, One, Two, Three}
 use Rattle.table.specs.declared.words.Term.{Term}
+use Rattle.ops.specs.declared.Op.{Op}
+use Rattle.ops.specs.declared.Op.the-variants.{Constant, Variable, Apply, Ite, Select, Store, Unknown}
+use Rattle.ops.specs.Numbers.{opOf}
 use Rattle.table.specs.Terms.{termAt}
-use Rattle.table.specs.Ranks.{slotted}
+use Rattle.table.specs.Ranks.{rankOf, fieldsOf, slotted}
 use Rattle.table.specs.Faults.{fields, known, sorted, placedAs, typed, variable, valuedAs, conflicts, anyBelow, clash, slotClash, firstClash, chain, refuse, faultIf, fault}
 use Rattle.table.specs.declared.Admission.{Admission}
 use Rattle.table.proofs.Searches.{First, first-is}
 use Rattle.table.proofs.Scans.{Scanned, begun, on}
 
-pub slot-valued : (s : Fields) (x : Term) → slotted s ≡ true → valuedAs s x ≡ leb (x .p) 255 && leb (x .q) 1
-slot-valued Value x e = never e
-slot-valued Slot x e = refl
-slot-valued One x e = never e
-slot-valued Two x e = never e
-slot-valued Three x e = never e
+pub slot-valued : (op : Op) (x : Term) → slotted op ≡ true → valuedAs (fieldsOf (rankOf op)) x ≡ leb (x .p) 255 && leb (x .q) 1
+slot-valued Constant x e = never e
+slot-valued Variable x e = refl
+slot-valued (Apply f) x e = never e
+slot-valued Ite x e = never e
+slot-valued Select x e = never e
+slot-valued Store x e = never e
+slot-valued Unknown x e = never e
 
 -- what a test has cut off does not count
 cut : (number : ℕ) (ok : Bool) (a b : ℕ) → (ok ≡ true → a ≡ b) → refuse number ok a ≡ refuse number ok b
@@ -62,7 +67,7 @@ module _ (t : List ℕ) (i : ℕ) where
   clash-of b e ok =
       let x = termAt t i in
       without-low (variable x) (leb (x .p) 255) (anyBelow i (λ k. variable (termAt t k) && conflicts (termAt t k) x)) b e
-      (λ v. and-parts (leb (x .p) 255) (leb (x .q) 1) (sym (slot-valued (fields x) x v) ∙ ok) .0)
+      (λ v. and-parts (leb (x .p) 255) (leb (x .q) 1) (sym (slot-valued (opOf (x .op)) x v) ∙ ok) .0)
 
   fault-of : (b : Bool) → slotClash t i ≡ b → faultIf t i b ≡ fault t i
   unfolding faultIf fault

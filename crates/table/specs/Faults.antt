@@ -22,16 +22,16 @@ abbrev pub fields : Term → Fields
 fields x = fieldsOf (rank x)
 
 abbrev pub variable : Term → Bool
-variable x = slotted (fields x)
+variable x = slotted (opOf (x .op))
 
 abbrev pub constant : Term → Bool
-constant x = immediate (fields x)
+constant x = immediate (opOf (x .op))
 
 abbrev pub reading : Term → Bool
-reading x = reads (rank x)
+reading x = reads (opOf (x .op))
 
 abbrev pub storing : Term → Bool
-storing x = writes (rank x)
+storing x = writes (opOf (x .op))
 
 -- 3 op over 16
 abbrev pub known : Term → Bool

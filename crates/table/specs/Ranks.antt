@@ -3,28 +3,28 @@
 -- Assumes nothing.
 use mathlib.Core.Bool.{Bool, true, false}
 use Rattle.ops.specs.declared.Op.{Op}
-use Rattle.ops.specs.declared.Op.the-variants.{Constant, Variable, Not, And, Or, Implies, Equal, Ite, BvNot, BvAnd, BvOr, BvAdd, BvMul, BvShl, BvUlt, Select, Store, Unknown}
+use Rattle.ops.specs.declared.Op.the-variants.{Constant, Variable, Apply, Ite, Select, Store, Unknown}
+use Rattle.ops.specs.Ranks.{Arity, FunctionRank, functionRank}
+use Rattle.ops.specs.Ranks.FunctionRank.{boolUnary, boolBinary, equality, bvUnary, bvBinary, bvCompare}
 use Rattle.table.specs.declared.ranks.Rank.{Rank}
 use Rattle.table.specs.declared.ranks.Rank.the-variants.{Literal, Input, BoolUnary, BoolBinary, Equality, Choice, BvUnary, BvBinary, BvCompare, Read, Write, Other}
 use Rattle.table.specs.declared.ranks.Fields.{Fields}
 use Rattle.table.specs.declared.ranks.Fields.the-variants.{Value, Slot, One, Two, Three}
 
+-- a function's
+abbrev pub applied : {a : Arity} → FunctionRank a → Rank
+applied boolUnary = BoolUnary
+applied boolBinary = BoolBinary
+applied equality = Equality
+applied bvUnary = BvUnary
+applied bvBinary = BvBinary
+applied bvCompare = BvCompare
+
 abbrev pub rankOf : Op → Rank
 rankOf Constant = Literal
 rankOf Variable = Input
-rankOf Not = BoolUnary
-rankOf And = BoolBinary
-rankOf Or = BoolBinary
-rankOf Implies = BoolBinary
-rankOf Equal = Equality
+rankOf (Apply f) = applied (functionRank f)
 rankOf Ite = Choice
-rankOf BvNot = BvUnary
-rankOf BvAnd = BvBinary
-rankOf BvOr = BvBinary
-rankOf BvAdd = BvBinary
-rankOf BvMul = BvBinary
-rankOf BvShl = BvBinary
-rankOf BvUlt = BvCompare
 rankOf Select = Read
 rankOf Store = Write
 rankOf Unknown = Other
@@ -44,48 +44,42 @@ fieldsOf Read = Two
 fieldsOf Write = Three
 fieldsOf Other = Three
 
--- a variable's fields
-abbrev pub slotted : Fields → Bool
-slotted Value = false
-slotted Slot = true
-slotted One = false
-slotted Two = false
-slotted Three = false
+-- a variable
+abbrev pub slotted : Op → Bool
+slotted Constant = false
+slotted Variable = true
+slotted (Apply f) = false
+slotted Ite = false
+slotted Select = false
+slotted Store = false
+slotted Unknown = false
 
--- a constant's fields
-abbrev pub immediate : Fields → Bool
-immediate Value = true
-immediate Slot = false
-immediate One = false
-immediate Two = false
-immediate Three = false
+-- a constant
+abbrev pub immediate : Op → Bool
+immediate Constant = true
+immediate Variable = false
+immediate (Apply f) = false
+immediate Ite = false
+immediate Select = false
+immediate Store = false
+immediate Unknown = false
 
--- a read's rank
-abbrev pub reads : Rank → Bool
-reads Literal = false
-reads Input = false
-reads BoolUnary = false
-reads BoolBinary = false
-reads Equality = false
-reads Choice = false
-reads BvUnary = false
-reads BvBinary = false
-reads BvCompare = false
-reads Read = true
-reads Write = false
-reads Other = false
+-- a read
+abbrev pub reads : Op → Bool
+reads Constant = false
+reads Variable = false
+reads (Apply f) = false
+reads Ite = false
+reads Select = true
+reads Store = false
+reads Unknown = false
 
--- a store's rank
-abbrev pub writes : Rank → Bool
-writes Literal = false
-writes Input = false
-writes BoolUnary = false
-writes BoolBinary = false
-writes Equality = false
-writes Choice = false
-writes BvUnary = false
-writes BvBinary = false
-writes BvCompare = false
-writes Read = false
-writes Write = true
-writes Other = false
+-- a store
+abbrev pub writes : Op → Bool
+writes Constant = false
+writes Variable = false
+writes (Apply f) = false
+writes Ite = false
+writes Select = false
+writes Store = true
+writes Unknown = false

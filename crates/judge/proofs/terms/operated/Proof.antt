@@ -5,13 +5,10 @@ use Rattle.table.proofs.SoundTerms.{n-most-at}
 use Rattle.judge.proofs.terms.operated.Statement.{statement}
 use Rattle.judge.proofs.terms.operated.Tie as tie
 
-settles-requires : tie.Need-settles-requires
-settles-requires c κs =
-    let s = c .before .before .before .before .before .before .before .before .before .before .before .before .before .before in
-    rw (c .before .before .before .before .before .before .before .before .before .before .sort-in .ensures) (n-most-at 80000 (s .args .table .now) (s .pre .0) (s .args .x .p))
-
 apply-requires : tie.Need-apply-requires
-apply-requires c κs = settles-requires (c .before) κs
+apply-requires c κs =
+    let s = c .before .before .before .before .before .before .before .before .before .before .before .before .before .before .before in
+    rw (c .before .before .before .before .before .before .before .before .before .before .before .sort-in .ensures) (n-most-at 80000 (s .args .table .now) (s .pre .0) (s .args .x .p))
 
 returns : tie.Need-returns
 returns c = rw (c .before .settles .ensures, c .apply .ensures, c .before .before .before .before .before .before .before .before .before .before .before .op-of .ensures, c .before .before .before .before .before .before .before .before .before .before .before .before .sort-in .ensures)
@@ -37,6 +34,6 @@ operated-spec =
     (λ c. search needs)
     (λ c. search needs)
     (λ c. search needs)
-    settles-requires
+    (λ c κs. search needs)
     apply-requires
     returns)

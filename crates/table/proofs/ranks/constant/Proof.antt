@@ -1,11 +1,11 @@
 use mathlib.Core.Path.{refl}
-use Rattle.table.specs.Ranks.{rankOf, fieldsOf, immediate}
+use Rattle.table.specs.Ranks.{immediate}
 use Rattle.table.proofs.OpNumbers.{number-of}
 use Rattle.table.proofs.ranks.constant.Statement.{statement}
 use Rattle.table.proofs.ranks.constant.Tie as tie
 
 returns : tie.Need-returns
-returns c = number-of (λ op. immediate (fieldsOf (rankOf op))) 0 refl refl (c .before .args .x .op)
+returns c = number-of immediate 0 refl refl (c .before .args .x .op)
 
 pub constant-spec : {M : Type 1} → statement M
 constant-spec = tie.close (tie.spec returns)

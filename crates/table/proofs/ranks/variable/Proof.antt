@@ -1,11 +1,11 @@
 use mathlib.Core.Path.{refl}
-use Rattle.table.specs.Ranks.{rankOf, fieldsOf, slotted}
+use Rattle.table.specs.Ranks.{slotted}
 use Rattle.table.proofs.OpNumbers.{number-of}
 use Rattle.table.proofs.ranks.variable.Statement.{statement}
 use Rattle.table.proofs.ranks.variable.Tie as tie
 
 returns : tie.Need-returns
-returns c = number-of (λ op. slotted (fieldsOf (rankOf op))) 1 refl refl (c .before .args .x .op)
+returns c = number-of slotted 1 refl refl (c .before .args .x .op)
 
 pub variable-spec : {M : Type 1} → statement M
 variable-spec = tie.close (tie.spec returns)

@@ -1,9 +1,9 @@
 use native.Mathlib.Omega.{arith}
 use mathlib.Core.Path.{sym}
-use Rattle.explain.proofs.Booleans.{no-ones}
+use Rattle.ops.proofs.Widths.{no-ones}
 use borrow.Author.Needs.{needs}
-use Rattle.explain.proofs.operands.all_ones.Statement.{statement}
-use Rattle.explain.proofs.operands.all_ones.Tie as tie
+use Rattle.ops.proofs.all_ones.Statement.{statement}
+use Rattle.ops.proofs.all_ones.Tie as tie
 
 returns : tie.Need-returns
 returns c = rw (c .ones .ensures)

@@ -2,6 +2,7 @@
 ghost use mathlib.Core.Path.{_≡_};
 ghost use Prim.Native.Nat.{_*_, _≤_};
 ghost use lib.ListN.{length};
+ghost use Rattle.table.specs.Terms.{words};
 ghost use Rattle.table.specs.Faults.{conflicts, claims, firstClash};
 use table::Term;
 use table::same_sort;
@@ -26,7 +27,7 @@ fn claims(x: Term) -> bool
 // slot is kept: those after it have its sort and mark, or the search would have ended. No two that are kept have one slot,
 // so 256 places are enough.
 pub fn first_clash(table: &[u32], terms: u32) -> u32
-    requires { ⌜ terms * 6 ≤ length (now table) ⌝ }
+    requires { ⌜ terms * words ≤ length (now table) ⌝ }
     ensures { λ r. ⌜ r ≡ firstClash (now (table .entry)) terms ⌝ }
 {
     let mut earlier = [0u32; 256];

@@ -1,10 +1,8 @@
 // Refusals 3 to 9: what is wrong with one term.
 ghost use mathlib.Core.Path.{_≡_};
-ghost use Prim.Native.Nat.{_+_, _*_, _<_};
 ghost use lib.Dec.{leb};
-ghost use lib.ListN.{length};
-ghost use Rattle.table.specs.Terms.{termAt};
-ghost use Rattle.table.specs.Faults.{known, chain, faultIf};
+ghost use Rattle.table.specs.Terms.{HasTerm, termAt};
+ghost use Rattle.table.specs.Faults.{known, chain, size, faultIf};
 use table::Term;
 use table::rank_fault;
 use table::rank_of;
@@ -16,7 +14,7 @@ use table::term_in;
 
 // The stores from term k inward, counted up to 17.
 pub fn chain(table: &[u32], k: u32) -> u32
-    ensures { λ r. ⌜ r ≡ chain 17 (now (table .entry)) k ⌝ }
+    ensures { λ r. ⌜ r ≡ size (now (table .entry)) k ⌝ }
 {
     let mut at = k;
     let mut count = 0u32;
@@ -41,7 +39,7 @@ fn known(x: Term) -> bool
 // 9: at most 16 stores from term i, x, inward. Only a store has any.
 fn short(table: &[u32], i: u32, x: Term) -> bool
     requires { ⌜ x ≡ termAt (now table) i ⌝ }
-    ensures { λ r. ⌜ r ≡ leb (chain 17 (now (table .entry)) i) 16 ⌝ }
+    ensures { λ r. ⌜ r ≡ leb (size (now (table .entry)) i) 16 ⌝ }
 {
     if !storing(x) {
         return true;
@@ -51,7 +49,7 @@ fn short(table: &[u32], i: u32, x: Term) -> bool
 
 // The lowest number, 3 to 9, that refuses term i, and 0 where none does; whether it clashes is known.
 pub fn fault(table: &[u32], i: u32, clashing: bool) -> u32
-    requires { ⌜ i * 6 + 5 < length (now table) ⌝ }
+    requires { ⌜ HasTerm (now table) i ⌝ }
     ensures { λ r. ⌜ r ≡ faultIf (now (table .entry)) i clashing ⌝ }
 {
     let x = term_in(table, i);

@@ -11,6 +11,7 @@ use table::sort_at;
 ghost use mathlib.Core.Path.{_≡_};
 ghost use Prim.Native.Nat.{pred, _*_, _≤_, _<_};
 ghost use lib.ListN.{length};
+ghost use Rattle.table.specs.Terms.{words};
 ghost use Rattle.table.specs.Admission.{scan, ended, admissionWithin, admission};
 ghost use Rattle.table.specs.Faults.{fault, firstClash};
 
@@ -27,7 +28,7 @@ fn ended(table: &[u32], last: u32) -> Admission
 // The terms in order, the first clash being known; then the last term's sort.
 fn first_fault(table: &[u32], terms: u32, clash: u32) -> Admission
     requires { ⌜ 0 < terms ⌝ }
-    requires { ⌜ terms * 6 ≤ length (now table) ⌝ }
+    requires { ⌜ terms * words ≤ length (now table) ⌝ }
     requires { ⌜ clash ≡ firstClash (now table) terms ⌝ }
     ensures { λ r. ⌜ r ≡ scan (fault (now (table .entry))) terms 0 (ended (now (table .entry)) (pred terms)) ⌝ }
 {

@@ -15,6 +15,7 @@ use crate::print::spaces;
 use setting::number_at;
 use table::Sort;
 use table::Term;
+use table::WORDS;
 
 // The term's number, its operator, its sort.
 fn say_left(k: u32, x: Term) {
@@ -92,7 +93,7 @@ pub fn say_judged_rows(table: &[u32], values: &[u32], truths: &[u32], terms: u32
 pub fn terms_within(table: &[u32], most: u32) -> u32
     ensures { λ r. ⌜ r ≡ min (terms (now (table .entry))) most ⌝ }
 {
-    let terms = table.len() / 6;
+    let terms = table.len() / WORDS;
     if terms < (most as usize) {
         terms as u32
     } else {

@@ -8,7 +8,7 @@ use native.Mathlib.Numerals.{add-one}
 use native.Mathlib.Omega.{arith}
 use Rattle.table.specs.declared.words.Term.{Term}
 use Rattle.table.specs.Terms.{termAt}
-use Rattle.table.specs.Faults.{storing, reading, chain}
+use Rattle.table.specs.Faults.{storing, reading, chain, size}
 use Rattle.evaluate.specs.Steps.{stepsOf, steps}
 
 pub chain-most : (f : ℕ) (w : List ℕ) (k : ℕ) → chain f w k ≤ f
@@ -23,7 +23,7 @@ chain-most (suc f) w k = go (storing (termAt w k)) (chain-most f w (termAt w k .
 pub steps-of-most : (w : List ℕ) (x : Term) → stepsOf w x ≤ 17
 steps-of-most w x = go (reading x)
   where
-    go : (b : Bool) → cond b (chain 17 w (x .p)) 0 ≤ 17
+    go : (b : Bool) → cond b (size w (x .p)) 0 ≤ 17
     go true = chain-most 17 w (x .p)
     go false = omega arith
 

@@ -4,6 +4,7 @@ mod sizes; // how many terms it has
 
 use table::Admission;
 use table::Refusal;
+use table::WORDS;
 ghost use mathlib.Core.Path.{_≡_};
 ghost use lib.ListN.{length};
 ghost use Rattle.finish.specs.Finished.{andThen, finishing, roomAfter};
@@ -50,7 +51,7 @@ pub fn finish(table: &[u32], room: &mut [u32]) -> Finishing
         return and_then(admitted, nothing);
     }
     let terms = sizes::needed(table);
-    if room.len() < (terms as usize) * 6 {
+    if room.len() < (terms as usize) * WORDS {
         return Finishing::NotFinished(Refusal {
             number: 21,
             place: terms as u64,

@@ -18,7 +18,7 @@ use Rattle.table.specs.declared.words.Term.{Term}
 use Rattle.table.specs.Folds.{fold}
 use Rattle.table.specs.Terms.{terms, termAt}
 use Rattle.table.specs.Ranks.{rankOf, fieldsOf, reads, writes}
-use Rattle.table.specs.Faults.{storing, reading, placedAs, chain}
+use Rattle.table.specs.Faults.{storing, reading, placedAs, chain, size}
 use Rattle.table.specs.WellFormed.{WellFormed}
 use Rattle.table.proofs.FoldLaws.{fold-below}
 use Rattle.table.proofs.SoundTerms.{past-end}
@@ -53,28 +53,28 @@ module _ (w : List ℕ) where
       go false s before = chain-stop (suc left) k s ∙ sym (chain-stop left k s)
 
 -- a store's count is one more than that of the array beneath
-pub chain-store : (w : List ℕ) (limit : ℕ) → WellFormed limit w → (k : ℕ) → k < terms w → storing (termAt w k) ≡ true → chain 17 w k ≡ suc (chain 17 w (termAt w k .p))
+pub chain-store : (w : List ℕ) (limit : ℕ) → WellFormed limit w → (k : ℕ) → k < terms w → storing (termAt w k) ≡ true → size w k ≡ suc (size w (termAt w k .p))
 chain-store w limit f k b s =
-    let short : chain 17 w k ≤ 16 = f .sound k b .short in
+    let short : size w k ≤ 16 = f .sound k b .short in
     chain-on w 16 k s ∙ ap suc (sym (chain-enough w 16 (termAt w k .p) (omega (arith, chain-on w 16 k s))))
 
 -- any other term's is 0
-pub chain-end : (w : List ℕ) (k : ℕ) → storing (termAt w k) ≡ false → chain 17 w k ≡ 0
+pub chain-end : (w : List ℕ) (k : ℕ) → storing (termAt w k) ≡ false → size w k ≡ 0
 chain-end w k s = chain-stop w 16 k s
 
 module _ (w : List ℕ) (limit : ℕ) (f : WellFormed limit w) (k : ℕ) where
-  chain-is : k < terms w → chain 17 w k ≡ cond (storing (termAt w k)) (suc (chain 17 w (termAt w k .p))) 0
+  chain-is : k < terms w → size w k ≡ cond (storing (termAt w k)) (suc (size w (termAt w k .p))) 0
   chain-is b = go (storing (termAt w k)) refl
     where
-      go : (z : Bool) → storing (termAt w k) ≡ z → chain 17 w k ≡ cond z (suc (chain 17 w (termAt w k .p))) 0
+      go : (z : Bool) → storing (termAt w k) ≡ z → size w k ≡ cond z (suc (size w (termAt w k .p))) 0
       go true s = chain-store w limit f k b s
       go false s = chain-end w k s
 
   -- at most 16, past the table's end too
-  chain-most : chain 17 w k ≤ 16
+  chain-most : size w k ≤ 16
   chain-most = go (decLt k (terms w))
     where
-      go : Dec (k < terms w) → chain 17 w k ≤ 16
+      go : Dec (k < terms w) → size w k ≤ 16
       go (yes b) = f .sound k b .short
       go (no b) = omega (arith, chain-end w k (ap (λ (op : ℕ). writes (opOf op)) (past-end limit w f k 0 (omega arith))))
 
@@ -136,21 +136,21 @@ module _ (w : List ℕ) (marked : Term → Bool) where
   groups-more k = groups-append (plans w marked k) (planAt w marked k ∷ []) ∙ ap (λ (l : List Term). groups (plans w marked k) ++ l) (groups-one (planAt w marked k))
 
   module _ (f : WellFormed 512 w) where
-    sized-step : (k : ℕ) → k < terms w → ((i : ℕ) → i < k → (s j cj : ℕ) → length (planAt w marked i .readGroup s j cj) ≡ 1 + 9 * chain 17 w i)
-        → Sized (planAt w marked k) (sizeOf w (termAt w k)) (1 + 9 * chain 17 w k)
+    sized-step : (k : ℕ) → k < terms w → ((i : ℕ) → i < k → (s j cj : ℕ) → length (planAt w marked i .readGroup s j cj) ≡ 1 + 9 * size w i)
+        → Sized (planAt w marked k) (sizeOf w (termAt w k)) (1 + 9 * size w k)
     sized-step k b before =
         let x = termAt w k in
         subst (λ (c : ℕ). Sized (planAt w marked k) (sizeOf w x) (1 + 9 * c)) (sym (chain-is w 512 f k b))
-        (sized-by marked (terms w) (terms w + 1) (planIn (plans w marked k)) (next w (plans w marked k)) x k (chain 17 w (x .p))
+        (sized-by marked (terms w) (terms w + 1) (planIn (plans w marked k)) (next w (plans w marked k)) x k (size w (x .p))
         (λ l s j cj. ap (λ (y : Plan). length (y .readGroup s j cj)) (plan-below k (x .p) l) ∙ before (x .p) l s j cj)
         (opOf (x .op)) (op-at w k (f .sound k b)) (f .sound k b .is-placed))
 
-    sized-within : (n k : ℕ) → k < n → k < terms w → Sized (planAt w marked k) (sizeOf w (termAt w k)) (1 + 9 * chain 17 w k)
+    sized-within : (n k : ℕ) → k < n → k < terms w → Sized (planAt w marked k) (sizeOf w (termAt w k)) (1 + 9 * size w k)
     sized-within zero k b l = absurd (not-suc-le-zero b)
     sized-within (suc n) k b l = sized-step k l (λ i m. sized-within n i (omega arith) (omega arith) .read)
 
     module _ (k : ℕ) (b : k < terms w) where
-      pub read-size : (s j cj : ℕ) → length (planAt w marked k .readGroup s j cj) ≡ 1 + 9 * chain 17 w k
+      pub read-size : (s j cj : ℕ) → length (planAt w marked k .readGroup s j cj) ≡ 1 + 9 * size w k
       read-size = sized-within (suc k) k (omega arith) b .read
 
       pub read-most : (s j cj : ℕ) → length (planAt w marked k .readGroup s j cj) ≤ 145
@@ -205,7 +205,7 @@ unfolding sizes steps
 sizes-by-steps w f zero b = omega arith
 sizes-by-steps w f (suc k) b =
     let x = termAt w k in
-    let c = chain 17 w (x .p) in
+    let c = size w (x .p) in
     let before : sizes w k ≤ 8 * k + 9 * steps w k = sizes-by-steps w f k (omega arith) in
     let here : sizeOf w x ≤ 8 + 9 * stepsOf w x = le-trans (size-most (opOf (x .op)) c) (most-by-steps (reading x) c) in
     omega arith
@@ -215,7 +215,7 @@ unfolding sizes
 sizes-by-terms w f zero b = omega arith
 sizes-by-terms w f (suc k) b =
     let x = termAt w k in
-    let c = chain 17 w (x .p) in
+    let c = size w (x .p) in
     let before : sizes w k ≤ 145 * k = sizes-by-terms w f k (omega arith) in
     let here : sizeOf w x ≤ 145 = le-trans (size-most (opOf (x .op)) c) (most-by-terms (reading x) c (chain-most w 512 f (x .p))) in
     omega arith

@@ -5,7 +5,7 @@ use Prim.Native.Nat.{ℕ, zero, suc, _+_, _*_}
 use Rattle.ops.specs.Numbers.{opOf}
 use Rattle.table.specs.declared.words.Term.{Term}
 use Rattle.table.specs.Terms.{termAt}
-use Rattle.table.specs.Faults.{chain}
+use Rattle.table.specs.Faults.{chain, size}
 use Rattle.groups.specs.declared.kinds.GroupKind.{GroupKind}
 use Rattle.groups.specs.declared.kinds.GroupKind.the-variants.{Literal, Input, Unary, Strict, Conjunction, Disjunction, Implication, Zero, Ones, Shift, Choice, Read, Write}
 use Rattle.groups.specs.FunctionGroups.{kindOf}
@@ -27,7 +27,7 @@ sizeBy Read stores = 1 + 9 * stores
 sizeBy Write stores = 0
 
 abbrev pub sizeOf : List ℕ → Term → ℕ
-sizeOf w t = sizeBy (kindOf (opOf (t .op))) (chain 17 w (t .p))
+sizeOf w t = sizeBy (kindOf (opOf (t .op))) (size w (t .p))
 
 -- of the first k terms
 unfoldable pub sizes : List ℕ → ℕ → ℕ

@@ -7,6 +7,7 @@ mod turns; // what a term asks
 use evaluate::Evaluation;
 pub use reads::Reading;
 use table::Refusal;
+use table::WORDS;
 pub use terms::step;
 ghost use mathlib.Core.Path.{_≡_};
 ghost use lib.ListN.{length};
@@ -68,7 +69,7 @@ pub fn judge(
         return answered(answer, false, false);
     }
     room::fill(table, values, cells, work);
-    let terms = table.len() / 6;
+    let terms = table.len() / WORDS;
     let last = terms - 1;
     answered(answer, work[last] == 1, work[terms + last] == 1)
 }

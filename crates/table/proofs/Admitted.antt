@@ -14,7 +14,7 @@ use Rattle.table.specs.declared.words.Sort.{Sort}
 use Rattle.table.specs.declared.Admission.{Admission}
 use Rattle.table.specs.declared.Admission.the-variants.{Admitted}
 use Rattle.table.specs.Terms.{words, terms, termAt, sortAt, boolean}
-use Rattle.table.specs.Faults.{fields, variable, known, sorted, placedAs, typed, valuedAs, conflicts, anyBelow, clash, chain, refuse, faultIf, fault}
+use Rattle.table.specs.Faults.{fields, variable, known, sorted, placedAs, typed, valuedAs, conflicts, anyBelow, clash, size, refuse, faultIf, fault}
 use Rattle.table.specs.Admission.{refused, scan, ended, admissionWithin}
 use Rattle.table.specs.WellFormed.{Sound, WellFormed, OneUse, AdmissionSound, AdmissionComplete, SlotsHaveOneUse}
 use Rattle.table.proofs.Searches.{none-of-any}
@@ -36,7 +36,7 @@ fault-sound : (t : List ℕ) (k : ℕ) → fault t k ≡ 0 → Sound t k
 unfolding fault faultIf
 fault-sound t k h =
     let x = termAt t k in
-    let after-8 : ℕ = refuse 9 (leb (chain 17 t k) 16) 0 in
+    let after-8 : ℕ = refuse 9 (leb (size t k) 16) 0 in
     let after-7 : ℕ = refuse 8 (not (clash t k)) after-8 in
     let after-6 : ℕ = refuse 7 (valuedAs (fields x) x) after-7 in
     let after-5 : ℕ = refuse 6 (typed t x) after-6 in
@@ -55,13 +55,13 @@ fault-sound t k h =
       is-typed = z6 .0;
       is-valued = z7 .0;
       no-clash = not-true (clash t k) (z8 .0);
-      short = leb-true (chain 17 t k) 16 (refuse-zero 8 (leb (chain 17 t k) 16) 0 (z8 .1) .0);
+      short = leb-true (size t k) 16 (refuse-zero 8 (leb (size t k) 16) 0 (z8 .1) .0);
     }
 
 sound-fault : (t : List ℕ) (k : ℕ) → Sound t k → fault t k ≡ 0
 unfolding fault faultIf
 sound-fault t k s =
-    rw (s .is-known, s .is-sorted, s .is-placed, s .is-typed, s .is-valued, s .no-clash, le-leb (chain 17 t k) 16 (s .short))
+    rw (s .is-known, s .is-sorted, s .is-placed, s .is-typed, s .is-valued, s .no-clash, le-leb (size t k) 16 (s .short))
 
 -- The whole
 

@@ -13,7 +13,7 @@ use Rattle.ops.specs.Numbers.{opOf}
 use Rattle.table.specs.declared.words.Sort.{Sort}
 use Rattle.table.specs.Terms.{terms, termAt, sortAt, array, vectorOf, sameSort}
 use Rattle.table.specs.Ranks.{slotted, writes}
-use Rattle.table.specs.Faults.{variable, storing, chain}
+use Rattle.table.specs.Faults.{variable, storing, chain, size}
 use Rattle.table.specs.WellFormed.{WellFormed, Under, ArrayTerms}
 use Rattle.table.specs.WellFormed.Under.{base, store}
 use Rattle.table.proofs.OperandSorts.{array-op, same-sort, four, op-at, typing, typing-as, placing-as, three-placed}
@@ -57,5 +57,5 @@ module _ (limit : ℕ) (t : List ℕ) (f : WellFormed limit t) where
 
 pub array-terms : ArrayTerms
 array-terms limit t f k b a =
-    let short : chain 17 t k ≤ 16 = f .sound k b .short in
-    record { stores = chain 17 t k; few = short; under = under-within limit t f 17 k b a (omega arith) }
+    let short : size t k ≤ 16 = f .sound k b .short in
+    record { stores = size t k; few = short; under = under-within limit t f 17 k b a (omega arith) }

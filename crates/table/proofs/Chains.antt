@@ -7,7 +7,7 @@ use Prim.Native.Nat.{ℕ, suc, _+_, _-_, _≤_, _<_}
 use native.Mathlib.Omega.{arith}
 use lib.Dec.{leb}
 use Rattle.table.specs.Terms.{termAt}
-use Rattle.table.specs.Faults.{storing, chain}
+use Rattle.table.specs.Faults.{storing, chain, size}
 
 module _ (t : List ℕ) (k count : ℕ) (below : count < 17) where
   left : 17 - count ≡ suc (17 - (count + 1))
@@ -28,6 +28,6 @@ chain-full t k count h =
     rw none
 
 -- a term that is no store has none
-pub chain-short : (t : List ℕ) (k : ℕ) → storing (termAt t k) ≡ false → leb (chain 17 t k) 16 ≡ true
+pub chain-short : (t : List ℕ) (k : ℕ) → storing (termAt t k) ≡ false → leb (size t k) 16 ≡ true
 unfolding chain
 chain-short t k h = rw h

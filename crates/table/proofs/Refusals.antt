@@ -13,7 +13,7 @@ use Rattle.ops.proofs.Booleans.{and-parts}
 use Rattle.table.specs.declared.Admission.{Admission}
 use Rattle.table.specs.declared.Admission.the-variants.{Admitted}
 use Rattle.table.specs.Terms.{words, terms, termAt, sortAt, boolean}
-use Rattle.table.specs.Faults.{fields, known, sorted, placedAs, typed, valuedAs, clash, chain, refuse, faultIf, fault}
+use Rattle.table.specs.Faults.{fields, known, sorted, placedAs, typed, valuedAs, clash, size, refuse, faultIf, fault}
 use Rattle.table.specs.Admission.{refused, refusedBy, scan, admissionWithin}
 use Rattle.table.specs.Refusals.{between, RefusedBy, AdmissionNumbers}
 
@@ -45,7 +45,7 @@ fault-by t i =
     (refuse-by 6 refl (typed t x)
     (refuse-by 7 refl (valuedAs (fields x) x)
     (refuse-by 8 refl (not (clash t i))
-    (refuse-by 9 refl (leb (chain 17 t i) 16) none))))))
+    (refuse-by 9 refl (leb (size t i) 16) none))))))
 
 -- What holds of Admitted and of every refusal by one of these numbers
 module _ (numbers : ℕ → Bool) (Q : Admission → Type 0) (by : (number place : ℕ) → numbers number ≡ true → Q (refused number place)) where

@@ -13,7 +13,7 @@ use borrow.Author.Count.{below-more}
 use borrow.Author.Tests.{eqb-true, leb-true, le-leb, eq-eqb, not-false}
 use Rattle.ops.proofs.Booleans.{and-parts}
 use Rattle.table.specs.declared.words.Term.{Term}
-use Rattle.table.specs.Terms.{termAt, sameSort}
+use Rattle.table.specs.Terms.{words, HasTerm, termAt, sameSort}
 use Rattle.table.specs.Faults.{variable, claims, conflicts, clash, slotClash, firstFrom, firstClash}
 use Rattle.table.proofs.Pigeonhole.{pigeonhole}
 use Rattle.table.proofs.Searches.{any-none, any-found, first-on, first-here, first-past}
@@ -229,7 +229,7 @@ module _ {t : List ℕ} {n : ℕ} {l : List ℕ} {met i : ℕ} {x : Term} {k : �
   pub place-inside : k < met → k < 256
   place-inside b = omega (arith, firsts .few)
 
-  pub term-inside : k < met → n * 6 ≤ length t → getD l k 0 * 6 + 5 < length t
+  pub term-inside : k < met → n * words ≤ length t → HasTerm t (getD l k 0)
   term-inside b whole = omega (arith, firsts .earlier k b .0, h .inside)
 
   module _ {a : Term} (is : a ≡ kept t l k) where

@@ -16,7 +16,7 @@ use Rattle.ops.specs.Numbers.{opOf}
 use Rattle.ops.proofs.Booleans.{never, and-parts, or-parts}
 use Rattle.table.specs.declared.words.Sort.{Sort}
 use Rattle.table.specs.declared.words.Term.{Term}
-use Rattle.table.specs.Terms.{terms, wordAt, termAt, sortAt, boolean, array}
+use Rattle.table.specs.Terms.{words, terms, wordAt, termAt, sortAt, boolean, array}
 use Rattle.table.specs.Ranks.{rankOf, fieldsOf, writes}
 use Rattle.table.specs.Faults.{rank, variable, storing, fields, width, sorted, placedAs}
 use Rattle.table.specs.WellFormed.{Sound, WellFormed}
@@ -76,7 +76,7 @@ writes-placed Unknown i x s h = never s
 module _ (limit : ℕ) (t : List ℕ) (w : WellFormed limit t) where
   pub past-end : (k j : ℕ) → terms t ≤ k → wordAt t k j ≡ 0
   past-end k j b =
-      let whole : length t ≡ terms t * 6 = w .whole in
+      let whole : length t ≡ terms t * words = w .whole in
       List·getD-eq-default t 0 (omega arith)
 
   -- so widths are at most 32 everywhere

@@ -17,7 +17,7 @@ use Rattle.ops.specs.declared.Op.the-variants.{Constant, Variable, Apply, Ite, 
 use Rattle.ops.specs.Numbers.{opOf}
 use Rattle.table.specs.Terms.{termAt}
 use Rattle.table.specs.Ranks.{rankOf, fieldsOf, slotted}
-use Rattle.table.specs.Faults.{fields, known, sorted, placedAs, typed, variable, valuedAs, conflicts, anyBelow, clash, slotClash, firstClash, chain, refuse, faultIf, fault}
+use Rattle.table.specs.Faults.{fields, known, sorted, placedAs, typed, variable, valuedAs, conflicts, anyBelow, clash, slotClash, firstClash, size, refuse, faultIf, fault}
 use Rattle.table.specs.declared.Admission.{Admission}
 use Rattle.table.proofs.Searches.{First, first-is}
 use Rattle.table.proofs.Scans.{Scanned, begun, on}
@@ -74,7 +74,7 @@ module _ (t : List ℕ) (i : ℕ) where
   fault-of b e =
       let x = termAt t i in
       ap (λ (rest : ℕ). refuse 3 (known x) (refuse 4 (sorted (x .sort)) (refuse 5 (placedAs (fields x) i x) (refuse 6 (typed t x) rest))))
-      (cut 7 (valuedAs (fields x) x) _ _ (λ ok. ap (λ (c : Bool). refuse 8 (not c) (refuse 9 (leb (chain 17 t i) 16) 0)) (sym (clash-of b e ok))))
+      (cut 7 (valuedAs (fields x) x) _ _ (λ ok. ap (λ (c : Bool). refuse 8 (not c) (refuse 9 (leb (size t i) 16) 0)) (sym (clash-of b e ok))))
 
   module _ (n first : ℕ) (h : First (slotClash t) n first) (inside : i < n) (reached : i ≤ first) where
     -- what the code computes of term i is the definition's

@@ -94,6 +94,10 @@ unfoldable pub chain : ℕ → List ℕ → ℕ → ℕ
 chain zero t k = 0
 chain (suc left) t k = cond (storing (termAt t k)) (suc (chain left t (termAt t k .p))) 0
 
+-- the size of an array term: its stores, which in an admitted table are at most 16
+abbrev pub size : List ℕ → ℕ → ℕ
+size t k = chain 17 t k
+
 -- the lowest number, 3 to 9, that refuses term i, and 0 where none does
 abbrev pub refuse : ℕ → Bool → ℕ → ℕ
 refuse number true rest = rest
@@ -116,7 +120,7 @@ faultIf t i clashing =
     (refuse 6 (typed t x)
     (refuse 7 (valuedAs (fields x) x)
     (refuse 8 (not clashing)
-    (refuse 9 (leb (chain 17 t i) 16)
+    (refuse 9 (leb (size t i) 16)
     0))))))
 
 unfoldable pub fault : List ℕ → ℕ → ℕ

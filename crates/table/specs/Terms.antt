@@ -2,7 +2,7 @@
 -- Assumes nothing.
 use mathlib.Core.Bool.{Bool, cond, _&&_}
 use mathlib.Core.List.{List}
-use Prim.Native.Nat.{ℕ, _+_, _*_, _/_}
+use Prim.Native.Nat.{ℕ, _+_, _*_, _/_, _<_}
 use lib.Dec.{eqb, ltb, leb}
 use lib.ListN.{length, getD, set}
 use Rattle.table.specs.declared.words.Sort.{Sort}
@@ -32,6 +32,13 @@ termAt t k =
       q = wordAt t k 4;
       r = wordAt t k 5;
     }
+
+-- a table has term k whole; it has the term's sort
+abbrev pub HasTerm : List ℕ → ℕ → Type 0
+HasTerm t k = k * words + 5 < length t
+
+abbrev pub HasSort : List ℕ → ℕ → Type 0
+HasSort t k = k * words + 2 < length t
 
 -- term k written into a table that has room for it
 unfoldable pub placed : List ℕ → ℕ → Term → List ℕ

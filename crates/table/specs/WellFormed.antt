@@ -7,7 +7,7 @@ use Prim.Native.Nat.{ℕ, zero, suc, pred, _*_, _≤_, _<_}
 use lib.ListN.{length}
 use Rattle.table.specs.declared.Admission.the-variants.{Admitted}
 use Rattle.table.specs.Terms.{words, terms, termAt, sortAt, boolean, array}
-use Rattle.table.specs.Faults.{fields, variable, storing, known, sorted, placedAs, typed, valuedAs, clash, chain}
+use Rattle.table.specs.Faults.{fields, variable, storing, known, sorted, placedAs, typed, valuedAs, clash, chain, size}
 use Rattle.table.specs.Admission.{admissionWithin}
 
 -- Of term k: an op up to 16; one of the three sorts; operands below and unused fields 0; sorts as the op's line asks;
@@ -19,7 +19,7 @@ pub record Sound (t : List ℕ) (k : ℕ) : Type 0 where
   pub is-typed : typed t (termAt t k) ≡ true
   pub is-valued : valuedAs (fields (termAt t k)) (termAt t k) ≡ true
   pub no-clash : clash t k ≡ false
-  pub short : chain 17 t k ≤ 16
+  pub short : size t k ≤ 16
 
 -- Of a table: at least one term and at most limit, whole; each of them sound; the last one Boolean.
 pub record WellFormed (limit : ℕ) (t : List ℕ) : Type 0 where

@@ -1,10 +1,8 @@
 // Refusals 5 to 7 by rank: operands below the term and unused fields 0; the sorts; a constant, a slot and a mark that fit.
 ghost use mathlib.Core.Path.{_≡_};
-ghost use Prim.Native.Nat.{_+_, _*_, _<_};
-ghost use lib.ListN.{length};
 ghost use Rattle.table.specs.declared.ranks.Rank.the-variants.{BoolUnary, BoolBinary, Equality, Choice, BvUnary, BvBinary, BvCompare, Read, Write};
 ghost use Rattle.table.specs.declared.ranks.Fields.the-variants.{Value, Slot, One, Two, Three};
-ghost use Rattle.table.specs.Terms.{scalar};
+ghost use Rattle.table.specs.Terms.{HasTerm, scalar};
 ghost use Rattle.table.specs.Faults.{placedAs, valuedAs, refuse, rankFault};
 use crate::ranks::Rank;
 use crate::sorts::array;
@@ -58,7 +56,7 @@ fn input_fault(x: Term) -> u32
 
 // Of the other ranks: the operands' sorts are read once the operands are known to be below the term.
 fn bool_unary_fault(table: &[u32], i: u32, x: Term) -> u32
-    requires { ⌜ i * 6 + 5 < length (now table) ⌝ }
+    requires { ⌜ HasTerm (now table) i ⌝ }
     ensures { λ r. ⌜ r ≡ rankFault (now (table .entry)) BoolUnary i x ⌝ }
 {
     if !one(i, x) {
@@ -70,7 +68,7 @@ fn bool_unary_fault(table: &[u32], i: u32, x: Term) -> u32
 }
 
 fn bool_binary_fault(table: &[u32], i: u32, x: Term) -> u32
-    requires { ⌜ i * 6 + 5 < length (now table) ⌝ }
+    requires { ⌜ HasTerm (now table) i ⌝ }
     ensures { λ r. ⌜ r ≡ rankFault (now (table .entry)) BoolBinary i x ⌝ }
 {
     if !two(i, x) {
@@ -83,7 +81,7 @@ fn bool_binary_fault(table: &[u32], i: u32, x: Term) -> u32
 }
 
 fn equality_fault(table: &[u32], i: u32, x: Term) -> u32
-    requires { ⌜ i * 6 + 5 < length (now table) ⌝ }
+    requires { ⌜ HasTerm (now table) i ⌝ }
     ensures { λ r. ⌜ r ≡ rankFault (now (table .entry)) Equality i x ⌝ }
 {
     if !two(i, x) {
@@ -96,7 +94,7 @@ fn equality_fault(table: &[u32], i: u32, x: Term) -> u32
 }
 
 fn choice_fault(table: &[u32], i: u32, x: Term) -> u32
-    requires { ⌜ i * 6 + 5 < length (now table) ⌝ }
+    requires { ⌜ HasTerm (now table) i ⌝ }
     ensures { λ r. ⌜ r ≡ rankFault (now (table .entry)) Choice i x ⌝ }
 {
     if !three(i, x) {
@@ -114,7 +112,7 @@ fn choice_fault(table: &[u32], i: u32, x: Term) -> u32
 }
 
 fn bv_unary_fault(table: &[u32], i: u32, x: Term) -> u32
-    requires { ⌜ i * 6 + 5 < length (now table) ⌝ }
+    requires { ⌜ HasTerm (now table) i ⌝ }
     ensures { λ r. ⌜ r ≡ rankFault (now (table .entry)) BvUnary i x ⌝ }
 {
     if !one(i, x) {
@@ -126,7 +124,7 @@ fn bv_unary_fault(table: &[u32], i: u32, x: Term) -> u32
 }
 
 fn bv_binary_fault(table: &[u32], i: u32, x: Term) -> u32
-    requires { ⌜ i * 6 + 5 < length (now table) ⌝ }
+    requires { ⌜ HasTerm (now table) i ⌝ }
     ensures { λ r. ⌜ r ≡ rankFault (now (table .entry)) BvBinary i x ⌝ }
 {
     if !two(i, x) {
@@ -139,7 +137,7 @@ fn bv_binary_fault(table: &[u32], i: u32, x: Term) -> u32
 }
 
 fn bv_compare_fault(table: &[u32], i: u32, x: Term) -> u32
-    requires { ⌜ i * 6 + 5 < length (now table) ⌝ }
+    requires { ⌜ HasTerm (now table) i ⌝ }
     ensures { λ r. ⌜ r ≡ rankFault (now (table .entry)) BvCompare i x ⌝ }
 {
     if !two(i, x) {
@@ -152,7 +150,7 @@ fn bv_compare_fault(table: &[u32], i: u32, x: Term) -> u32
 }
 
 fn read_fault(table: &[u32], i: u32, x: Term) -> u32
-    requires { ⌜ i * 6 + 5 < length (now table) ⌝ }
+    requires { ⌜ HasTerm (now table) i ⌝ }
     ensures { λ r. ⌜ r ≡ rankFault (now (table .entry)) Read i x ⌝ }
 {
     if !two(i, x) {
@@ -165,7 +163,7 @@ fn read_fault(table: &[u32], i: u32, x: Term) -> u32
 }
 
 fn write_fault(table: &[u32], i: u32, x: Term) -> u32
-    requires { ⌜ i * 6 + 5 < length (now table) ⌝ }
+    requires { ⌜ HasTerm (now table) i ⌝ }
     ensures { λ r. ⌜ r ≡ rankFault (now (table .entry)) Write i x ⌝ }
 {
     if !three(i, x) {
@@ -184,7 +182,7 @@ fn write_fault(table: &[u32], i: u32, x: Term) -> u32
 
 // The lowest of 5 to 7 that refuses term i, x, of this rank, and 0 where none does.
 pub fn rank_fault(table: &[u32], rank: Rank, i: u32, x: Term) -> u32
-    requires { ⌜ i * 6 + 5 < length (now table) ⌝ }
+    requires { ⌜ HasTerm (now table) i ⌝ }
     ensures { λ r. ⌜ r ≡ rankFault (now (table .entry)) rank i x ⌝ }
 {
     match rank {

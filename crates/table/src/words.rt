@@ -1,8 +1,6 @@
 // A table's numbers as terms.
 ghost use mathlib.Core.Path.{_≡_};
-ghost use Prim.Native.Nat.{_+_, _*_, _<_};
-ghost use lib.ListN.{length};
-ghost use Rattle.table.specs.Terms.{wordAt, sortAt, termAt, placed};
+ghost use Rattle.table.specs.Terms.{HasTerm, HasSort, wordAt, sortAt, termAt, placed};
 
 // Boolean (0, 0); vector (0, n); array (m, n).
 pub struct Sort {
@@ -31,7 +29,7 @@ fn word(table: &[u32], k: u32, j: u32) -> u32
 
 // The sort of term k, which the table has.
 pub fn sort_in(table: &[u32], k: u32) -> Sort
-    requires { ⌜ k * 6 + 2 < length (now table) ⌝ }
+    requires { ⌜ HasSort (now table) k ⌝ }
     ensures { λ r. ⌜ r ≡ sortAt (now (table .entry)) k ⌝ }
 {
     let at = (k as usize) * WORDS;
@@ -43,7 +41,7 @@ pub fn sort_in(table: &[u32], k: u32) -> Sort
 
 // Term k, which the table has whole.
 pub fn term_in(table: &[u32], k: u32) -> Term
-    requires { ⌜ k * 6 + 5 < length (now table) ⌝ }
+    requires { ⌜ HasTerm (now table) k ⌝ }
     ensures { λ r. ⌜ r ≡ termAt (now (table .entry)) k ⌝ }
 {
     let at = (k as usize) * WORDS;

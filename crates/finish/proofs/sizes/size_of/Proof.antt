@@ -1,7 +1,7 @@
 use Prim.Native.Nat.{ℕ, _+_, _*_}
 use mathlib.Core.Path.{sym, ap, _∙_}
 use native.Mathlib.Omega.{arith}
-use Rattle.table.specs.Faults.{chain}
+use Rattle.table.specs.Faults.{size}
 use Rattle.evaluate.proofs.Sums.{chain-most}
 use Rattle.groups.specs.declared.kinds.GroupKind.{GroupKind}
 use Rattle.groups.specs.Sizes.{sizeBy}
@@ -16,7 +16,7 @@ add-result : tie.Need-add-result
 add-result c = omega (arith, c .chain .ensures, chain-most 17 (c .before .before .before .before .before .args .table .now) (c .before .before .before .before .before .args .x .p))
 
 returns-12 : tie.Need-returns-12
-returns-12 c = ap (λ (n : ℕ). 1 + 9 * n) (c .chain .ensures) ∙ ap (λ (l : GroupKind). sizeBy l (chain 17 (c .before .before .before .before .before .args .table .now) (c .before .before .before .before .before .args .x .p))) (sym (sym (c .before .before .before .kind-of .ensures) ∙ c .before .enum-told12 .given .1))
+returns-12 c = ap (λ (n : ℕ). 1 + 9 * n) (c .chain .ensures) ∙ ap (λ (l : GroupKind). sizeBy l (size (c .before .before .before .before .before .args .table .now) (c .before .before .before .before .before .args .x .p))) (sym (sym (c .before .before .before .kind-of .ensures) ∙ c .before .enum-told12 .given .1))
 
 pub size-of-spec : {M : Type 1} → statement M
 size-of-spec =

@@ -4,7 +4,8 @@ use borrow.Author.Needs.{needs}
 use borrow.Author.Tests.{not-true, not-false}
 use Rattle.table.specs.declared.ranks.Fields.the-variants.{Two}
 use Rattle.table.specs.Faults.{placedAs}
-use Rattle.table.proofs.InTable.{In, two-in}
+use Rattle.table.specs.Terms.{HasSort}
+use Rattle.table.proofs.InTable.{two-in}
 use Rattle.table.proofs.operands.bool_binary_fault.Statement.{statement}
 use Rattle.table.proofs.operands.bool_binary_fault.Tie as tie
 
@@ -14,7 +15,7 @@ returns c = rw (sym (c .before .two .ensures) ∙ not-true _ (c .if1 .taken))
 in-place : (c : tie.Else1) → placedAs Two (c .before .before .before .args .i) (c .before .before .before .args .x) ≡ true
 in-place c = sym (c .before .two .ensures) ∙ not-false _ (c .if1 .left)
 
-in-table : (c : tie.Else1) → (In (c .before .before .before .args .table .now) (c .before .before .before .args .x .p)) × (In (c .before .before .before .args .table .now) (c .before .before .before .args .x .q))
+in-table : (c : tie.Else1) → (HasSort (c .before .before .before .args .table .now) (c .before .before .before .args .x .p)) × (HasSort (c .before .before .before .args .table .now) (c .before .before .before .args .x .q))
 in-table c =
     let s = c .before .before .before in
     two-in (s .args .table .now) (s .args .i) (s .args .x) (s .pre) (in-place c)

@@ -13,7 +13,7 @@ use Rattle.table.specs.Terms.{termAt}
 use Rattle.table.specs.Faults.{storing}
 use Rattle.table.proofs.Stacks.{Stacked, at-end, at-store}
 use Rattle.evaluate.specs.declared.reads.Found.{Found}
-use Rattle.evaluate.specs.Reads.{foundWithin, foundAt, readAt, bottomWithin, bottomAt}
+use Rattle.evaluate.specs.Code.Reads.{foundWithin, foundAt, readAt, bottomWithin, bottomAt}
 
 module _ (w : List ℕ) (stacked : Stacked w) where
   -- the variable at the end of a chain

@@ -17,7 +17,7 @@ use Rattle.setting.specs.Cells.{lookFrom}
 use Rattle.setting.specs.Interpretation.{Interpretation}
 use Rattle.evaluate.specs.declared.turns.Turn.{Turn}
 use Rattle.evaluate.specs.Values.{valueAt, numbers}
-use Rattle.evaluate.specs.Turns.{turnOf, numberOf, readingAt, nextRead, onward, numbered}
+use Rattle.evaluate.specs.Code.Turns.{turnOf, numberOf, readingAt, nextRead, onward, numbered}
 use Rattle.evaluate.proofs.Folds.{length-numbers, numbers-more}
 use Rattle.evaluate.proofs.Fronts.{front-more, front-length}
 use Rattle.evaluate.proofs.Meaning.{valueRead, number-is}

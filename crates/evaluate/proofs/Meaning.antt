@@ -24,8 +24,8 @@ use Rattle.table.specs.WellFormed.{Sound, WellFormed}
 use Rattle.table.proofs.SoundTerms.{store-below}
 use Rattle.setting.specs.Interpretation.{Value, Interpretation, interpret}
 use Rattle.evaluate.specs.Values.{scalarValue, arrayValue, valueBy, valueIn, values, valueAt, numbers}
-use Rattle.evaluate.specs.Reads.{readAt, bottomAt}
-use Rattle.evaluate.specs.Turns.{variableNumber, numberOf}
+use Rattle.evaluate.specs.Code.Reads.{readAt, bottomAt}
+use Rattle.evaluate.specs.Code.Turns.{variableNumber, numberOf}
 use Rattle.evaluate.proofs.Chains.{read-end, read-store, bottom-end, bottom-on}
 use Rattle.evaluate.proofs.Folds.{value-below, number-in}
 use Rattle.table.proofs.OperandSorts.{array-op, same-sort, four, op-at, typing, typing-as, placing-as, three, two-placed, three-placed}

@@ -8,7 +8,7 @@ use native.Mathlib.Numerals.{add-one}
 use native.Mathlib.Omega.{arith}
 use Rattle.table.specs.Faults.{firstFrom}
 use Rattle.table.proofs.Searches.{first-on, first-here, first-past, from}
-use Rattle.evaluate.specs.Turns.{onFrom}
+use Rattle.evaluate.specs.Code.Turns.{onFrom}
 
 module _ (stops : ℕ → Bool) (write : List ℕ → ℕ → List ℕ) (n i : ℕ) (room : List ℕ) where
   left : i < n → n - i ≡ suc (n - (i + 1))

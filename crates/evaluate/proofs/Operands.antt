@@ -10,7 +10,7 @@ use Rattle.table.specs.declared.words.Term.{Term}
 use Rattle.table.specs.Faults.{fields, constant, variable, placedAs}
 use Rattle.table.specs.WellFormed.{WellFormed}
 use Rattle.table.proofs.OperandSorts.{operands-placed}
-use Rattle.evaluate.specs.Turns.{Next, Behind}
+use Rattle.evaluate.specs.Code.Turns.{Next, Behind}
 
 pub behind : (limit : ℕ) (w front : List ℕ) (x : Term) → WellFormed limit w → Next w front x → constant x ≡ false → variable x ≡ false → Behind front x
 behind limit w front x f n c v =

@@ -17,8 +17,8 @@ use Rattle.setting.specs.Interpretation.{Interpretation, interpret}
 use Rattle.evaluate.specs.declared.reads.Found.{Found}
 use Rattle.evaluate.specs.declared.turns.Turn.{Turn}
 use Rattle.evaluate.specs.Values.{numbers}
-use Rattle.evaluate.specs.Reads.{foundAt, bottomAt}
-use Rattle.evaluate.specs.Turns.{told, turnBy, turnOf}
+use Rattle.evaluate.specs.Code.Reads.{foundAt, bottomAt}
+use Rattle.evaluate.specs.Code.Turns.{told, turnBy, turnOf}
 use Rattle.evaluate.proofs.Chains.{found-slot}
 use Rattle.evaluate.proofs.Meaning.{valueRead}
 

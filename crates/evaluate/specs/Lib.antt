@@ -1,6 +1,5 @@
 pub mod Values
 pub mod Steps
-pub mod Reads
-pub mod Turns
+pub mod Code
 pub mod Evaluation
 pub mod Laws

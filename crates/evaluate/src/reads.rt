@@ -1,7 +1,7 @@
 // A read along its chain of stores.
 ghost use mathlib.Core.Path.{_≡_};
 ghost use Rattle.table.specs.WellFormed.{WellFormed};
-ghost use Rattle.evaluate.specs.Reads.{foundAt, bottomAt};
+ghost use Rattle.evaluate.specs.Code.Reads.{foundAt, bottomAt};
 use setting::number_at;
 
 // The value that a store holds, or else the slot of the variable at the chain's end.

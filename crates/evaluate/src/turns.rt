@@ -4,7 +4,7 @@ ghost use Prim.Native.Nat.{_+_, _≤_, _<_};
 ghost use lib.ListN.{length, take};
 ghost use Rattle.table.specs.Terms as tables;
 ghost use Rattle.table.specs.WellFormed.{WellFormed};
-ghost use Rattle.evaluate.specs.Turns.{told, turnOf, Next, Behind, variableNumber, operatedNumber, numberOf, nextRead, onward, numbered};
+ghost use Rattle.evaluate.specs.Code.Turns.{told, turnOf, Next, Behind, variableNumber, operatedNumber, numberOf, nextRead, onward, numbered};
 use crate::reads::find;
 use setting::number_at;
 use table::Term;

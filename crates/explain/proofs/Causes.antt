@@ -33,7 +33,7 @@ use Rattle.evaluate.proofs.Folds.{value-below, number-in}
 use Rattle.evaluate.proofs.Meaning.{same-array}
 use Rattle.table.proofs.OperandSorts.{isKnown, boolean-scalar, same-scalar, vector-of-scalar, three, four, unary-scalar, binary-scalars, array-op, no-store, op-at, typing, typing-as, placing-as, two-placed, three-placed, rank-below}
 use Rattle.judge.specs.Conditions.{Condition, conditionBy, conditionIn, conditions, conditionAt, truths, ownMarks}
-use Rattle.judge.specs.Readings.{truthIn}
+use Rattle.judge.specs.Code.Readings.{truthIn}
 use Rattle.judge.proofs.Alike.{condition-below}
 use Rattle.judge.proofs.Meaning.{truth-in}
 use Rattle.explain.specs.declared.answers.Blame.{Blame}

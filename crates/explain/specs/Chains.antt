@@ -9,7 +9,7 @@ use lib.ListN.{getD}
 use Rattle.table.specs.declared.words.Term.{Term}
 use Rattle.table.specs.Terms.{termAt}
 use Rattle.table.specs.Faults.{storing}
-use Rattle.judge.specs.Readings.{truthIn}
+use Rattle.judge.specs.Code.Readings.{truthIn}
 use Rattle.explain.specs.declared.answers.Culprit.{Culprit}
 use Rattle.explain.specs.declared.answers.Culprit.the-variants.{Index, Stored, Variable}
 

@@ -13,7 +13,7 @@ use Rattle.table.specs.WellFormed.{WellFormed}
 use Rattle.setting.specs.Interpretation.{Interpretation}
 use Rattle.evaluate.specs.Values.{numbers}
 use Rattle.judge.specs.Conditions.{ownMarks, truths}
-use Rattle.judge.specs.Readings.{truthIn}
+use Rattle.judge.specs.Code.Readings.{truthIn}
 use Rattle.explain.specs.Operands.{wouldSettle}
 use Rattle.explain.specs.Blames.{blameAt}
 use Rattle.explain.specs.Ways.{onWay, wayOf}

@@ -1,6 +1,6 @@
 // An operand: whether it is free, and whether its value settles the operator.
 ghost use mathlib.Core.Path.{_≡_};
-ghost use Rattle.judge.specs.Readings.{truthIn};
+ghost use Rattle.judge.specs.Code.Readings.{truthIn};
 ghost use Rattle.explain.specs.Operands.{wouldSettle, stateOf, operandState};
 use ops::Op;
 use setting::number_at;

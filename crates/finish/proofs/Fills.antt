@@ -14,7 +14,7 @@ use Rattle.groups.specs.declared.groups.Written.{Written}
 use Rattle.groups.specs.Added.{andT, constantT, flat, laidFrom, laid}
 use Rattle.groups.specs.Plans.{groups, next, plans}
 use Rattle.groups.specs.Sizes.{sizes}
-use Rattle.groups.specs.Writing.{written}
+use Rattle.groups.specs.Code.Writing.{written}
 use Rattle.finish.specs.Finished.{conditionNumber, added, finished}
 use Rattle.finish.specs.Laws.{Few}
 use Rattle.finish.proofs.AddedSizes.{added-size, added-few}

@@ -19,7 +19,7 @@ use Rattle.groups.specs.declared.groups.Written.{Written}
 use Rattle.groups.specs.Added.{laidFrom, laid}
 use Rattle.groups.specs.Plans.{Plan, planOf, groups, next, plans, planAt}
 use Rattle.groups.specs.Sizes.{sizeOf, sizes}
-use Rattle.groups.specs.Writing.{conditionNumbers, Numbered, written}
+use Rattle.groups.specs.Code.Writing.{conditionNumbers, Numbered, written}
 use Rattle.groups.proofs.GroupSizes.{groups-more, groups-size, sizes-by-terms}
 use Rattle.groups.proofs.Rooms.{length-laid, laid-append}
 

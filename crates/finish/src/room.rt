@@ -8,7 +8,7 @@ ghost use Rattle.table.specs.WellFormed.{WellFormed};
 ghost use Rattle.judge.specs.Conditions.{ownMarks};
 ghost use Rattle.groups.specs.Added.{laid};
 ghost use Rattle.groups.specs.Plans.{groups, plans};
-ghost use Rattle.groups.specs.Writing.{written};
+ghost use Rattle.groups.specs.Code.Writing.{written};
 ghost use Rattle.finish.specs.Finished.{conditionNumber, finished};
 use groups::Written;
 use groups::put_and;

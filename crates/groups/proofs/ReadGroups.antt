@@ -26,7 +26,7 @@ use Rattle.groups.specs.FunctionGroups.{FunctionGroup, functionGroup, gr
 use Rattle.groups.specs.FunctionGroups.FunctionGroup.{unary, strict, conjunction, disjunction, implication, byZero, byOnes, shift}
 use Rattle.groups.specs.Groups.{variableGroup, storeGroup}
 use Rattle.groups.specs.Plans.{Plan, lastOf, taken, planBy, planIn, planOf, next, plans, planAt}
-use Rattle.groups.specs.Writing.{conditionNumbers, Numbered, after}
+use Rattle.groups.specs.Code.Writing.{conditionNumbers, Numbered, after}
 use Rattle.groups.proofs.GroupSizes.{plan-below, read-most}
 use Rattle.groups.proofs.Rooms.{laid-append}
 

@@ -28,7 +28,7 @@ use Rattle.groups.specs.FunctionGroups.{FunctionGroup, functionGroup, gr
 use Rattle.groups.specs.FunctionGroups.FunctionGroup.{unary, strict, conjunction, disjunction, implication, byZero, byOnes, shift}
 use Rattle.groups.specs.Added.{laid, laidFrom}
 use Rattle.groups.specs.Plans.{Plan, lastOf, planBy, planIn, next, plans, planAt}
-use Rattle.groups.specs.Writing.{Numbered, after, written}
+use Rattle.groups.specs.Code.Writing.{Numbered, after, written}
 use Rattle.groups.proofs.GroupSizes.{plan-below, next-more}
 use Rattle.groups.proofs.ReadGroups.{recorded}
 

@@ -3,4 +3,4 @@ pub mod Groups
 pub mod FunctionGroups
 pub mod Plans
 pub mod Sizes
-pub mod Writing
+pub mod Code

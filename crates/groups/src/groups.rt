@@ -3,7 +3,7 @@ ghost use mathlib.Core.Path.{_≡_};
 ghost use mathlib.Core.List.{[], _∷_};
 ghost use Prim.Native.Nat.{pred, _+_, _≤_, _<_};
 ghost use Rattle.groups.specs.Added.{laidFrom, laid};
-ghost use Rattle.groups.specs.Writing.{after};
+ghost use Rattle.groups.specs.Code.Writing.{after};
 ghost use Rattle.groups.specs.Groups.{strictGroup, andGroup, orGroup, impliesGroup, absorbingGroup, shiftGroup, choiceGroup, storeGroup};
 use crate::added::and_term;
 use crate::added::choice_term;

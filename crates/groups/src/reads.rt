@@ -6,7 +6,7 @@ ghost use Rattle.table.specs.WellFormed.{WellFormed};
 ghost use Rattle.judge.specs.Conditions.{ownMarks};
 ghost use Rattle.groups.specs.Added.{laid};
 ghost use Rattle.groups.specs.Plans.{planAt};
-ghost use Rattle.groups.specs.Writing.{Numbered, after};
+ghost use Rattle.groups.specs.Code.Writing.{Numbered, after};
 use crate::groups::Written;
 use crate::groups::store;
 use crate::groups::strict;

@@ -8,7 +8,7 @@ ghost use Rattle.table.specs.WellFormed.{WellFormed};
 ghost use Rattle.judge.specs.Conditions.{ownMarks};
 ghost use Rattle.groups.specs.Added.{laid};
 ghost use Rattle.groups.specs.Plans.{next, plans, planAt};
-ghost use Rattle.groups.specs.Writing.{Numbered, written};
+ghost use Rattle.groups.specs.Code.Writing.{Numbered, written};
 use crate::groups::Written;
 use crate::groups::absorbing;
 use crate::groups::choice;

@@ -14,14 +14,14 @@ use Rattle.table.specs.WellFormed.{WellFormed}
 use Rattle.setting.specs.declared.cells.Cell.{Cell}
 use Rattle.setting.specs.Cells.{lookFrom}
 use Rattle.evaluate.specs.declared.turns.Turn.{Turn}
-use Rattle.evaluate.specs.Reads.{bottomAt}
+use Rattle.evaluate.specs.Code.Reads.{bottomAt}
 use Rattle.evaluate.specs.Values.{numbers}
-use Rattle.evaluate.specs.Turns as evaluating
+use Rattle.evaluate.specs.Code.Turns as evaluating
 use Rattle.evaluate.proofs.Runs as runs
 use Rattle.evaluate.proofs.Runs.{inCells, looked, Turning}
 use Rattle.judge.specs.Conditions.{truths, ownMarks}
-use Rattle.judge.specs.Readings.{truthIn}
-use Rattle.judge.specs.Turns.{turnOf}
+use Rattle.judge.specs.Code.Readings.{truthIn}
+use Rattle.judge.specs.Code.Turns.{turnOf}
 use Rattle.judge.proofs.Meaning.{answerTo}
 
 module _ (w row front ts : List ℕ) (count n i : ℕ) where

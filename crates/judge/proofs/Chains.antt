@@ -14,10 +14,10 @@ use Rattle.table.specs.declared.words.Term.{Term}
 use Rattle.table.specs.Terms.{termAt}
 use Rattle.table.specs.Faults.{storing}
 use Rattle.table.proofs.Stacks.{Stacked, at-end, at-store}
-use Rattle.evaluate.specs.Reads.{readAt}
+use Rattle.evaluate.specs.Code.Reads.{readAt}
 use Rattle.evaluate.proofs.Chains.{read-end, read-store}
 use Rattle.judge.specs.declared.reads.Reading.{Reading}
-use Rattle.judge.specs.Readings.{truthIn, overlaid, pickedBy, storedBy, shutBy, unfreeAt, readingWithin, readingAt}
+use Rattle.judge.specs.Code.Readings.{truthIn, overlaid, pickedBy, storedBy, shutBy, unfreeAt, readingWithin, readingAt}
 
 module _ (w front truths : List ℕ) (stacked : Stacked w) (j : ℕ) (cj : Bool) (cell : ℕ) where
   abbrev over : ℕ → Reading → Reading

@@ -18,15 +18,15 @@ use Rattle.setting.specs.Cells.{lookFrom}
 use Rattle.setting.specs.Interpretation.{Interpretation}
 use Rattle.evaluate.specs.declared.turns.Turn.{Turn}
 use Rattle.evaluate.specs.Values.{valueIn, values, valueAt, numbers}
-use Rattle.evaluate.specs.Turns as evaluating
-use Rattle.evaluate.specs.Turns.{readingAt, nextRead, onward}
+use Rattle.evaluate.specs.Code.Turns as evaluating
+use Rattle.evaluate.specs.Code.Turns.{readingAt, nextRead, onward}
 use Rattle.evaluate.proofs.Folds.{length-numbers, numbers-more}
 use Rattle.evaluate.proofs.Onward.{Arrived, arrived}
 use Rattle.evaluate.proofs.Runs.{inCells, Running, Turning, at-is, inside}
 use Rattle.judge.specs.declared.reads.Reading.{Reading}
 use Rattle.judge.specs.Conditions.{plain, conditionIn, conditionOf, conditions, conditionAt, truths, ownMarks}
-use Rattle.judge.specs.Readings.{truthIn, readingOf, written, noted}
-use Rattle.judge.specs.Turns.{turnOf, turnHere}
+use Rattle.judge.specs.Code.Readings.{truthIn, readingOf, written, noted}
+use Rattle.judge.specs.Code.Turns.{turnOf, turnHere}
 use Rattle.judge.proofs.Meaning.{length-truths, answerTo, reading-is}
 use Rattle.judge.proofs.Asking.{turning, plain-asks, answer-is}
 use Rattle.judge.proofs.Rooms.{laid, laid-length, laid-front, laid-truths, laid-more, laid-none}

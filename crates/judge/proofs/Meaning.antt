@@ -23,8 +23,8 @@ use Rattle.table.specs.WellFormed.{WellFormed}
 use Rattle.table.proofs.FoldLaws.{length-map-fold, map-fold-in, map-fold-more}
 use Rattle.table.proofs.SoundTerms.{store-below}
 use Rattle.setting.specs.Interpretation.{Value, Interpretation, interpret}
-use Rattle.evaluate.specs.Reads.{bottomAt}
-use Rattle.evaluate.specs.Turns.{numberOf}
+use Rattle.evaluate.specs.Code.Reads.{bottomAt}
+use Rattle.evaluate.specs.Code.Turns.{numberOf}
 use Rattle.evaluate.specs.Values.{valueBy, valueIn, values, valueAt, numbers}
 use Rattle.evaluate.proofs.Chains.{bottom-end, bottom-on}
 use Rattle.evaluate.proofs.Folds.{value-below, number-in}
@@ -32,7 +32,7 @@ use Rattle.evaluate.proofs.Meaning.{variable-cell, same-array, reads-select, nu
 use Rattle.table.proofs.OperandSorts.{array-op, three, four, op-at, typing, typing-as, placing-as, two-placed, three-placed}
 use Rattle.judge.specs.declared.reads.Reading.{Reading}
 use Rattle.judge.specs.Conditions.{Condition, plain, storeFree, conditionBy, conditionIn, conditionOf, conditions, conditionAt, truths, ownMarks}
-use Rattle.judge.specs.Readings.{truthIn, overlaid, readingAt, readingBy, settledBy, truthOf, readingOf}
+use Rattle.judge.specs.Code.Readings.{truthIn, overlaid, readingAt, readingBy, settledBy, truthOf, readingOf}
 use Rattle.judge.proofs.Alike.{condition-below}
 use Rattle.judge.proofs.Chains.{reading-end, reading-store, reading-value, reading-unfree}
 

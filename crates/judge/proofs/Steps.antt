@@ -12,10 +12,10 @@ use Rattle.table.specs.declared.words.Term.{Term}
 use Rattle.table.specs.Terms.{termAt}
 use Rattle.table.specs.Faults.{reading, firstFrom}
 use Rattle.table.proofs.Searches.{first-on}
-use Rattle.evaluate.specs.Turns.{numberOf, onFrom, readingAt, nextRead, onward}
+use Rattle.evaluate.specs.Code.Turns.{numberOf, onFrom, readingAt, nextRead, onward}
 use Rattle.evaluate.proofs.Onward.{on-more}
 use Rattle.judge.specs.declared.reads.Reading.{Reading}
-use Rattle.judge.specs.Readings.{readingOf, written, noted}
+use Rattle.judge.specs.Code.Readings.{readingOf, written, noted}
 
 -- only a read depends on the answer
 same-reading : (w row front ts : List ℕ) (x : Term) (answer : ℕ) → reading x ≡ false → readingOf w row front ts x answer ≡ readingOf w row front ts x 0

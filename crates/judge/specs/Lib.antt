@@ -1,6 +1,5 @@
 pub mod Conditions
-pub mod Readings
-pub mod Turns
+pub mod Code
 pub mod Judgement
 pub mod Demand3
 pub mod Bench

@@ -2,7 +2,7 @@
 ghost use mathlib.Core.Path.{_≡_};
 ghost use mathlib.Core.Bool.{_&&_};
 ghost use Rattle.table.specs.WellFormed.{WellFormed};
-ghost use Rattle.judge.specs.Readings.{truthIn, overlaid, pickedBy, storedBy, shutBy, unfreeAt, readingAt};
+ghost use Rattle.judge.specs.Code.Readings.{truthIn, overlaid, pickedBy, storedBy, shutBy, unfreeAt, readingAt};
 use setting::number_at;
 use table::Term;
 

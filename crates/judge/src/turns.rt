@@ -3,7 +3,7 @@ ghost use mathlib.Core.Path.{_≡_};
 ghost use Prim.Native.Nat.{_+_, _≤_};
 ghost use lib.ListN.{length};
 ghost use Rattle.table.specs.WellFormed.{WellFormed};
-ghost use Rattle.judge.specs.Turns.{turnOf, turnHere};
+ghost use Rattle.judge.specs.Code.Turns.{turnOf, turnHere};
 use crate::reads::truth_at;
 use evaluate::Turn;
 use setting::number_at;

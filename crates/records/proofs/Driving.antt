@@ -16,11 +16,11 @@ use Rattle.setting.specs.declared.cells.Cell.{Cell}
 use Rattle.evaluate.specs.declared.Evaluation.{Evaluation}
 use Rattle.evaluate.specs.declared.turns.Turn.{Turn}
 use Rattle.evaluate.specs.Evaluation.{evaluates, readyBy}
-use Rattle.evaluate.specs.Turns.{turnOf}
+use Rattle.evaluate.specs.Code.Turns.{turnOf}
 use Rattle.evaluate.proofs.Answers.{Passed, passed}
 use Rattle.records.specs.Rows.{laid}
 use Rattle.records.specs.Answers.{ready}
-use Rattle.records.specs.Drive.{firstBy, firstTurn}
+use Rattle.records.specs.Code.Drive.{firstBy, firstTurn}
 use Rattle.records.proofs.Laid.{laid-check}
 
 -- a test's two ways

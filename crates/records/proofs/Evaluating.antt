@@ -17,12 +17,12 @@ use Rattle.evaluate.specs.declared.Evaluation.the-variants.{Evaluated, NotEvalu
 use Rattle.evaluate.specs.declared.turns.Turn.{Turn}
 use Rattle.evaluate.specs.Evaluation.{evaluates, roomIn}
 use Rattle.evaluate.specs.Values.{numbers}
-use Rattle.evaluate.specs.Turns.{turnOf, nextRead, onward, numbered}
+use Rattle.evaluate.specs.Code.Turns.{turnOf, nextRead, onward, numbered}
 use Rattle.evaluate.proofs.Runs.{count-here, going, ended}
 use Rattle.evaluate.proofs.Fills as fills
 use Rattle.records.specs.Rows.{recordAt}
 use Rattle.records.specs.Answers.{inRecords, evaluation, evaluated}
-use Rattle.records.specs.Drive.{firstTurn}
+use Rattle.records.specs.Code.Drive.{firstTurn}
 use Rattle.records.proofs.Driving as driving
 
 filled-room : (e : Evaluation) (w : List ℕ) (I : Interpretation) (room : List ℕ) → evaluates e ≡ true → numbers w I (terms w) ++ drop (terms w) room ≡ roomIn e w I room

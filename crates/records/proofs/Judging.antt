@@ -17,18 +17,18 @@ use Rattle.evaluate.specs.declared.Evaluation.the-variants.{Evaluated, NotEvalu
 use Rattle.evaluate.specs.declared.turns.Turn.{Turn}
 use Rattle.evaluate.specs.Evaluation.{evaluates}
 use Rattle.evaluate.specs.Values.{numbers}
-use Rattle.evaluate.specs.Turns.{nextRead, onward}
+use Rattle.evaluate.specs.Code.Turns.{nextRead, onward}
 use Rattle.evaluate.proofs.Runs.{count-here, going, ended}
 use Rattle.judge.specs.Conditions.{ownMarks, truths}
 use Rattle.judge.specs.Judgement.{ruleIn, ruleCondition, verdictBy, roomIn}
-use Rattle.judge.specs.Readings.{noted}
-use Rattle.judge.specs.Turns.{turnHere}
+use Rattle.judge.specs.Code.Readings.{noted}
+use Rattle.judge.specs.Code.Turns.{turnHere}
 use Rattle.judge.proofs.Fills as fills
 use Rattle.judge.proofs.Rooms.{laid-all}
 use Rattle.judge.proofs.Verdicts.{stands, rule-read, condition-read}
 use Rattle.records.specs.Rows.{recordAt}
 use Rattle.records.specs.Answers.{inRecords, ready, judgement, judged}
-use Rattle.records.specs.Drive.{firstTurn, verdictFrom}
+use Rattle.records.specs.Code.Drive.{firstTurn, verdictFrom}
 use Rattle.records.proofs.Driving as driving
 
 filled-room : (e : Evaluation) (a b : Bool) (w : List ℕ) (I : Interpretation) (room : List ℕ) → evaluates e ≡ true → numbers w I (terms w) ++ truths w ownMarks I (terms w) ++ drop (terms w * 2) room ≡ roomIn (verdictBy e a b) w I room

@@ -1,5 +1,5 @@
 pub mod Rows
 pub mod Answers
-pub mod Drive
+pub mod Code
 pub mod Laws
 pub mod Pairs

@@ -6,7 +6,7 @@ ghost use lib.ListN.{length};
 ghost use Rattle.table.specs.Terms.{terms};
 ghost use Rattle.table.specs.WellFormed.{WellFormed};
 ghost use Rattle.evaluate.specs.Evaluation.{evaluates};
-ghost use Rattle.records.specs.Drive.{firstTurn, verdictFrom};
+ghost use Rattle.records.specs.Code.Drive.{firstTurn, verdictFrom};
 use evaluate::Evaluation;
 use evaluate::Turn;
 use judge::Judgement;

@@ -54,7 +54,7 @@ use Rattle.setting.proofs.cells.Cell as T
 use Rattle.evaluate.specs.declared.Evaluation.{Evaluation}
 use Rattle.evaluate.specs.declared.turns.Turn.{Turn}
 use Rattle.evaluate.specs.Evaluation.{evaluates}
-use Rattle.evaluate.specs.Turns.{turnOf, nextRead, onward, numbered}
+use Rattle.evaluate.specs.Code.Turns.{turnOf, nextRead, onward, numbered}
 use Rattle.evaluate.proofs.Evaluation as Ev
 use Rattle.evaluate.proofs.Evaluation.Laws as Ev′
 use Rattle.evaluate.proofs.turns.Turn as U
@@ -65,7 +65,7 @@ use Rattle.evaluate.proofs.step.Symbol.{name as #step}
 use Rattle.evaluate.proofs.step.Met as step-thm
 use Rattle.records.specs.Rows.{recordAt}
 use Rattle.records.specs.Answers.{evaluation, evaluated}
-use Rattle.records.specs.Drive.{firstTurn}
+use Rattle.records.specs.Code.Drive.{firstTurn}
 use Rattle.records.proofs.Again.{LentAgain, lends-again, comes-back}
 use Rattle.records.proofs.Facts.{two, three, tells, together, big-lit}
 use Rattle.records.proofs.Driving.{taken, passed-over}

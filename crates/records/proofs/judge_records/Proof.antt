@@ -54,10 +54,10 @@ use Rattle.setting.proofs.cells.Cell as T
 use Rattle.evaluate.specs.declared.Evaluation.{Evaluation}
 use Rattle.evaluate.specs.declared.turns.Turn.{Turn}
 use Rattle.evaluate.specs.Evaluation.{evaluates}
-use Rattle.evaluate.specs.Turns.{nextRead, onward}
-use Rattle.judge.specs.Turns.{turnHere}
+use Rattle.evaluate.specs.Code.Turns.{nextRead, onward}
+use Rattle.judge.specs.Code.Turns.{turnHere}
 use Rattle.judge.specs.declared.Judgement.{Judgement}
-use Rattle.judge.specs.Readings.{noted}
+use Rattle.judge.specs.Code.Readings.{noted}
 use Rattle.evaluate.proofs.Evaluation as Ev
 use Rattle.evaluate.proofs.Evaluation.Laws as Ev′
 use Rattle.evaluate.proofs.turns.Turn as U
@@ -72,7 +72,7 @@ use Rattle.records.specs.Rows.{recordAt}
 use Rattle.records.specs.Answers as answers
 use Rattle.records.specs.Answers.{judgement, judged}
 use Rattle.records.specs.Laws.{Promise}
-use Rattle.records.specs.Drive.{firstTurn, verdictFrom}
+use Rattle.records.specs.Code.Drive.{firstTurn, verdictFrom}
 use Rattle.records.proofs.Again.{LentAgain, lends-again, comes-back}
 use Rattle.records.proofs.Facts.{two, three, tells, together}
 use Rattle.records.proofs.Driving.{taken, passed-over}

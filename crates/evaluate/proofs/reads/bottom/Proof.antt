@@ -3,7 +3,7 @@ use mathlib.Core.Path.{_≡_, refl, sym, _∙_}
 use borrow.Author.Needs.{needs}
 use borrow.Author.Tests.{not-true, not-false}
 use Rattle.table.proofs.SoundTerms.{store-below}
-use Rattle.evaluate.specs.Reads.{bottomAt}
+use Rattle.evaluate.specs.Code.Reads.{bottomAt}
 use Rattle.evaluate.proofs.Chains.{beneath, bottom-end, bottom-on}
 use Rattle.evaluate.proofs.reads.bottom.Statement.{statement}
 use Rattle.evaluate.proofs.reads.bottom.Tie as tie

@@ -1,6 +1,6 @@
 use mathlib.Core.Path.{sym, _∙_}
 use borrow.Author.Needs.{needs}
-use Rattle.evaluate.specs.Turns.{numberOf}
+use Rattle.evaluate.specs.Code.Turns.{numberOf}
 use Rattle.evaluate.proofs.Operands.{behind}
 use Rattle.evaluate.proofs.turns.number.Statement.{statement}
 use Rattle.evaluate.proofs.turns.number.Tie as tie

@@ -10,7 +10,7 @@ use borrow.Author.Needs.{needs}
 use Rattle.table.specs.declared.words.Term.{Term}
 use Rattle.table.specs.Terms.{terms, termAt}
 use Rattle.table.specs.Faults.{reading, firstFrom}
-use Rattle.evaluate.specs.Turns.{turnOf, numberOf, onFrom, readingAt, numbered}
+use Rattle.evaluate.specs.Code.Turns.{turnOf, numberOf, onFrom, readingAt, numbered}
 use Rattle.evaluate.proofs.Onward.{Going, set-out, go-on, stopped, passed}
 use Rattle.evaluate.proofs.turns.on.Statement.{statement}
 use Rattle.evaluate.proofs.turns.on.Tie as tie

@@ -7,7 +7,7 @@ use lib.Seq.{length-take-le}
 use borrow.Author.Needs.{needs}
 use Rattle.table.specs.declared.words.Term.{Term}
 use Rattle.table.specs.Terms.{terms, termAt}
-use Rattle.evaluate.specs.Turns.{numberOf, onward, numbered}
+use Rattle.evaluate.specs.Code.Turns.{numberOf, onward, numbered}
 use Rattle.evaluate.proofs.turns.step.Statement.{statement}
 use Rattle.evaluate.proofs.turns.step.Tie as tie
 

@@ -8,8 +8,8 @@ use Rattle.table.specs.declared.words.Term.{Term}
 use Rattle.table.specs.Terms.{termAt}
 use Rattle.table.specs.Faults.{reading}
 use Rattle.evaluate.specs.declared.reads.Found.{Found}
-use Rattle.evaluate.specs.Reads.{foundAt}
-use Rattle.evaluate.specs.Turns.{turnOf}
+use Rattle.evaluate.specs.Code.Reads.{foundAt}
+use Rattle.evaluate.specs.Code.Turns.{turnOf}
 use Rattle.evaluate.proofs.turns.turn_at.Statement.{statement}
 use Rattle.evaluate.proofs.turns.turn_at.Tie as tie
 

@@ -15,7 +15,7 @@ use Rattle.table.proofs.storing.Reads as storing-reads
 use Rattle.table.proofs.term_at.Reads as term-at-reads
 use Rattle.groups.specs.Added.{laid}
 use Rattle.groups.specs.Groups.{strictGroup}
-use Rattle.groups.specs.Writing.{after}
+use Rattle.groups.specs.Code.Writing.{after}
 use Rattle.groups.proofs.ReadGroups.{ends, beneath, below-most, answer-more, room-more}
 use Rattle.groups.proofs.reads.+read_group.{statement}
 use Rattle.groups.proofs.reads.+read_group.Tie.{close}

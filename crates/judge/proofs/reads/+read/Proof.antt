@@ -20,7 +20,7 @@ use Rattle.table.proofs.SoundTerms.{store-below}
 use Rattle.table.proofs.storing.Reads as storing-reads
 use Rattle.table.proofs.term_at.Reads as term-at-reads
 use Rattle.evaluate.proofs.Chains.{beneath}
-use Rattle.judge.specs.Readings.{overlaid, shutBy, readingAt}
+use Rattle.judge.specs.Code.Readings.{overlaid, shutBy, readingAt}
 use Rattle.judge.proofs.Chains.{reading-end, reading-store, overlaid-picked, reading-shut}
 use Rattle.judge.proofs.reads.+read.{statement}
 use Rattle.judge.proofs.reads.+read.Tie.{close}

@@ -1,4 +1,4 @@
-use Rattle.judge.specs.Readings.{readingOf}
+use Rattle.judge.specs.Code.Readings.{readingOf}
 use Rattle.table.specs.Terms.{terms, termAt}
 use Rattle.table.specs.declared.words.Term.{Term}
 use lib.Seq.{length-take-le}

@@ -1,9 +1,9 @@
 use mathlib.Core.Path.{sym, _∙_}
 use borrow.Author.Needs.{needs}
 use borrow.Author.Tests.{not-true, not-false}
-use Rattle.evaluate.specs.Turns.{numberOf}
+use Rattle.evaluate.specs.Code.Turns.{numberOf}
 use Rattle.evaluate.proofs.Operands.{behind}
-use Rattle.judge.specs.Readings.{readingOf}
+use Rattle.judge.specs.Code.Readings.{readingOf}
 use Rattle.judge.proofs.terms.reading_of.Statement.{statement}
 use Rattle.judge.proofs.terms.reading_of.Tie as tie
 

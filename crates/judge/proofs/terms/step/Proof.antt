@@ -8,11 +8,11 @@ use lib.Dec.{eqb}
 use lib.ListN.{length}
 use borrow.Author.Needs.{needs}
 use Rattle.table.specs.Faults.{reading, firstFrom}
-use Rattle.evaluate.specs.Turns.{onFrom}
+use Rattle.evaluate.specs.Code.Turns.{onFrom}
 use Rattle.evaluate.proofs.Onward.{Going, set-out, go-on, stopped, passed}
 use Rattle.judge.specs.declared.reads.Reading.{Reading}
-use Rattle.judge.specs.Readings.{written, noted}
-use Rattle.judge.specs.Turns.{turnHere}
+use Rattle.judge.specs.Code.Readings.{written, noted}
+use Rattle.judge.specs.Code.Turns.{turnHere}
 use Rattle.judge.proofs.Steps.{stopsAfter, step-next, step-room}
 use Rattle.judge.proofs.terms.step.Statement.{statement}
 use Rattle.judge.proofs.terms.step.Tie as tie

@@ -4,8 +4,8 @@ use borrow.Author.Needs.{needs}
 use borrow.Author.Tests.{not-true, not-false}
 use Rattle.table.specs.declared.words.Term.{Term}
 use Rattle.table.specs.Faults.{reading}
-use Rattle.judge.specs.Readings.{truthIn}
-use Rattle.judge.specs.Turns.{turnOf}
+use Rattle.judge.specs.Code.Readings.{truthIn}
+use Rattle.judge.specs.Code.Turns.{turnOf}
 use Rattle.judge.proofs.turns.turn_at.Statement.{statement}
 use Rattle.judge.proofs.turns.turn_at.Tie as tie
 

@@ -4,7 +4,7 @@ use native.Mathlib.Omega.{arith}
 use lib.ListN.{take, drop}
 use lib.Seq.{length-take-le}
 use borrow.Author.Needs.{needs}
-use Rattle.judge.specs.Turns.{turnOf}
+use Rattle.judge.specs.Code.Turns.{turnOf}
 use Rattle.judge.proofs.turns.turn_here.Statement.{statement}
 use Rattle.judge.proofs.turns.turn_here.Tie as tie
 

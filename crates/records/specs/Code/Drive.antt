@@ -8,7 +8,7 @@ use lib.ListN.{getD}
 use Rattle.ops.specs.Meaning.{holds}
 use Rattle.evaluate.specs.declared.turns.Turn.{Turn}
 use Rattle.evaluate.specs.declared.Evaluation.{Evaluation}
-use Rattle.evaluate.specs.Turns.{turnOf}
+use Rattle.evaluate.specs.Code.Turns.{turnOf}
 use Rattle.judge.specs.declared.Judgement.{Judgement}
 use Rattle.judge.specs.Judgement.{verdictBy}
 

@@ -11,8 +11,8 @@ use Rattle.ops.specs.Condition.{chosen, settles}
 use Rattle.table.specs.declared.words.Term.{Term}
 use Rattle.table.specs.Terms.{termAt, sortAt}
 use Rattle.table.specs.Faults.{variable, constant, reading, storing}
-use Rattle.evaluate.specs.Reads.{readAt}
-use Rattle.evaluate.specs.Turns.{operatedNumber, numberOf}
+use Rattle.evaluate.specs.Code.Reads.{readAt}
+use Rattle.evaluate.specs.Code.Turns.{operatedNumber, numberOf}
 use Rattle.judge.specs.declared.reads.Reading.{Reading}
 use Rattle.judge.specs.Conditions.{ownMarks}
 

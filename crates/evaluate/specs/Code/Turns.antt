@@ -12,7 +12,7 @@ use Rattle.table.specs.declared.words.Term.{Term}
 use Rattle.table.specs.Terms.{terms, termAt, sortAt, scalar}
 use Rattle.table.specs.Faults.{variable, constant, reading, firstFrom}
 use Rattle.evaluate.specs.declared.turns.Turn.{Turn}
-use Rattle.evaluate.specs.Reads.{foundAt}
+use Rattle.evaluate.specs.Code.Reads.{foundAt}
 
 -- a term that asks among no cells: the other is the answer
 abbrev pub told : Bool → ℕ → ℕ → Turn

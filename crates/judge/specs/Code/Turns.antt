@@ -8,9 +8,9 @@ use lib.ListN.{getD, take, drop}
 use Rattle.table.specs.Terms.{termAt}
 use Rattle.table.specs.Faults.{reading}
 use Rattle.evaluate.specs.declared.turns.Turn.{Turn}
-use Rattle.evaluate.specs.Reads.{bottomAt}
-use Rattle.evaluate.specs.Turns as evaluating
-use Rattle.judge.specs.Readings.{truthIn}
+use Rattle.evaluate.specs.Code.Reads.{bottomAt}
+use Rattle.evaluate.specs.Code.Turns as evaluating
+use Rattle.judge.specs.Code.Readings.{truthIn}
 
 -- a read whose index is free asks for the cell of the variable beneath it, by which its value and its truth are found along the
 -- chain; one whose index is not free has a false condition and asks for its value alone, as in evaluating, and so does any other term

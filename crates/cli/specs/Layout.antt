@@ -8,6 +8,9 @@ use lib.ListN.{getD}
 use Rattle.ops.specs.Meaning.{bit}
 use Rattle.table.specs.declared.words.Sort.{Sort}
 use Rattle.table.specs.declared.words.Term.{Term}
+use Rattle.table.specs.declared.ranks.Rank.{Rank}
+use Rattle.table.specs.declared.ranks.Rank.the-variants.{Literal, Input, BoolUnary, BoolBinary, Equality, Choice, BvUnary, BvBinary, BvCompare, Read, Write, Other}
+use Rattle.table.specs.Faults.{rank}
 
 -- the decimal digits of a number of 32 bits
 abbrev pub digitCount : ℕ → ℕ
@@ -25,9 +28,20 @@ gapAfter width used = cond (ltb used width) (width - used) 1
 abbrev pub nameWidths : List ℕ
 nameWidths = 0 ∷ 0 ∷ 3 ∷ 3 ∷ 2 ∷ 2 ∷ 1 ∷ 3 ∷ 5 ∷ 5 ∷ 4 ∷ 5 ∷ 5 ∷ 5 ∷ 5 ∷ 6 ∷ 5 ∷ []
 
--- their operands
-abbrev pub operandCounts : List ℕ
-operandCounts = 0 ∷ 0 ∷ 1 ∷ 2 ∷ 2 ∷ 2 ∷ 2 ∷ 3 ∷ 1 ∷ 2 ∷ 2 ∷ 2 ∷ 2 ∷ 2 ∷ 2 ∷ 2 ∷ 3 ∷ []
+-- how many operands the fields hold
+abbrev pub operandCount : Rank → ℕ
+operandCount Literal = 0
+operandCount Input = 0
+operandCount BoolUnary = 1
+operandCount BoolBinary = 2
+operandCount Equality = 2
+operandCount Choice = 3
+operandCount BvUnary = 1
+operandCount BvBinary = 2
+operandCount BvCompare = 2
+operandCount Read = 2
+operandCount Write = 3
+operandCount Other = 0
 
 -- an operand, as " t12"
 abbrev pub operandWidth : Bool → ℕ → ℕ
@@ -40,7 +54,7 @@ literalWidth x = cond (eqb (x .sort .n) 0) (cond (eqb (x .p) 1) 4 5) (7 + digitC
 -- "(bvadd t3 t2)"
 abbrev pub appliedWidth : Term → ℕ
 appliedWidth x =
-    let count = getD operandCounts (x .op) 0 in
+    let count = operandCount (rank x) in
     2 + getD nameWidths (x .op) 0 + operandWidth (ltb 0 count) (x .p) + operandWidth (ltb 1 count) (x .q) + operandWidth (ltb 2 count) (x .r)
 
 -- a constant, a variable ("slot 1"), or an operator with its operands

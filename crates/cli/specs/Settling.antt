@@ -1,24 +1,26 @@
--- The value that settles an operator by itself: paper 01, "The condition of each term".
+-- The value of an operand that settles an operator, as the program names it.
 -- Assumes nothing.
 use mathlib.Core.Path.{_≡_}
 use mathlib.Core.Bool.{Bool, true, false, cond, _&&_, _||_}
 use Prim.Native.Nat.{ℕ, _≤_}
-use lib.Dec.{eqb, leb}
+use lib.Dec.{ltb}
 use Rattle.ops.specs.Numbers.{opOf}
-use Rattle.ops.specs.Meaning.{bit, ones}
+use Rattle.ops.specs.Meaning.{ones}
 use Rattle.explain.specs.Operands.{wouldSettle}
 
--- vector or: all ones; shift: the width, or more; or: true; implies: its second operand true; and, vector and, product and
--- the first operand of implies: false or 0
-abbrev pub settlingValue : ℕ → Bool → ℕ → ℕ
-settlingValue op second width =
-    cond (eqb op 10 && leb width 32) (ones width) (cond (eqb op 13) width (bit (eqb op 4 || (eqb op 5 && second))))
+-- the first of 0, 1, the width n and all ones that a test is true of; all ones where it is of none
+abbrev pub firstOf : (ℕ → Bool) → ℕ → ℕ
+firstOf test n = cond (test 0) 0 (cond (test 1) 1 (cond (test n || ltb 32 n) n (ones n)))
 
--- that value of an operand settles the operator of a number
+-- of the first operand, or of the second, of the operator of a number
+abbrev pub settlingValue : ℕ → Bool → ℕ → ℕ
+settlingValue op second n = firstOf (λ v. wouldSettle (opOf op) n v second) n
+
+-- whether that value does settle it
 abbrev pub settled : ℕ → Bool → ℕ → Bool
 settled op second n = wouldSettle (opOf op) n (settlingValue op second n) second
 
--- of either operand
+-- by either operand
 abbrev pub either : ℕ → ℕ → Bool
 either op n = settled op false n && settled op true n
 

@@ -2,9 +2,12 @@
 ghost use mathlib.Core.Path.{_≡_};
 ghost use mathlib.Core.Bool.{cond};
 ghost use Prim.Native.Nat.{_-_, _≤_};
-ghost use lib.ListN.{getD};
+ghost use Rattle.ops.specs.Numbers.{opOf};
 ghost use Rattle.ops.specs.Meaning.{bit};
-ghost use Rattle.cli.specs.Layout.{digitCount, gapAfter, nameWidths, operandCounts, operandWidth, literalWidth, appliedWidth, operatorWidth, sortWidth, valueWidth};
+ghost use Rattle.table.specs.Ranks.{rankOf};
+ghost use Rattle.cli.specs.Layout.{digitCount, gapAfter, operandCount, operandWidth, literalWidth, appliedWidth, operatorWidth, sortWidth, valueWidth};
+use crate::operators::name_width;
+use table::Rank;
 use table::Sort;
 use table::Term;
 
@@ -53,22 +56,24 @@ pub fn gap(width: u64, used: u64) -> u64
     choose(used < width, pad(width, used), 1)
 }
 
-// The letters of each operator's name, by its number; none where it has no name.
-const NAMES: [u32; 17] = [0, 0, 3, 3, 2, 2, 1, 3, 5, 5, 4, 5, 5, 5, 5, 6, 5];
-
-fn name_width(op: u32) -> u32
-    ensures { λ r. ⌜ r ≡ getD nameWidths op 0 ⌝ }
-{
-    setting::number_at(&NAMES, op)
-}
-
-// How many operands an operator has, by its number.
-const COUNTS: [u32; 17] = [0, 0, 1, 2, 2, 2, 2, 3, 1, 2, 2, 2, 2, 2, 2, 2, 3];
-
+// How many operands an operator has.
 pub fn operands(op: u32) -> u32
-    ensures { λ r. ⌜ r ≡ getD operandCounts op 0 ⌝ }
+    ensures { λ r. ⌜ r ≡ operandCount (rankOf (opOf op)) ⌝ }
 {
-    setting::number_at(&COUNTS, op)
+    match table::rank_of(op) {
+        Rank::Literal => 0,
+        Rank::Input => 0,
+        Rank::BoolUnary => 1,
+        Rank::BoolBinary => 2,
+        Rank::Equality => 2,
+        Rank::Choice => 3,
+        Rank::BvUnary => 1,
+        Rank::BvBinary => 2,
+        Rank::BvCompare => 2,
+        Rank::Read => 2,
+        Rank::Write => 3,
+        Rank::Other => 0,
+    }
 }
 
 // An operand, with the space and the t before it; nothing where there is none.

@@ -1,35 +1,55 @@
 // Terms as SMT-LIB writes them.
+ghost use mathlib.Core.Path.{_≡_};
+ghost use lib.ListN.{getD};
+ghost use Rattle.cli.specs.Layout.{nameWidths};
 use crate::layout;
 use crate::print::say;
 use crate::print::say_number;
 use crate::print::say_term;
 use crate::print::say_truth;
+use ops::Function;
 use ops::Op;
 use table::Sort;
 use table::Term;
+
+// A function by its SMT-LIB name.
+fn say_function(f: Function) {
+    match f {
+        Function::Not => say(b"not"),
+        Function::And => say(b"and"),
+        Function::Or => say(b"or"),
+        Function::Implies => say(b"=>"),
+        Function::Equal => say(b"="),
+        Function::BvNot => say(b"bvnot"),
+        Function::BvAnd => say(b"bvand"),
+        Function::BvOr => say(b"bvor"),
+        Function::BvAdd => say(b"bvadd"),
+        Function::BvMul => say(b"bvmul"),
+        Function::BvShl => say(b"bvshl"),
+        Function::BvUlt => say(b"bvult"),
+    }
+}
 
 // An operator by its SMT-LIB name; constants, variables and unknown numbers have none.
 pub fn say_name(op: u32) {
     match ops::op_of(op) {
         Op::Constant => (),
         Op::Variable => (),
-        Op::Not => say(b"not"),
-        Op::And => say(b"and"),
-        Op::Or => say(b"or"),
-        Op::Implies => say(b"=>"),
-        Op::Equal => say(b"="),
+        Op::Apply(f) => say_function(f),
         Op::Ite => say(b"ite"),
-        Op::BvNot => say(b"bvnot"),
-        Op::BvAnd => say(b"bvand"),
-        Op::BvOr => say(b"bvor"),
-        Op::BvAdd => say(b"bvadd"),
-        Op::BvMul => say(b"bvmul"),
-        Op::BvShl => say(b"bvshl"),
-        Op::BvUlt => say(b"bvult"),
         Op::Select => say(b"select"),
         Op::Store => say(b"store"),
         Op::Unknown => (),
     }
+}
+
+// How many letters the names have, by the operators' numbers; none where there is no name.
+const NAMES: [u32; 17] = [0, 0, 3, 3, 2, 2, 1, 3, 5, 5, 4, 5, 5, 5, 5, 6, 5];
+
+pub fn name_width(op: u32) -> u32
+    ensures { λ r. ⌜ r ≡ getD nameWidths op 0 ⌝ }
+{
+    setting::number_at(&NAMES, op)
 }
 
 fn say_operand(there: bool, k: u32) {

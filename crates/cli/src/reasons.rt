@@ -1,6 +1,7 @@
 // Why a term is not free: which operand is not, and what would have settled the term all the same.
 ghost use mathlib.Core.Path.{_≡_};
-ghost use Rattle.cli.specs.Settling.{settlingValue};
+ghost use Rattle.cli.specs.Settling.{settlingValue, settled};
+use crate::layout;
 use crate::operators::say_name;
 use crate::operators::say_operator;
 use crate::print::say;
@@ -23,26 +24,42 @@ fn say_unfree(blame: Blame) {
     }
 }
 
-// The value of the first or second operand that settles an operator; of a shift the least.
+// The value of the first or second operand that settles an operator, the least that does.
 fn settling(op: u32, second: bool, width: u32) -> u32
     ensures { λ r. ⌜ r ≡ settlingValue op second width ⌝ }
 {
-    if (op == 10) & (width <= 32) {
-        return ops::ones(width);
+    let f = ops::op_of(op);
+    if explain::would_settle(f, width, 0, second) {
+        return 0;
     }
-    ops::ite(op == 13, width, ops::bit((op == 4) | ((op == 5) & second)))
+    if explain::would_settle(f, width, 1, second) {
+        return 1;
+    }
+    if explain::would_settle(f, width, width, second) | (32 < width) {
+        return width;
+    }
+    ops::ones(width)
+}
+
+// Whether any does.
+fn settled(op: u32, second: bool, width: u32) -> bool
+    ensures { λ r. ⌜ r ≡ settled op second width ⌝ }
+{
+    explain::would_settle(ops::op_of(op), width, settling(op, second, width), second)
 }
 
 fn say_settling(x: Term, second: bool, width: u32) {
-    say_value((2 < x.op) & (x.op < 6), settling(x.op, second, width));
-    if x.op == 13 {
+    let value = settling(x.op, second, width);
+    say_value(width == 0, value);
+    let above = std::num::wrapping_add_u32(value, 1);
+    if explain::would_settle(ops::op_of(x.op), width, above, second) {
         say(b" or more");
     }
 }
 
 // What an operand would have done.
 fn say_operand(x: Term, second: bool, width: u32, k: u32, value: u32, state: Operand) {
-    let boolean = (2 < x.op) & (x.op < 6);
+    let boolean = width == 0;
     say_of(b"    ", k, b" is ");
     match state {
         Operand::Settles => say_value(boolean, value),
@@ -69,11 +86,11 @@ fn say_operand(x: Term, second: bool, width: u32, k: u32, value: u32, state: Ope
     say(b".\n");
 }
 
-// What each operand of an operator with two would have done. No value of a shift's first operand settles it. One that is both is
-// told once, but for an implication, which its two sides settle by different values.
-fn say_operands(table: &[u32], values: &[u32], truths: &[u32], x: Term) {
-    let width = table::sort_at(table, x.p).n;
-    if (x.op != 13) & ((x.p != x.q) | (x.op == 5)) {
+// What each operand that a value settles by would have done. One that is both is told once, but where its two sides settle by
+// different values, as those of an implication do.
+fn say_operands(table: &[u32], values: &[u32], truths: &[u32], x: Term, width: u32) {
+    let twice = settling(x.op, false, width) != settling(x.op, true, width);
+    if settled(x.op, false, width) & ((x.p != x.q) | twice) {
         let first = explain::operand_state(table, values, truths, x, false);
         say_operand(x, false, width, x.p, number_at(values, x.p), first);
     }
@@ -81,17 +98,18 @@ fn say_operands(table: &[u32], values: &[u32], truths: &[u32], x: Term) {
     say_operand(x, true, width, x.q, number_at(values, x.q), second);
 }
 
-// An operator on numbers.
-fn say_operation(table: &[u32], values: &[u32], truths: &[u32], x: Term, blame: Blame) {
+// A function.
+fn say_function(table: &[u32], values: &[u32], truths: &[u32], x: Term, blame: Blame) {
     say_unfree(blame);
-    if (x.op == 2) | (x.op == 8) {
+    let width = table::sort_at(table, x.p).n;
+    if layout::operands(x.op) == 1 {
         say(b"    A free operand would have settled it.\n");
-    } else if (x.op == 6) | (x.op == 11) | (x.op == 14) {
+    } else if settled(x.op, false, width) | settled(x.op, true, width) {
+        say_operands(table, values, truths, x, width);
+    } else {
         say(b"    No value of one operand settles ");
         say_name(x.op);
         say(b": both must be free.\n");
-    } else {
-        say_operands(table, values, truths, x);
     }
 }
 
@@ -172,6 +190,6 @@ pub fn say_reason(table: &[u32], values: &[u32], truths: &[u32], k: u32) {
     } else if x.op == 15 {
         say_read(table, values, truths, x);
     } else {
-        say_operation(table, values, truths, x, blame);
+        say_function(table, values, truths, x, blame);
     }
 }

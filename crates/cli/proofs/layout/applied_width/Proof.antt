@@ -3,7 +3,6 @@ use Rattle.cli.proofs.layout.applied_width.Statement.{statement}
 use Rattle.cli.proofs.layout.applied_width.Tie as tie
 use Rattle.cli.proofs.layout.applied_width.Reads as reads
 use Rattle.cli.proofs.layout.applied_width.Lts as lts
-use Rattle.cli.proofs.layout.name_width.Reads as name-width-reads
 use Rattle.cli.proofs.layout.operand_width.Reads as operand-width-reads
 use Rattle.cli.proofs.layout.operands.Reads as operands-reads
 

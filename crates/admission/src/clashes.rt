@@ -23,9 +23,9 @@ fn claims(x: Term) -> bool
     variable(x) & (x.p <= 255)
 }
 
-// The first variable that clashes with an earlier one, else the count of terms. Of the earlier variables the first of each
-// slot is kept: those after it have its sort and mark, or the search would have ended. No two that are kept have one slot,
-// so 256 places are enough.
+// The first variable that clashes with an earlier one, else the count of terms. Of the earlier variables the first of
+// each slot is kept: those after it have its sort and mark, or the search would have ended. No two that are kept have
+// one slot, so 256 places are enough.
 pub fn first_clash(table: &[u32], terms: u32) -> u32
     requires { ⌜ terms * words ≤ length (now table) ⌝ }
     ensures { λ r. ⌜ r ≡ firstClash (now (table .entry)) terms ⌝ }

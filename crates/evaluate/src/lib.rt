@@ -73,7 +73,8 @@ pub fn ready(
 ) -> Evaluation
     requires { ⌜ limit ≤ 80000 ⌝ }
     requires { ⌜ each ≤ 8 ⌝ }
-    ensures { λ r. ⌜ r ≡ ready limit (now (table .entry)) (now (values .entry)) (now (cells .entry)) each allowance room ⌝ }
+    ensures { λ r. ⌜ r
+        ≡ ready limit (now (table .entry)) (now (values .entry)) (now (cells .entry)) each allowance room ⌝ }
 {
     let nothing = Evaluation::Evaluated(Spent { steps: 0, left: 0 });
     let admitted = admission::admit_within(table, limit);
@@ -95,8 +96,10 @@ pub fn evaluate(
     allowance: u64,
     work: &mut [u32],
 ) -> Evaluation
-    ensures { λ r. ⌜ r ≡ evaluation (now (table .entry)) (now (values .entry)) (now (cells .entry)) allowance (length (now (work .entry))) ⌝ }
-    ensures { λ r. ⌜ now (work .exit) ≡ roomAfter r (now (table .entry)) (now (values .entry)) (now (cells .entry)) (now (work .entry)) ⌝ }
+    ensures { λ r. ⌜ r ≡ evaluation (now (table .entry)) (now (values .entry)) (now (cells .entry)) allowance
+        (length (now (work .entry))) ⌝ }
+    ensures { λ r. ⌜ now (work .exit)
+        ≡ roomAfter r (now (table .entry)) (now (values .entry)) (now (cells .entry)) (now (work .entry)) ⌝ }
 {
     let answer = ready(table, 80000, values, cells, 1, allowance, work.len());
     if evaluates(answer) {

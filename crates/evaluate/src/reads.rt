@@ -10,8 +10,8 @@ pub struct Found {
     pub number: u32,
 }
 
-// What the array term a holds at index j, the outermost store first; where its index differs, the same question goes to the
-// array beneath.
+// What the array term a holds at index j, the outermost store first; where its index differs, the same question goes
+// to the array beneath.
 pub fn find(table: &[u32], front: &[u32], a: u32, j: u32) -> Found
     requires { ⌜ WellFormed 80000 (now table) ⌝ }
     ensures { λ r. ⌜ r ≡ foundAt (now (table .entry)) (now (front .entry)) a j ⌝ }

@@ -15,7 +15,9 @@ use crate::turns::turn_at;
 pub fn fill(table: &[u32], values: &[u32], cells: &[u32], work: &mut [u32])
     requires { ⌜ WellFormed 80000 (now table) ⌝ }
     requires { ⌜ terms (now table) ≤ length (now work) ⌝ }
-    ensures { λ _. ⌜ now (work .exit) ≡ numbers (now (table .entry)) (interpret (now (values .entry)) (look (now (cells .entry)))) (terms (now (table .entry))) ++ drop (terms (now (table .entry))) (now (work .entry)) ⌝ }
+    ensures { λ _. ⌜ now (work .exit)
+        ≡ numbers (now (table .entry)) (interpret (now (values .entry)) (look (now (cells .entry))))
+        (terms (now (table .entry))) ++ drop (terms (now (table .entry))) (now (work .entry)) ⌝ }
 {
     let terms = table::count(table);
     let count = cells.len() / 3;

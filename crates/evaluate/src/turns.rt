@@ -4,7 +4,8 @@ ghost use Prim.Native.Nat.{_+_, _≤_, _<_};
 ghost use lib.ListN.{length, take};
 ghost use Rattle.table.specs.Terms as tables;
 ghost use Rattle.table.specs.WellFormed.{WellFormed};
-ghost use Rattle.evaluate.specs.Code.Turns.{told, turnOf, Next, Behind, variableNumber, operatedNumber, numberOf, nextRead, onward, numbered};
+ghost use Rattle.evaluate.specs.Code.Turns.{told, turnOf, Next, Behind, variableNumber, operatedNumber};
+ghost use Rattle.evaluate.specs.Code.Turns.{numberOf, nextRead, onward, numbered};
 use crate::reads::find;
 use setting::number_at;
 use table::Term;
@@ -117,8 +118,12 @@ pub fn on(
     requires { ⌜ WellFormed 80000 (now table) ⌝ }
     requires { ⌜ terms ≡ tables.terms (now table) ⌝ }
     requires { ⌜ (at ≤ terms) × (terms ≤ length (now work)) ⌝ }
-    ensures { λ r. ⌜ r ≡ turnOf (now (table .entry)) (now (values .entry)) count terms (take (nextRead (now (table .entry)) terms at) (now (work .exit))) (nextRead (now (table .entry)) terms at) ⌝ }
-    ensures { λ r. ⌜ now (work .exit) ≡ onward (now (table .entry)) (numbered (now (table .entry)) (now (values .entry)) 0) terms (now (work .entry)) at ⌝ }
+    ensures { λ r. ⌜ r ≡ turnOf (now (table .entry)) (now (values .entry)) count terms
+        (take (nextRead (now (table .entry)) terms at) (now (work .exit)))
+        (nextRead (now (table .entry)) terms at) ⌝ }
+    ensures { λ r. ⌜ now (work .exit)
+        ≡ onward (now (table .entry)) (numbered (now (table .entry)) (now (values .entry)) 0) terms
+        (now (work .entry)) at ⌝ }
 {
     let mut i = at;
     while i < terms {
@@ -148,8 +153,12 @@ pub fn step(
     requires { ⌜ WellFormed 80000 (now table) ⌝ }
     requires { ⌜ terms ≡ tables.terms (now table) ⌝ }
     requires { ⌜ (turn .at < terms) × (terms ≤ length (now work)) ⌝ }
-    ensures { λ r. ⌜ r ≡ turnOf (now (table .entry)) (now (values .entry)) count terms (take (nextRead (now (table .entry)) terms (turn .at + 1)) (now (work .exit))) (nextRead (now (table .entry)) terms (turn .at + 1)) ⌝ }
-    ensures { λ r. ⌜ now (work .exit) ≡ onward (now (table .entry)) (numbered (now (table .entry)) (now (values .entry)) 0) terms (numbered (now (table .entry)) (now (values .entry)) answer (now (work .entry)) (turn .at)) (turn .at + 1) ⌝ }
+    ensures { λ r. ⌜ r ≡ turnOf (now (table .entry)) (now (values .entry)) count terms
+        (take (nextRead (now (table .entry)) terms (turn .at + 1)) (now (work .exit)))
+        (nextRead (now (table .entry)) terms (turn .at + 1)) ⌝ }
+    ensures { λ r. ⌜ now (work .exit)
+        ≡ onward (now (table .entry)) (numbered (now (table .entry)) (now (values .entry)) 0) terms (numbered
+        (now (table .entry)) (now (values .entry)) answer (now (work .entry)) (turn .at)) (turn .at + 1) ⌝ }
 {
     let i = turn.at;
     let at = i as usize;

@@ -6,7 +6,8 @@ pub struct Held {
     pub term: u32,
 }
 
-// The index of a store, which is not free; the value that a store holds at the read's index; the array at the chain's end.
+// The index of a store, which is not free; the value that a store holds at the read's index; the array at the chain's
+// end.
 pub enum Culprit {
     Index(Held),
     Stored(Held),

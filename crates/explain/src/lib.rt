@@ -1,5 +1,5 @@
-// Why a condition is false: the terms, from the rule down, that are not free. Free is truth 1. Every routine takes a table and
-// the two halves of the room that judging leaves, the terms' values and truths.
+// Why a condition is false: the terms, from the rule down, that are not free. Free is truth 1. Every routine takes a
+// table and the two halves of the room that judging leaves, the terms' values and truths.
 mod answers; // what is answered of a read and of a term
 mod blames; // the operands that a term's condition fails by
 mod chains; // a read's culprit along its chain of stores

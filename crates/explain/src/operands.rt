@@ -21,7 +21,8 @@ pub fn free_at(truths: &[u32], k: u32) -> bool
     number_at(truths, k) == 1
 }
 
-// Whether value x of the first operand, or of the second, settles an operator with only that operand free, at the first operand's width n.
+// Whether value x of the first operand, or of the second, settles an operator with only that operand free, at the
+// first operand's width n.
 pub fn would_settle(op: Op, n: u32, x: u32, second: bool) -> bool
     ensures { λ r. ⌜ r ≡ wouldSettle op n x second ⌝ }
 {

@@ -35,7 +35,8 @@ fn mark_blamed(marks: &mut [u32; 512], on: bool, b: Blame)
 
 // Marks what term k blames, where it is on the way.
 fn look_at(table: &[u32], values: &[u32], truths: &[u32], k: u32, marks: &mut [u32; 512])
-    ensures { λ _. ⌜ now (marks .exit) ≡ lookedAt (now (table .entry)) (now (values .entry)) (now (truths .entry)) k (now (marks .entry)) ⌝ }
+    ensures { λ _. ⌜ now (marks .exit)
+        ≡ lookedAt (now (table .entry)) (now (values .entry)) (now (truths .entry)) k (now (marks .entry)) ⌝ }
 {
     let on = on_way(marks, k);
     mark_blamed(marks, on, blame(table, values, truths, k));
@@ -47,8 +48,8 @@ fn before(k: u32) -> u32
     if k == 0 { 0 } else { k - 1 }
 }
 
-// 1 for each term on the way down, 0 else: the last of so many terms, where it is not free; and what each term on the way
-// blames. Terms past 511 are not marked.
+// 1 for each term on the way down, 0 else: the last of so many terms, where it is not free; and what each term on the
+// way blames. Terms past 511 are not marked.
 pub fn way(table: &[u32], values: &[u32], truths: &[u32], terms: u32) -> [u32; 512]
     ensures { λ r. ⌜ r ≡ wayOf (now (table .entry)) (now (values .entry)) (now (truths .entry)) terms ⌝ }
 {

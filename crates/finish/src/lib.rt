@@ -32,10 +32,11 @@ fn and_then(a: Admission, rest: Finishing) -> Finishing
     }
 }
 
-// Finishes a table: the front of room holds the n terms; T; F; the groups in ascending term order; and(rule, C(rule)).
-// The first two clauses say what is answered and what the room holds. The third is of what was written, where nothing is refused: how
-// many terms at most; that evaluate admits it; that it refuses just the settings that are refused for the table, and 22 and 23; and that
-// what it leaves in its work room, in a setting that judge does not refuse, is judge's rule and condition, and last their conjunction.
+// Finishes a table: the front of room holds the n terms; T; F; the groups in ascending term order; and(rule,
+// C(rule)). The first two clauses say what is answered and what the room holds. The third is of what was written,
+// where nothing is refused: how many terms at most; that evaluate admits it; that it refuses just the settings that
+// are refused for the table, and 22 and 23; and that what it leaves in its work room, in a setting that judge does
+// not refuse, is judge's rule and condition, and last their conjunction.
 pub fn finish(table: &[u32], room: &mut [u32]) -> Finishing
     ensures { λ r. ⌜ r ≡ finishing (now (table .entry)) (length (now (room .entry))) ⌝ }
     ensures { λ r. ⌜ now (room .exit) ≡ roomAfter r (now (table .entry)) (now (room .entry)) ⌝ }

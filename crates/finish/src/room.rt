@@ -29,7 +29,9 @@ fn copy(table: &[u32], room: &mut [u32])
 fn write_groups(table: &[u32], room: &mut [u32]) -> Written
     requires { ⌜ WellFormed 512 (now table) ⌝ }
     ensures { λ r. ⌜ r ≡ written (now (table .entry)) (pred (terms (now (table .entry)))) ⌝ }
-    ensures { λ r. ⌜ now (room .exit) ≡ laid (now (room .entry)) (terms (now (table .entry)) + 2) (groups (plans (now (table .entry)) ownMarks (terms (now (table .entry))))) ⌝ }
+    ensures { λ r. ⌜ now (room .exit)
+        ≡ laid (now (room .entry)) (terms (now (table .entry)) + 2)
+        (groups (plans (now (table .entry)) ownMarks (terms (now (table .entry))))) ⌝ }
 {
     let terms = table::count(table);
     let mut conditions = [0u32; 512];
@@ -50,7 +52,8 @@ pub fn fill(table: &[u32], room: &mut [u32]) -> u32
     requires { ⌜ WellFormed 512 (now table) ⌝ }
     requires { ⌜ terms (finished (now table)) * words ≤ length (now room) ⌝ }
     ensures { λ r. ⌜ r ≡ conditionNumber (now (table .entry)) (pred (terms (now (table .entry)))) ⌝ }
-    ensures { λ r. ⌜ now (room .exit) ≡ finished (now (table .entry)) ++ drop (length (finished (now (table .entry)))) (now (room .entry)) ⌝ }
+    ensures { λ r. ⌜ now (room .exit)
+        ≡ finished (now (table .entry)) ++ drop (length (finished (now (table .entry)))) (now (room .entry)) ⌝ }
 {
     let terms = table::count(table);
     copy(table, room);

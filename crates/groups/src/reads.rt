@@ -26,7 +26,8 @@ pub fn read_group(
     requires { ⌜ Numbered (now table) (now conditions) ⌝ }
     requires { ⌜ (a < length (now conditions)) × (b ≤ 79000) ⌝ }
     ensures { λ r. ⌜ r ≡ after b (planAt (now (table .entry)) ownMarks a .readGroup b j cj) ⌝ }
-    ensures { λ r. ⌜ now (room .exit) ≡ laid (now (room .entry)) b (planAt (now (table .entry)) ownMarks a .readGroup b j cj) ⌝ }
+    ensures { λ r. ⌜ now (room .exit)
+        ≡ laid (now (room .entry)) b (planAt (now (table .entry)) ownMarks a .readGroup b j cj) ⌝ }
 {
     let x = table::term_at(table, a);
     if !table::storing(x) {

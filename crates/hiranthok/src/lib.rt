@@ -1,5 +1,5 @@
-// The C interface: each function answers 0, or the refusal's number with its place in answer[0] and the rest of answer 0.
-// include/hiranthok.h declares them.
+// The C interface: each function answers 0, or the refusal's number with its place in answer[0] and the rest of
+// answer 0. include/hiranthok.h declares them.
 mod replies; // the library's answers as C's
 
 use records::Cell;
@@ -34,10 +34,15 @@ pub extern "C" fn hiranthok_admit(table: &[u32], answer: &mut [u64; 4]) -> u32
 #[no_mangle]
 pub extern "C" fn hiranthok_finish(table: &[u32], room: &mut [u32], answer: &mut [u64; 4]) -> u32
     ensures { λ r. ⌜ r ≡ finished (finishing (now (table .entry)) (length (now (room .entry)))) .number ⌝ }
-    ensures { λ r. ⌜ now (answer .exit) ≡ row (finished (finishing (now (table .entry)) (length (now (room .entry))))) ⌝ }
-    ensures { λ r. ⌜ now (room .exit) ≡ finishes.roomAfter (finishing (now (table .entry)) (length (now (room .entry)))) (now (table .entry)) (now (room .entry)) ⌝ }
-    ensures { λ r. ⌜ finishes-laws.Promise (now (table .entry)) (now (room .exit)) (finishing (now (table .entry)) (length (now (room .entry)))) ⌝ }
-    ensures { λ r. ⌜ RecordPromise (now (table .entry)) (now (room .exit)) (finishing (now (table .entry)) (length (now (room .entry)))) ⌝ }
+    ensures { λ r. ⌜ now (answer .exit)
+        ≡ row (finished (finishing (now (table .entry)) (length (now (room .entry))))) ⌝ }
+    ensures { λ r. ⌜ now (room .exit)
+        ≡ finishes.roomAfter (finishing (now (table .entry)) (length (now (room .entry)))) (now (table .entry))
+        (now (room .entry)) ⌝ }
+    ensures { λ r. ⌜ finishes-laws.Promise (now (table .entry)) (now (room .exit))
+        (finishing (now (table .entry)) (length (now (room .entry)))) ⌝ }
+    ensures { λ r. ⌜ RecordPromise (now (table .entry)) (now (room .exit))
+        (finishing (now (table .entry)) (length (now (room .entry)))) ⌝ }
 {
     deliver(replies::finished(finish::finish(table, room)), answer)
 }
@@ -52,9 +57,15 @@ pub extern "C" fn hiranthok_evaluate(
     work: &mut [u32],
     answer: &mut [u64; 4],
 ) -> u32
-    ensures { λ r. ⌜ r ≡ evaluated (evaluation (now (table .entry)) (now (values .entry)) (now (cells .entry)) allowance (length (now (work .entry)))) .number ⌝ }
-    ensures { λ r. ⌜ now (answer .exit) ≡ row (evaluated (evaluation (now (table .entry)) (now (values .entry)) (now (cells .entry)) allowance (length (now (work .entry))))) ⌝ }
-    ensures { λ r. ⌜ now (work .exit) ≡ evaluates.roomAfter (evaluation (now (table .entry)) (now (values .entry)) (now (cells .entry)) allowance (length (now (work .entry)))) (now (table .entry)) (now (values .entry)) (now (cells .entry)) (now (work .entry)) ⌝ }
+    ensures { λ r. ⌜ r ≡ evaluated (evaluation (now (table .entry)) (now (values .entry)) (now (cells .entry))
+        allowance (length (now (work .entry)))) .number ⌝ }
+    ensures { λ r. ⌜ now (answer .exit)
+        ≡ row (evaluated (evaluation (now (table .entry)) (now (values .entry)) (now (cells .entry)) allowance
+        (length (now (work .entry))))) ⌝ }
+    ensures { λ r. ⌜ now (work .exit)
+        ≡ evaluates.roomAfter (evaluation (now (table .entry)) (now (values .entry)) (now (cells .entry)) allowance
+        (length (now (work .entry)))) (now (table .entry)) (now (values .entry)) (now (cells .entry))
+        (now (work .entry)) ⌝ }
 {
     answer_evaluated(
         evaluate::evaluate(table, values, cells, allowance, work),
@@ -72,11 +83,20 @@ pub extern "C" fn hiranthok_judge(
     work: &mut [u32],
     answer: &mut [u64; 4],
 ) -> u32
-    ensures { λ r. ⌜ r ≡ judged (judgement (now (table .entry)) (now (values .entry)) (now (cells .entry)) allowance (length (now (work .entry)))) .number ⌝ }
-    ensures { λ r. ⌜ now (answer .exit) ≡ row (judged (judgement (now (table .entry)) (now (values .entry)) (now (cells .entry)) allowance (length (now (work .entry))))) ⌝ }
-    ensures { λ r. ⌜ now (work .exit) ≡ judges.roomAfter (judgement (now (table .entry)) (now (values .entry)) (now (cells .entry)) allowance (length (now (work .entry)))) (now (table .entry)) (now (values .entry)) (now (cells .entry)) (now (work .entry)) ⌝ }
-    ensures { λ r. ⌜ judges-laws.Promise (now (table .entry)) (now (values .entry)) (now (cells .entry)) (judgement (now (table .entry)) (now (values .entry)) (now (cells .entry)) allowance (length (now (work .entry)))) ⌝ }
-    ensures { λ r. ⌜ recorded-laws.FlatPromise (now (table .entry)) (now (values .entry)) (now (cells .entry)) (judgement (now (table .entry)) (now (values .entry)) (now (cells .entry)) allowance (length (now (work .entry)))) ⌝ }
+    ensures { λ r. ⌜ r ≡ judged (judgement (now (table .entry)) (now (values .entry)) (now (cells .entry)) allowance
+        (length (now (work .entry)))) .number ⌝ }
+    ensures { λ r. ⌜ now (answer .exit)
+        ≡ row (judged (judgement (now (table .entry)) (now (values .entry)) (now (cells .entry)) allowance
+        (length (now (work .entry))))) ⌝ }
+    ensures { λ r. ⌜ now (work .exit)
+        ≡ judges.roomAfter (judgement (now (table .entry)) (now (values .entry)) (now (cells .entry)) allowance
+        (length (now (work .entry)))) (now (table .entry)) (now (values .entry)) (now (cells .entry))
+        (now (work .entry)) ⌝ }
+    ensures { λ r. ⌜ judges-laws.Promise (now (table .entry)) (now (values .entry)) (now (cells .entry)) (judgement
+        (now (table .entry)) (now (values .entry)) (now (cells .entry)) allowance (length (now (work .entry)))) ⌝ }
+    ensures { λ r. ⌜ recorded-laws.FlatPromise (now (table .entry)) (now (values .entry)) (now (cells .entry))
+        (judgement (now (table .entry)) (now (values .entry)) (now (cells .entry)) allowance
+        (length (now (work .entry)))) ⌝ }
 {
     answer_judged(judge::judge(table, values, cells, allowance, work), answer)
 }
@@ -91,9 +111,15 @@ pub extern "C" fn hiranthok_evaluate_records(
     work: &mut [u32],
     answer: &mut [u64; 4],
 ) -> u32
-    ensures { λ r. ⌜ r ≡ evaluated (recorded.evaluation (now (table .entry)) (now (values .entry)) (now (cells .entry)) allowance (length (now (work .entry)))) .number ⌝ }
-    ensures { λ r. ⌜ now (answer .exit) ≡ row (evaluated (recorded.evaluation (now (table .entry)) (now (values .entry)) (now (cells .entry)) allowance (length (now (work .entry))))) ⌝ }
-    ensures { λ r. ⌜ now (work .exit) ≡ recorded.evaluated (recorded.evaluation (now (table .entry)) (now (values .entry)) (now (cells .entry)) allowance (length (now (work .entry)))) (now (table .entry)) (now (values .entry)) (now (cells .entry)) (now (work .entry)) ⌝ }
+    ensures { λ r. ⌜ r ≡ evaluated (recorded.evaluation (now (table .entry)) (now (values .entry))
+        (now (cells .entry)) allowance (length (now (work .entry)))) .number ⌝ }
+    ensures { λ r. ⌜ now (answer .exit)
+        ≡ row (evaluated (recorded.evaluation (now (table .entry)) (now (values .entry)) (now (cells .entry))
+        allowance (length (now (work .entry))))) ⌝ }
+    ensures { λ r. ⌜ now (work .exit)
+        ≡ recorded.evaluated (recorded.evaluation (now (table .entry)) (now (values .entry)) (now (cells .entry))
+        allowance (length (now (work .entry)))) (now (table .entry)) (now (values .entry)) (now (cells .entry))
+        (now (work .entry)) ⌝ }
 {
     let evaluation = records::evaluate_records(table, values, cells, allowance, work);
     answer_evaluated(evaluation, answer)
@@ -109,10 +135,18 @@ pub extern "C" fn hiranthok_judge_records(
     work: &mut [u32],
     answer: &mut [u64; 4],
 ) -> u32
-    ensures { λ r. ⌜ r ≡ judged (recorded.judgement (now (table .entry)) (now (values .entry)) (now (cells .entry)) allowance (length (now (work .entry)))) .number ⌝ }
-    ensures { λ r. ⌜ now (answer .exit) ≡ row (judged (recorded.judgement (now (table .entry)) (now (values .entry)) (now (cells .entry)) allowance (length (now (work .entry))))) ⌝ }
-    ensures { λ r. ⌜ now (work .exit) ≡ recorded.judged (recorded.judgement (now (table .entry)) (now (values .entry)) (now (cells .entry)) allowance (length (now (work .entry)))) (now (table .entry)) (now (values .entry)) (now (cells .entry)) (now (work .entry)) ⌝ }
-    ensures { λ r. ⌜ recorded-laws.Promise (now (table .entry)) (now (values .entry)) (now (cells .entry)) (recorded.judgement (now (table .entry)) (now (values .entry)) (now (cells .entry)) allowance (length (now (work .entry)))) ⌝ }
+    ensures { λ r. ⌜ r ≡ judged (recorded.judgement (now (table .entry)) (now (values .entry)) (now (cells .entry))
+        allowance (length (now (work .entry)))) .number ⌝ }
+    ensures { λ r. ⌜ now (answer .exit)
+        ≡ row (judged (recorded.judgement (now (table .entry)) (now (values .entry)) (now (cells .entry)) allowance
+        (length (now (work .entry))))) ⌝ }
+    ensures { λ r. ⌜ now (work .exit)
+        ≡ recorded.judged (recorded.judgement (now (table .entry)) (now (values .entry)) (now (cells .entry))
+        allowance (length (now (work .entry)))) (now (table .entry)) (now (values .entry)) (now (cells .entry))
+        (now (work .entry)) ⌝ }
+    ensures { λ r. ⌜ recorded-laws.Promise (now (table .entry)) (now (values .entry)) (now (cells .entry))
+        (recorded.judgement (now (table .entry)) (now (values .entry)) (now (cells .entry)) allowance
+        (length (now (work .entry)))) ⌝ }
 {
     let judgement = records::judge_records(table, values, cells, allowance, work);
     answer_judged(judgement, answer)

@@ -48,11 +48,12 @@ pub fn passes(v: Verdict) -> bool
     v.rule & v.condition
 }
 
-// Judges a setting: rule and condition, steps and allowance left. The front of work holds the n values, then the n truths.
-// The first two clauses say what is answered and what the room holds. The third is demand 3 of this call, where it is not refused:
-// (a) every other judgement of this table that is not refused, in a setting that agrees on the unmarked inputs, whatever its rows, its
-// allowance and its room, has this condition and these steps, and where the condition is true this rule; (b) where the setting passes,
-// the rule's value is true in every fitting interpretation that agrees with the setting on the unmarked inputs.
+// Judges a setting: rule and condition, steps and allowance left. The front of work holds the n values, then the n
+// truths. The first two clauses say what is answered and what the room holds. The third is demand 3 of this call,
+// where it is not refused: (a) every other judgement of this table that is not refused, in a setting that agrees on
+// the unmarked inputs, whatever its rows, its allowance and its room, has this condition and these steps, and where
+// the condition is true this rule; (b) where the setting passes, the rule's value is true in every fitting
+// interpretation that agrees with the setting on the unmarked inputs.
 pub fn judge(
     table: &[u32],
     values: &[u32],
@@ -60,8 +61,10 @@ pub fn judge(
     allowance: u64,
     work: &mut [u32],
 ) -> Judgement
-    ensures { λ r. ⌜ r ≡ judgement (now (table .entry)) (now (values .entry)) (now (cells .entry)) allowance (length (now (work .entry))) ⌝ }
-    ensures { λ r. ⌜ now (work .exit) ≡ roomAfter r (now (table .entry)) (now (values .entry)) (now (cells .entry)) (now (work .entry)) ⌝ }
+    ensures { λ r. ⌜ r ≡ judgement (now (table .entry)) (now (values .entry)) (now (cells .entry)) allowance
+        (length (now (work .entry))) ⌝ }
+    ensures { λ r. ⌜ now (work .exit)
+        ≡ roomAfter r (now (table .entry)) (now (values .entry)) (now (cells .entry)) (now (work .entry)) ⌝ }
     ensures { λ r. ⌜ Promise (now (table .entry)) (now (values .entry)) (now (cells .entry)) r ⌝ }
 {
     let answer = evaluate::ready(table, 512, values, cells, 2, allowance, work.len());

@@ -75,8 +75,8 @@ fn unfree(table: &[u32], front: &[u32], a: u32, j: u32, cell: u32) -> Reading
     }
 }
 
-// The read of the array term a at index j, whose condition is cj, the outermost store first; cell is that of the variable
-// beneath the stores. Below a store that is picked nothing counts, below one that is shut values alone.
+// The read of the array term a at index j, whose condition is cj, the outermost store first; cell is that of the
+// variable beneath the stores. Below a store that is picked nothing counts, below one that is shut values alone.
 pub fn read(
     table: &[u32],
     front: &[u32],

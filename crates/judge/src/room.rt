@@ -15,7 +15,11 @@ use crate::terms::step;
 pub fn fill(table: &[u32], values: &[u32], cells: &[u32], work: &mut [u32])
     requires { ⌜ WellFormed 80000 (now table) ⌝ }
     requires { ⌜ terms (now table) * 2 ≤ length (now work) ⌝ }
-    ensures { λ _. ⌜ now (work .exit) ≡ numbers (now (table .entry)) (interpret (now (values .entry)) (look (now (cells .entry)))) (terms (now (table .entry))) ++ truths (now (table .entry)) ownMarks (interpret (now (values .entry)) (look (now (cells .entry)))) (terms (now (table .entry))) ++ drop (terms (now (table .entry)) * 2) (now (work .entry)) ⌝ }
+    ensures { λ _. ⌜ now (work .exit)
+        ≡ numbers (now (table .entry)) (interpret (now (values .entry)) (look (now (cells .entry))))
+        (terms (now (table .entry))) ++ truths (now (table .entry)) ownMarks
+        (interpret (now (values .entry)) (look (now (cells .entry)))) (terms (now (table .entry))) ++ drop
+        (terms (now (table .entry)) * 2) (now (work .entry)) ⌝ }
 {
     let terms = table::count(table);
     let count = cells.len() / 3;

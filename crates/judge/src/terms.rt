@@ -58,7 +58,8 @@ fn reading_of(
     requires { ⌜ WellFormed 80000 (now table) ⌝ }
     requires { ⌜ Next (now table) (now front) x ⌝ }
     requires { ⌜ length (now truths) ≡ length (now front) ⌝ }
-    ensures { λ r. ⌜ r ≡ readingOf (now (table .entry)) (now (values .entry)) (now (front .entry)) (now (truths .entry)) x answer ⌝ }
+    ensures { λ r. ⌜ r
+        ≡ readingOf (now (table .entry)) (now (values .entry)) (now (front .entry)) (now (truths .entry)) x answer ⌝ }
 {
     if table::reading(x) {
         let free = truth_at(truths, x.q);
@@ -137,8 +138,11 @@ pub fn step(
     requires { ⌜ WellFormed 80000 (now table) ⌝ }
     requires { ⌜ terms ≡ tables.terms (now table) ⌝ }
     requires { ⌜ (turn .at < terms) × (terms + terms ≤ length (now work)) ⌝ }
-    ensures { λ r. ⌜ r ≡ turnHere (now (table .entry)) (now (values .entry)) count terms (now (work .exit)) (nextRead (now (table .entry)) terms (turn .at + 1)) ⌝ }
-    ensures { λ r. ⌜ now (work .exit) ≡ onward (now (table .entry)) (noted (now (table .entry)) (now (values .entry)) terms 0) terms (noted (now (table .entry)) (now (values .entry)) terms answer (now (work .entry)) (turn .at)) (turn .at + 1) ⌝ }
+    ensures { λ r. ⌜ r ≡ turnHere (now (table .entry)) (now (values .entry)) count terms (now (work .exit))
+        (nextRead (now (table .entry)) terms (turn .at + 1)) ⌝ }
+    ensures { λ r. ⌜ now (work .exit)
+        ≡ onward (now (table .entry)) (noted (now (table .entry)) (now (values .entry)) terms 0) terms (noted
+        (now (table .entry)) (now (values .entry)) terms answer (now (work .entry)) (turn .at)) (turn .at + 1) ⌝ }
 {
     let at = turn.at;
     let mut i = at;

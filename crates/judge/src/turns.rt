@@ -19,7 +19,8 @@ fn turn_at(
     at: u32,
 ) -> Turn
     requires { ⌜ WellFormed 80000 (now table) ⌝ }
-    ensures { λ r. ⌜ r ≡ turnOf (now (table .entry)) (now (values .entry)) count terms (now (front .entry)) (now (truths .entry)) at ⌝ }
+    ensures { λ r. ⌜ r ≡ turnOf (now (table .entry)) (now (values .entry)) count terms (now (front .entry))
+        (now (truths .entry)) at ⌝ }
 {
     let x = table::term_at(table, at);
     if !(table::reading(x) & truth_at(truths, x.q)) {

@@ -41,7 +41,8 @@ fn entries_when(table: &[u32], count: usize) -> [u32; 256]
 fn cells_checked(table: &[u32], entries: &[u32; 256], cells: &[Cell], count: usize) -> Admission
     requires { ⌜ (0 < count → Entries (now table) (terms (now table)) (now entries)) ⌝ }
     requires { ⌜ count ≤ length (now cells) ⌝ }
-    ensures { λ r. ⌜ r ≡ scan (λ k. cellFault (now (table .entry)) (recordAt (now (cells .entry)) k)) count 0 Admitted ⌝ }
+    ensures { λ r. ⌜ r
+        ≡ scan (λ k. cellFault (now (table .entry)) (recordAt (now (cells .entry)) k)) count 0 Admitted ⌝ }
 {
     let mut rest = Admission::Admitted;
     let mut k = count;
@@ -64,7 +65,9 @@ fn afforded(
 ) -> Evaluation
     requires { ⌜ (admits admitted ≡ true → WellFormed 80000 (now table)) ⌝ }
     requires { ⌜ each ≤ 8 ⌝ }
-    ensures { λ r. ⌜ r ≡ andThen admitted (andThen (scan (λ k. variableFault (now (values .entry)) (termAt (now (table .entry)) k)) (terms (now (table .entry))) 0 checked) (afford (now (table .entry)) each allowance room)) ⌝ }
+    ensures { λ r. ⌜ r ≡ andThen admitted (andThen (scan
+        (λ k. variableFault (now (values .entry)) (termAt (now (table .entry)) k)) (terms (now (table .entry))) 0
+        checked) (afford (now (table .entry)) each allowance room)) ⌝ }
 {
     let nothing = Evaluation::Evaluated(Spent { steps: 0, left: 0 });
     if !evaluate::admits(admitted) {
@@ -89,7 +92,8 @@ pub fn ready(
 ) -> Evaluation
     requires { ⌜ limit ≤ 80000 ⌝ }
     requires { ⌜ each ≤ 8 ⌝ }
-    ensures { λ r. ⌜ r ≡ ready limit (now (table .entry)) (now (values .entry)) (now (cells .entry)) each allowance room ⌝ }
+    ensures { λ r. ⌜ r
+        ≡ ready limit (now (table .entry)) (now (values .entry)) (now (cells .entry)) each allowance room ⌝ }
 {
     let admitted = admission::admit_within(table, limit);
     let count = count_when(admitted, cells.len());

@@ -24,8 +24,10 @@ pub fn evaluate_records(
     allowance: u64,
     work: &mut [u32],
 ) -> Evaluation
-    ensures { λ r. ⌜ r ≡ evaluation (now (table .entry)) (now (values .entry)) (now (cells .entry)) allowance (length (now (work .entry))) ⌝ }
-    ensures { λ r. ⌜ now (work .exit) ≡ evaluated r (now (table .entry)) (now (values .entry)) (now (cells .entry)) (now (work .entry)) ⌝ }
+    ensures { λ r. ⌜ r ≡ evaluation (now (table .entry)) (now (values .entry)) (now (cells .entry)) allowance
+        (length (now (work .entry))) ⌝ }
+    ensures { λ r. ⌜ now (work .exit)
+        ≡ evaluated r (now (table .entry)) (now (values .entry)) (now (cells .entry)) (now (work .entry)) ⌝ }
 {
     let answer = ready(table, 80000, values, cells, 1, allowance, work.len());
     let count = cells.len();
@@ -38,10 +40,10 @@ pub fn evaluate_records(
     answer
 }
 
-// Judges a setting of records: rule and condition, steps and allowance left. The front of work holds the n values, then the n truths.
-// The third clause is demand 3 of this call, where it is not refused: against every other judgement of this table that is not refused,
-// through either entrance, in a setting that agrees on the unmarked inputs; and, where the setting passes, in every fitting
-// interpretation that agrees with it.
+// Judges a setting of records: rule and condition, steps and allowance left. The front of work holds the n values,
+// then the n truths. The third clause is demand 3 of this call, where it is not refused: against every other
+// judgement of this table that is not refused, through either entrance, in a setting that agrees on the unmarked
+// inputs; and, where the setting passes, in every fitting interpretation that agrees with it.
 pub fn judge_records(
     table: &[u32],
     values: &[u32],
@@ -49,8 +51,10 @@ pub fn judge_records(
     allowance: u64,
     work: &mut [u32],
 ) -> Judgement
-    ensures { λ r. ⌜ r ≡ judgement (now (table .entry)) (now (values .entry)) (now (cells .entry)) allowance (length (now (work .entry))) ⌝ }
-    ensures { λ r. ⌜ now (work .exit) ≡ judged r (now (table .entry)) (now (values .entry)) (now (cells .entry)) (now (work .entry)) ⌝ }
+    ensures { λ r. ⌜ r ≡ judgement (now (table .entry)) (now (values .entry)) (now (cells .entry)) allowance
+        (length (now (work .entry))) ⌝ }
+    ensures { λ r. ⌜ now (work .exit)
+        ≡ judged r (now (table .entry)) (now (values .entry)) (now (cells .entry)) (now (work .entry)) ⌝ }
     ensures { λ r. ⌜ Promise (now (table .entry)) (now (values .entry)) (now (cells .entry)) r ⌝ }
 {
     let answer = ready(table, 512, values, cells, 2, allowance, work.len());

@@ -81,7 +81,8 @@ pub fn checked_cell(
 // The cells in order.
 pub fn cells_checked(table: &[u32], cells: &[u32]) -> Admission
     requires { ⌜ WellFormed 80000 (now table) ⌝ }
-    ensures { λ r. ⌜ r ≡ scan (λ k. cellFault (now (table .entry)) (cellAt (now (cells .entry)) k)) (length (now (cells .entry)) / 3) 0 Admitted ⌝ }
+    ensures { λ r. ⌜ r ≡ scan (λ k. cellFault (now (table .entry)) (cellAt (now (cells .entry)) k))
+        (length (now (cells .entry)) / 3) 0 Admitted ⌝ }
 {
     let mut entries = [0u32; 256];
     fill_entries(table, &mut entries);

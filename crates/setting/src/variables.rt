@@ -32,7 +32,8 @@ fn variable_fault(values: &[u32], x: Term) -> u32
 // The variables in order, then the rest.
 pub fn variables_checked(table: &[u32], values: &[u32], rest: Admission) -> Admission
     requires { ⌜ WellFormed 80000 (now table) ⌝ }
-    ensures { λ r. ⌜ r ≡ scan (λ k. variableFault (now (values .entry)) (termAt (now (table .entry)) k)) (terms (now (table .entry))) 0 rest ⌝ }
+    ensures { λ r. ⌜ r ≡ scan (λ k. variableFault (now (values .entry)) (termAt (now (table .entry)) k))
+        (terms (now (table .entry))) 0 rest ⌝ }
 {
     let terms = table::count(table);
     for i in 0..terms {

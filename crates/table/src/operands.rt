@@ -1,6 +1,8 @@
-// Refusals 5 to 7 by rank: operands below the term and unused fields 0; the sorts; a constant, a slot and a mark that fit.
+// Refusals 5 to 7 by rank: operands below the term and unused fields 0; the sorts; a constant, a slot and a mark that
+// fit.
 ghost use mathlib.Core.Path.{_≡_};
-ghost use Rattle.table.specs.declared.ranks.Rank.the-variants.{BoolUnary, BoolBinary, Equality, Choice, BvUnary, BvBinary, BvCompare, Read, Write};
+ghost use Rattle.table.specs.declared.ranks.Rank.the-variants.{BoolUnary, BoolBinary, Equality, Choice};
+ghost use Rattle.table.specs.declared.ranks.Rank.the-variants.{BvUnary, BvBinary, BvCompare, Read, Write};
 ghost use Rattle.table.specs.declared.ranks.Fields.the-variants.{Value, Slot, One, Two, Three};
 ghost use Rattle.table.specs.Terms.{HasTerm, scalar};
 ghost use Rattle.table.specs.Faults.{placedAs, valuedAs, refuse, rankFault};

@@ -1,13 +1,14 @@
 // The tokens of a text, byte by byte.
 ghost use mathlib.Core.Path.{_≡_};
-ghost use Rattle.cases.specs.Lexing.{fresh, commenting, nextValue, nextWord, inside, lexed, heading, classified, tokenAt, tokenAtEnd};
+ghost use Rattle.cases.specs.Lexing.{fresh, commenting, nextValue, nextWord, inside, lexed, heading};
+ghost use Rattle.cases.specs.Lexing.{classified, tokenAt, tokenAtEnd};
 use crate::bytes::digit;
 use crate::bytes::ends;
 use crate::bytes::letter;
 use crate::bytes::white;
 
-// Between two bytes: whether in a comment or in a token; of the token, whether all its bytes are digits, its number (or one of
-// 2^32 or more, where it is that large), and its letters as a number.
+// Between two bytes: whether in a comment or in a token; of the token, whether all its bytes are digits, its number
+// (or one of 2^32 or more, where it is that large), and its letters as a number.
 pub struct Lexer {
     pub comment: bool,
     pub token: bool,

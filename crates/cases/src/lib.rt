@@ -9,9 +9,11 @@ pub use parser::Run;
 ghost use mathlib.Core.Path.{_≡_};
 ghost use Prim.Native.Nat.{_≤_};
 ghost use lib.ListN.{length};
-ghost use Rattle.cases.specs.Reading.{lower, capped, feed, lineAt, caseOf, faultAt, readingWithin, reading, roomWithin, roomAfter, byteLimit, Inside};
+ghost use Rattle.cases.specs.Reading.{lower, capped, feed, lineAt, caseOf, faultAt, readingWithin, reading};
+ghost use Rattle.cases.specs.Reading.{roomWithin, roomAfter, byteLimit, Inside};
 
-// The parts that are rows by their places among the numbers, the place of the allowance, and how many numbers were written.
+// The parts that are rows by their places among the numbers, the place of the allowance, and how many numbers were
+// written.
 pub struct Case {
     pub table: Run,
     pub values: Run,
@@ -110,8 +112,8 @@ fn read_within(text: &[u8], whole: bool, numbers: &mut [u32]) -> Reading
     Reading::Read(case_of(p, p.total))
 }
 
-// Reads a case: the front of numbers holds the text's numbers, which the answer counts; or else there is a fault, and numbers is as
-// it was.
+// Reads a case: the front of numbers holds the text's numbers, which the answer counts; or else there is a fault, and
+// numbers is as it was.
 pub fn read_case(text: &[u8], numbers: &mut [u32]) -> Reading
     ensures { λ r. ⌜ r ≡ reading (now (text .entry)) (length (now (numbers .entry))) ⌝ }
     ensures { λ r. ⌜ now (numbers .exit) ≡ roomAfter r (now (text .entry)) (now (numbers .entry)) ⌝ }

@@ -2,7 +2,9 @@
 ghost use mathlib.Core.Path.{_≡_};
 ghost use Prim.Native.Nat.{_-_};
 ghost use Rattle.cases.specs.Lexing.{fresh, lex};
-ghost use Rattle.cases.specs.Parsing.{none, start, failed, begun, extended, isGiven, full, size, others, tableFull, othersFull, refuse, headed, numberFault, counted, taken, parse, ended};
+ghost use Rattle.cases.specs.Parsing.{none, start, failed, begun, extended, isGiven, full, size, others};
+ghost use Rattle.cases.specs.Parsing.{tableFull, othersFull, refuse, headed, numberFault, counted, taken};
+ghost use Rattle.cases.specs.Parsing.{parse, ended};
 use crate::lexer::Lexer;
 use crate::lexer::Token;
 use crate::lexer::fresh;
@@ -22,8 +24,8 @@ pub struct Run {
     pub to: u32,
 }
 
-// The part that is being read (0: none yet), how many numbers were read, the four parts, and the first fault: its number
-// (0: none) and the byte at which it was found.
+// The part that is being read (0: none yet), how many numbers were read, the four parts, and the first fault: its
+// number (0: none) and the byte at which it was found.
 pub struct Parser {
     pub part: u32,
     pub total: u32,
@@ -184,8 +186,8 @@ fn headed(p: Parser, part: u32, at: usize) -> Parser
     }
 }
 
-// What is wrong with a number, 0 where nothing is: 3 before any heading, 5 after an allowance's one, 13 and 14 past the limits, 6 past
-// the room.
+// What is wrong with a number, 0 where nothing is: 3 before any heading, 5 after an allowance's one, 13 and 14 past
+// the limits, 6 past the room.
 fn number_fault(p: Parser, room: u32) -> u32
     ensures { λ r. ⌜ r ≡ numberFault p room ⌝ }
 {

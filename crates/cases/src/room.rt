@@ -34,7 +34,9 @@ fn put(numbers: &mut [u32], n: usize, token: Token) -> usize
 // The front of numbers holds the text's numbers.
 pub fn write(text: &[u8], whole: bool, numbers: &mut [u32])
     requires { ⌜ length (numbersIn (lex whole fresh (now text))) ≤ length (now numbers) ⌝ }
-    ensures { λ _. ⌜ now (numbers .exit) ≡ numbersIn (lex whole fresh (now (text .entry))) ++ drop (length (numbersIn (lex whole fresh (now (text .entry))))) (now (numbers .entry)) ⌝ }
+    ensures { λ _. ⌜ now (numbers .exit)
+        ≡ numbersIn (lex whole fresh (now (text .entry))) ++ drop
+        (length (numbersIn (lex whole fresh (now (text .entry))))) (now (numbers .entry)) ⌝ }
 {
     let mut l = fresh();
     let mut n = 0usize;

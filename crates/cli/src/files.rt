@@ -47,8 +47,8 @@ fn complain_misread(path: &[u8], misread: Misread) {
     complain_of(misread.kind);
 }
 
-// Zeros for the bytes of a file, one more than a text may have; for its numbers; for the work of a command, of which a finished
-// table is the longest, with 512 + 3 + 145 * 512 terms.
+// Zeros for the bytes of a file, one more than a text may have; for its numbers; for the work of a command, of which
+// a finished table is the longest, with 512 + 3 + 145 * 512 terms.
 fn byte_room() -> [u8; cases::BYTE_LIMIT + 1]
     ensures { λ r. ⌜ r ≡ replicate (byteLimit + 1) 0 ⌝ }
 {

@@ -86,8 +86,8 @@ fn say_operand(x: Term, second: bool, width: u32, k: u32, value: u32, state: Ope
     say(b".\n");
 }
 
-// What each operand that a value settles by would have done. One that is both is told once, but where its two sides settle by
-// different values, as those of an implication do.
+// What each operand that a value settles by would have done. One that is both is told once, but where its two sides
+// settle by different values, as those of an implication do.
 fn say_operands(table: &[u32], values: &[u32], truths: &[u32], x: Term, width: u32) {
     let twice = settling(x.op, false, width) != settling(x.op, true, width);
     if settled(x.op, false, width) & ((x.p != x.q) | twice) {

@@ -19,8 +19,10 @@ fn evaluate_two(
     allowance: u64,
     work: &mut [u32],
 ) -> Evaluation
-    ensures { λ r. ⌜ r ≡ evaluation (now (table .entry)) (now (values .entry)) cells allowance (length (now (work .entry))) ⌝ }
-    ensures { λ r. ⌜ now (work .exit) ≡ evaluated r (now (table .entry)) (now (values .entry)) cells (now (work .entry)) ⌝ }
+    ensures { λ r. ⌜ r
+        ≡ evaluation (now (table .entry)) (now (values .entry)) cells allowance (length (now (work .entry))) ⌝ }
+    ensures { λ r. ⌜ now (work .exit)
+        ≡ evaluated r (now (table .entry)) (now (values .entry)) cells (now (work .entry)) ⌝ }
 {
     records::evaluate_records(table, values, &cells, allowance, work)
 }
@@ -33,8 +35,10 @@ fn judge_two(
     allowance: u64,
     work: &mut [u32],
 ) -> Judgement
-    ensures { λ r. ⌜ r ≡ judgement (now (table .entry)) (now (values .entry)) cells allowance (length (now (work .entry))) ⌝ }
-    ensures { λ r. ⌜ now (work .exit) ≡ judged r (now (table .entry)) (now (values .entry)) cells (now (work .entry)) ⌝ }
+    ensures { λ r. ⌜ r
+        ≡ judgement (now (table .entry)) (now (values .entry)) cells allowance (length (now (work .entry))) ⌝ }
+    ensures { λ r. ⌜ now (work .exit)
+        ≡ judged r (now (table .entry)) (now (values .entry)) cells (now (work .entry)) ⌝ }
 {
     records::judge_records(table, values, &cells, allowance, work)
 }

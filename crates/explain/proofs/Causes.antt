@@ -32,7 +32,7 @@ use Rattle.evaluate.specs.Values.{valueIn, values, numbers}
 use Rattle.evaluate.proofs.Folds.{value-below, number-in}
 use Rattle.evaluate.proofs.Meaning.{same-array}
 use Rattle.table.proofs.OperandSorts.{isKnown, boolean-scalar, same-scalar, vector-of-scalar, three, four, unary-scalar, binary-scalars, array-op, no-store, op-at, typing, typing-as, placing-as, two-placed, three-placed, rank-below}
-use Rattle.judge.specs.Conditions.{Condition, conditionBy, conditionIn, conditions, conditionAt, truths, ownMarks}
+use Rattle.judge.specs.Conditions.{Condition, conditionBy, conditionIn, conditions, conditionAt, truths}
 use Rattle.judge.specs.Code.Readings.{truthIn}
 use Rattle.judge.proofs.Alike.{condition-below}
 use Rattle.judge.proofs.Meaning.{truth-in}
@@ -93,22 +93,22 @@ some-two P ts p q h = go (truthIn ts p) (truthIn ts q) h
     go false true e hp hq = record { some = omega arith; both = record { first = λ _. hp refl; second = λ n. never n } }
     go false false e hp hq = record { some = omega arith; both = record { first = λ _. hp refl; second = λ _. hq refl } }
 
-module _ (limit : ℕ) (w : List ℕ) (I : Interpretation) (f : WellFormed limit w) where
+module _ (limit : ℕ) (w : List ℕ) (marked : Term → Bool) (I : Interpretation) (f : WellFormed limit w) where
   abbrev pub vs : List ℕ
   vs = numbers w I (terms w)
 
   abbrev pub ts : List ℕ
-  ts = truths w ownMarks I (terms w)
+  ts = truths w marked I (terms w)
 
   abbrev K : ℕ → Condition
-  K i = conditionAt w ownMarks I i
+  K i = conditionAt w marked I i
 
   truth-at : (i : ℕ) → i < terms w → truthIn ts i ≡ K i .free
-  truth-at i b = truth-in w ownMarks I (terms w) i ∙ ap (λ (c : Condition). c .free) (condition-below w ownMarks I (terms w) i b)
+  truth-at i b = truth-in w marked I (terms w) i ∙ ap (λ (c : Condition). c .free) (condition-below w marked I (terms w) i b)
 
   -- what term k takes from an earlier term i
-  free-of : (k i : ℕ) → k < terms w → i < k → conditionIn (conditions w ownMarks I k) i .free ≡ truthIn ts i
-  free-of k i b c = ap (λ (d : Condition). d .free) (condition-below w ownMarks I k i c) ∙ sym (truth-at i (omega arith))
+  free-of : (k i : ℕ) → k < terms w → i < k → conditionIn (conditions w marked I k) i .free ≡ truthIn ts i
+  free-of k i b c = ap (λ (d : Condition). d .free) (condition-below w marked I k i c) ∙ sym (truth-at i (omega arith))
 
   num-of : (k i : ℕ) → k < terms w → i < k → valueIn (values w I k) i .num ≡ getD vs i 0
   num-of k i b c =
@@ -135,7 +135,7 @@ module _ (limit : ℕ) (w : List ℕ) (I : Interpretation) (f : WellFormed limit
       v = valueIn (values w I a)
 
       abbrev co : ℕ → Condition
-      co = conditionIn (conditions w ownMarks I a)
+      co = conditionIn (conditions w marked I a)
 
       -- where the walk stops at a, it is led to the culprit there
       led-here : (i : ℕ) → passed w vs ts a j ≡ false → termOf (culpritHere w ts a) ≡ i → Beneath w ts k i → Led a
@@ -145,12 +145,12 @@ module _ (limit : ℕ) (w : List ℕ) (I : Interpretation) (f : WellFormed limit
       unfolding conditionBy
       at-variable e h =
           let no : storing x ≡ false = ap (λ (o : Op). writes o) e in
-          let own : K a .free ≡ not (ownMarks x) = ap (λ (o : Op). conditionBy ownMarks v co (sortAt w (x .p) .n) x o .free) e in
-          let at-j : K a .readFree j true ≡ not (ownMarks x) && true = ap (λ (o : Op). conditionBy ownMarks v co (sortAt w (x .p) .n) x o .readFree j true) e in
+          let own : K a .free ≡ not (marked x) = ap (λ (o : Op). conditionBy marked v co (sortAt w (x .p) .n) x o .free) e in
+          let at-j : K a .readFree j true ≡ not (marked x) && true = ap (λ (o : Op). conditionBy marked v co (sortAt w (x .p) .n) x o .readFree j true) e in
           led-here a
           (ap (λ (z : Bool). (z && ltb (x .p) a) && truthIn ts (x .q) && not (eqb (getD vs (x .q) 0) j)) no)
           (ap (λ (z : Bool). termOf (cond (z && ltb (x .p) a) (cond (truthIn ts (x .q)) (Stored (record { store = a; term = x .r })) (Index (record { store = a; term = x .q }))) (Input-array a))) no)
-          (record { below = c; no-store = no; unfree = truth-at a (omega arith) ∙ own ∙ sym (and-open (not (ownMarks x))) ∙ sym at-j ∙ h })
+          (record { below = c; no-store = no; unfree = truth-at a (omega arith) ∙ own ∙ sym (and-open (not (marked x))) ∙ sym at-j ∙ h })
 
       module _ (e : opOf (x .op) ≡ Store) (pb : x .p < a) (qb : x .q < a) (rb : x .r < a) (qs : scalar (sortAt w (x .q)) ≡ true) (rs : scalar (sortAt w (x .r)) ≡ true)
           (rest : K (x .p) .readFree j true ≡ false → Led (x .p)) where
@@ -167,8 +167,8 @@ module _ (limit : ℕ) (w : List ℕ) (I : Interpretation) (f : WellFormed limit
             let tq = free-of a (x .q) d qb in
             let tr = free-of a (x .r) d rb in
             let nq = num-of a (x .q) d qb in
-            let cp = condition-below w ownMarks I a (x .p) pb in
-            ap (λ (o : Op). conditionBy ownMarks v co (sortAt w (x .p) .n) x o .readFree j true) e
+            let cp = condition-below w marked I a (x .p) pb in
+            ap (λ (o : Op). conditionBy marked v co (sortAt w (x .p) .n) x o .readFree j true) e
             ∙ (λ i. chosen (tq i && true) (eqb (nq i) j) (tr i) (cp i .readFree j true) same)
 
         -- whether the walk goes past the store, and its culprit else
@@ -216,7 +216,7 @@ module _ (limit : ℕ) (w : List ℕ) (I : Interpretation) (f : WellFormed limit
     vk = valueIn (values w I k)
 
     abbrev ck : ℕ → Condition
-    ck = conditionIn (conditions w ownMarks I k)
+    ck = conditionIn (conditions w marked I k)
 
     abbrev P : ℕ → Type 0
     P = Beneath w ts k
@@ -225,14 +225,14 @@ module _ (limit : ℕ) (w : List ℕ) (I : Interpretation) (f : WellFormed limit
     unfolding blameAt suspectsOf
     blame-is op e = ap (λ (o : Op). unfree ts (suspectsBy w vs ts this (rankOf o))) e
 
-    goes : (op : Op) → opOf (this .op) ≡ op → Some P (unfree ts (suspectsBy w vs ts this (rankOf op))) → GoesOn w vs ts k
+    goes : (op : Op) → opOf (this .op) ≡ op → Some P (unfree ts (suspectsBy w vs ts this (rankOf op))) → GoesOn w marked vs ts k
     goes op e found =
         let at-k = subst (Some P) (sym (blame-is op e)) found in
         record { on = inr (at-k .some); first = λ n. at-k .both .first (lt-ltb 0 (blameAt w vs ts k .count) n); second = λ n. at-k .both .second (lt-ltb 1 (blameAt w vs ts k .count) n) }
 
     -- its condition by its operator
-    shut : (op : Op) → opOf (this .op) ≡ op → conditionBy ownMarks vk ck (sortAt w (this .p) .n) this op .free ≡ false
-    shut op e = sym (ap (λ (o : Op). conditionBy ownMarks vk ck (sortAt w (this .p) .n) this o .free) e) ∙ sym (truth-at k b) ∙ h
+    shut : (op : Op) → opOf (this .op) ≡ op → conditionBy marked vk ck (sortAt w (this .p) .n) this op .free ≡ false
+    shut op e = sym (ap (λ (o : Op). conditionBy marked vk ck (sortAt w (this .p) .n) this o .free) e) ∙ sym (truth-at k b) ∙ h
 
     -- a function, by what settles it: what it blames is one operand, or two
     one-suspect : (r : FunctionRank one-operand) → suspectsBy w vs ts this (applied r) ≡ one (this .p)
@@ -281,7 +281,7 @@ module _ (limit : ℕ) (w : List ℕ) (I : Interpretation) (f : WellFormed limit
     picked true true same tp g places scalars = beneath k (this .q) b (places .1) (scalars .1) (or-neither (truthIn ts (this .q)) ((truthIn ts (this .q) && truthIn ts (this .r)) && same) g .0)
     picked true false same tp g places scalars = beneath k (this .r) b (places .2) (scalars .2) (or-neither (truthIn ts (this .r)) ((truthIn ts (this .q) && truthIn ts (this .r)) && same) g .0)
 
-    choice : opOf (this .op) ≡ Ite → GoesOn w vs ts k
+    choice : opOf (this .op) ≡ Ite → GoesOn w marked vs ts k
     unfolding conditionBy settles
     choice e =
         let places = three-placed k this (placing-as w k (f .sound k b) Ite e) in
@@ -303,12 +303,12 @@ module _ (limit : ℕ) (w : List ℕ) (I : Interpretation) (f : WellFormed limit
     read-led true tq g pb qb ps qs = led k b (getD vs (this .q) 0) (suc (this .p)) (this .p) (omega arith) pb ps g
     read-led false tq g pb qb ps qs = beneath k (this .q) b qb qs tq
 
-    read : opOf (this .op) ≡ Select → GoesOn w vs ts k
+    read : opOf (this .op) ≡ Select → GoesOn w marked vs ts k
     unfolding conditionBy
     read e =
         let places = two-placed k this (placing-as w k (f .sound k b) Select e) in
         let sorts = three (array (sortAt w (this .p))) (vectorOf (sortAt w (this .p) .m) (sortAt w (this .q))) (vectorOf (sortAt w (this .p) .n) (sortAt w k)) (typing-as w k (f .sound k b) Select e) in
-        let cp = condition-below w ownMarks I k (this .p) (places .0) in
+        let cp = condition-below w marked I k (this .p) (places .0) in
         let tq = free-of k (this .q) b (places .1) in
         let nq = num-of k (this .q) b (places .1) in
         let g : K (this .p) .readFree (getD vs (this .q) 0) (truthIn ts (this .q)) ≡ false = sym (λ i. cp i .readFree (nq i) (tq i)) ∙ shut Select e in
@@ -317,17 +317,17 @@ module _ (limit : ℕ) (w : List ℕ) (I : Interpretation) (f : WellFormed limit
         goes Select e (some-one P ts (readOf w vs ts this) (found .unfree) found)
 
     -- a variable blames nothing
-    input : opOf (this .op) ≡ Variable → GoesOn w vs ts k
+    input : opOf (this .op) ≡ Variable → GoesOn w marked vs ts k
     unfolding conditionBy
     input e =
         let nothing : blameAt w vs ts k .count ≡ 0 = ap (λ (r : Blame). r .count) (blame-is Variable e) in
         record {
-          on = inl (ap (λ (o : Op). slotted o) e, not-false (ownMarks this) (shut Variable e));
+          on = inl (ap (λ (o : Op). slotted o) e, not-false (marked this) (shut Variable e));
           first = λ n. absurd (omega (arith, n, nothing));
           second = λ n. absurd (omega (arith, n, nothing));
         }
 
-    goes-by : (op : Op) → opOf (this .op) ≡ op → storing this ≡ false → GoesOn w vs ts k
+    goes-by : (op : Op) → opOf (this .op) ≡ op → storing this ≡ false → GoesOn w marked vs ts k
     unfolding conditionBy settles isKnown
     goes-by Constant e ns = never (sym (shut Constant e))
     goes-by Variable e ns = input e
@@ -347,7 +347,7 @@ module _ (limit : ℕ) (w : List ℕ) (I : Interpretation) (f : WellFormed limit
     pub plain : storing (termAt w k) ≡ false
     pub unfree : truthIn ts k ≡ false
 
-  pub goes-from : (k : ℕ) → Way k → GoesOn w vs ts k
+  pub goes-from : (k : ℕ) → Way k → GoesOn w marked vs ts k
   goes-from k y = goes-by k (y .inside) (y .unfree) (opOf (termAt w k .op)) refl (y .plain)
 
   pub onto : (k : ℕ) → Way k → Both Way (blameAt w vs ts k)
@@ -366,7 +366,7 @@ module _ (limit : ℕ) (w : List ℕ) (I : Interpretation) (f : WellFormed limit
       let last : pred (terms w) < terms w = pred-below (terms w) (f .some) in
       record { inside = last; plain = plain-at (pred (terms w)) last (boolean-scalar (sortAt w (pred (terms w))) (f .rule)); unfree = u }
 
-  pub on-way-goes-on : (k : ℕ) → onWay (wayOf w vs ts (terms w)) k ≡ true → GoesOn w vs ts k
+  pub on-way-goes-on : (k : ℕ) → onWay (wayOf w vs ts (terms w)) k ≡ true → GoesOn w marked vs ts k
   on-way-goes-on k o =
       goes-from k
       (all-way Way w vs ts onto (terms w)
@@ -374,4 +374,4 @@ module _ (limit : ℕ) (w : List ℕ) (I : Interpretation) (f : WellFormed limit
       k o)
 
 pub way-goes-on : WayGoesOn
-way-goes-on limit w I f k o = on-way-goes-on limit w I f k o
+way-goes-on limit w marked I f k o = on-way-goes-on limit w marked I f k o

@@ -196,16 +196,16 @@ module _ (w values truths : List ℕ) (P : ℕ → Type 0) (small : (k : ℕ) �
         }
 
 pub way-is-whole : WayIsWhole
-way-is-whole w I f =
-    whole w (vs 512 w I f) (ts 512 w I f) (Way 512 w I f)
+way-is-whole w m I f =
+    whole w (vs 512 w m I f) (ts 512 w m I f) (Way 512 w m I f)
     (λ k y. let b = y .inside in let c = f .few in omega (arith, b, c))
-    (onto 512 w I f)
+    (onto 512 w m I f)
     (λ k y.
-    let g = goes-from 512 w I f k y in
+    let g = goes-from 512 w m I f k y in
     record {
-      first = λ c. g .first (ltb-true 0 (blameAt w (vs 512 w I f) (ts 512 w I f) k .count) c) .below;
-      second = λ c. g .second (ltb-true 1 (blameAt w (vs 512 w I f) (ts 512 w I f) k .count) c) .below;
+      first = λ c. g .first (ltb-true 0 (blameAt w (vs 512 w m I f) (ts 512 w m I f) k .count) c) .below;
+      second = λ c. g .second (ltb-true 1 (blameAt w (vs 512 w m I f) (ts 512 w m I f) k .count) c) .below;
     })
     (terms w)
-    (λ n u. rule-way 512 w I f u)
+    (λ n u. rule-way 512 w m I f u)
     (f .some)

@@ -7,12 +7,13 @@ use mathlib.Core.Logic.{_⊎_}
 use Prim.Native.Nat.{ℕ, pred, _<_}
 use Rattle.ops.specs.declared.Op.{Op}
 use Rattle.ops.specs.Condition.{settles}
+use Rattle.table.specs.declared.words.Term.{Term}
 use Rattle.table.specs.Terms.{terms, termAt}
 use Rattle.table.specs.Faults.{variable, storing}
 use Rattle.table.specs.WellFormed.{WellFormed}
 use Rattle.setting.specs.Interpretation.{Interpretation}
 use Rattle.evaluate.specs.Values.{numbers}
-use Rattle.judge.specs.Conditions.{ownMarks, truths}
+use Rattle.judge.specs.Conditions.{truths}
 use Rattle.judge.specs.Code.Readings.{truthIn}
 use Rattle.explain.specs.Operands.{wouldSettle}
 use Rattle.explain.specs.Blames.{blameAt}
@@ -35,18 +36,18 @@ pub record Beneath (w truths : List ℕ) (k i : ℕ) : Type 0 where
   pub unfree : truthIn truths i ≡ false
 
 -- Term k is a marked variable or blames a term; and what it blames is beneath it.
-pub record GoesOn (w values truths : List ℕ) (k : ℕ) : Type 0 where
-  pub on : ((variable (termAt w k) ≡ true) × (ownMarks (termAt w k) ≡ true)) ⊎ (0 < blameAt w values truths k .count)
+pub record GoesOn (w : List ℕ) (marked : Term → Bool) (values truths : List ℕ) (k : ℕ) : Type 0 where
+  pub on : ((variable (termAt w k) ≡ true) × (marked (termAt w k) ≡ true)) ⊎ (0 < blameAt w values truths k .count)
   pub first : 0 < blameAt w values truths k .count → Beneath w truths k (blameAt w values truths k .first)
   pub second : 1 < blameAt w values truths k .count → Beneath w truths k (blameAt w values truths k .second)
 
--- So the way ends at marked variables only: of a well-formed table, by the values and truths of any interpretation, each term
+-- So the way ends at marked variables only: of a well-formed table, by the values and truths of any interpretation under any marks, each term
 -- on the way goes on.
 abbrev pub WayGoesOn : Type 0
 WayGoesOn =
-    (limit : ℕ) (w : List ℕ) (I : Interpretation) → WellFormed limit w
-    → (k : ℕ) → onWay (wayOf w (numbers w I (terms w)) (truths w ownMarks I (terms w)) (terms w)) k ≡ true
-    → GoesOn w (numbers w I (terms w)) (truths w ownMarks I (terms w)) k
+    (limit : ℕ) (w : List ℕ) (marked : Term → Bool) (I : Interpretation) → WellFormed limit w
+    → (k : ℕ) → onWay (wayOf w (numbers w I (terms w)) (truths w marked I (terms w)) (terms w)) k ≡ true
+    → GoesOn w marked (numbers w I (terms w)) (truths w marked I (terms w)) k
 
 -- The way is whole: the rule is on it, where it is not free, and so is what each term on it blames.
 pub record Whole (w values truths : List ℕ) (n : ℕ) : Type 0 where
@@ -54,6 +55,6 @@ pub record Whole (w values truths : List ℕ) (n : ℕ) : Type 0 where
   pub first : (k : ℕ) → onWay (wayOf w values truths n) k ≡ true → 0 < blameAt w values truths k .count → onWay (wayOf w values truths n) (blameAt w values truths k .first) ≡ true
   pub second : (k : ℕ) → onWay (wayOf w values truths n) k ≡ true → 1 < blameAt w values truths k .count → onWay (wayOf w values truths n) (blameAt w values truths k .second) ≡ true
 
--- Of a table that judging takes, by the values and truths of any interpretation.
+-- Of a table that judging takes, by the values and truths of any interpretation under any marks.
 abbrev pub WayIsWhole : Type 0
-WayIsWhole = (w : List ℕ) (I : Interpretation) → WellFormed 512 w → Whole w (numbers w I (terms w)) (truths w ownMarks I (terms w)) (terms w)
+WayIsWhole = (w : List ℕ) (marked : Term → Bool) (I : Interpretation) → WellFormed 512 w → Whole w (numbers w I (terms w)) (truths w marked I (terms w)) (terms w)

@@ -139,7 +139,7 @@ module _ (w : List ℕ) (F : WellFormed 512 w) where
         let n-is : s .n ≡ 0 = eqb-true (s .n) 0 (and-parts (eqb (s .m) 0) (eqb (s .n) 0) (F .rule) .1) in
         is-bit (valueAt w I rule .num) (leb-true (valueAt w I rule .num) 1 (subst (λ (n : ℕ). fits n (valueAt w I rule .num) ≡ true) n-is fit))
 
-    same-answers : (rest : List ℕ) (v : Verdict) → v .rule ≡ ruleIn w I → v .condition ≡ ruleCondition w I → SameAnswers w (extent w) v (numbers f I (terms f) ++ rest)
+    same-answers : (rest : List ℕ) (v : Verdict) → v .rule ≡ ruleIn w I → v .condition ≡ ruleCondition w ownMarks I → SameAnswers w (extent w) v (numbers f I (terms f) ++ rest)
     same-answers rest v r c =
         let inside = last-in in
         let below = below-last in
@@ -164,7 +164,7 @@ faithful w F =
       evaluated = λ values cells allowance room. ap₂ (λ (a b : Admission). andThen a (andThen b (afford f 1 allowance room))) admitted (settings-agree w values cells F);
       agrees = λ values cells allowance room v h allowance′ work s _.
           let I = interpret values (look cells) in
-          let told = subst (Says (ready 512 w values cells 2 allowance room) (ruleIn w I) (ruleCondition w I)) h (says (ready 512 w values cells 2 allowance room) (ruleIn w I) (ruleCondition w I)) in
+          let told = subst (Says (ready 512 w values cells 2 allowance room) (ruleIn w I) (ruleCondition w ownMarks I)) h (says (ready 512 w values cells 2 allowance room) (ruleIn w I) (ruleCondition w ownMarks I)) in
           same-answers w F values cells (passed 512 w values cells 2 allowance room (told .0) .checked) (drop (terms f) work) v (told .1) (told .2);
     }
 

@@ -53,7 +53,7 @@ ConditionsAgree =
 
 abbrev pub LastIsConjunction : Type 0
 LastIsConjunction =
-    (w : List ℕ) (I : Interpretation) → WellFormed 512 w → valueAt (finished w) I (extent w .last) .num ≡ bit (ruleIn w I && ruleCondition w I)
+    (w : List ℕ) (I : Interpretation) → WellFormed 512 w → valueAt (finished w) I (extent w .last) .num ≡ bit (ruleIn w I && ruleCondition w ownMarks I)
 
 -- A setting is refused for the finished table as it is for the table, by number and place.
 abbrev pub SettingsAgree : Type 0

@@ -33,7 +33,7 @@ use Rattle.evaluate.specs.Values.{scalarValue, arrayValue, operated, valueBy, v
 use Rattle.evaluate.proofs.Folds.{value-below}
 use Rattle.evaluate.proofs.Fitting.{values-fit}
 use Rattle.table.proofs.OperandSorts.{same-sort, three, four, typing, two-placed}
-use Rattle.judge.specs.Conditions.{Condition, plain, settling, storeFree, conditionBy, conditionIn, conditionOf, conditions, conditionAt, ownMarks}
+use Rattle.judge.specs.Conditions.{Condition, plain, settling, storeFree, conditionBy, conditionIn, conditionOf, conditions, conditionAt}
 use Rattle.judge.specs.Demand3.{Independence}
 
 -- at one term, whose indexes are below bound where it is an array: one condition, and where it is true one value; so too of each read,
@@ -212,7 +212,7 @@ alike-at limit w marked I I′ f inputs agree k b = alike-within limit w marked 
 
 -- the rule is one of them
 pub independence : Independence
-independence limit w I I′ f inputs inputs′ agree =
+independence limit w marked I I′ f inputs inputs′ agree =
     let some : 0 < terms w = f .some in
-    let rule = alike-at limit w ownMarks I I′ f inputs agree (pred (terms w)) (omega arith) .whole in
+    let rule = alike-at limit w marked I I′ f inputs agree (pred (terms w)) (omega arith) .whole in
     record { condition = rule .condition; rule = λ h. ap holds (rule .value h) }

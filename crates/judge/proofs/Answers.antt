@@ -43,7 +43,7 @@ judged-by numbers (NotEvaluated r) rule condition h = h
 pub judgement-numbers : JudgementNumbers
 judgement-numbers w values cells allowance room =
     let I = interpret values (look cells) in
-    judged-by runNumbers (ready 512 w values cells 2 allowance room) (ruleIn w I) (ruleCondition w I) (ready-numbers 512 w values cells 2 allowance room)
+    judged-by runNumbers (ready 512 w values cells 2 allowance room) (ruleIn w I) (ruleCondition w ownMarks I) (ready-numbers 512 w values cells 2 allowance room)
 
 -- Two interpretations that are one at every slot that a variable uses
 
@@ -75,7 +75,7 @@ module _ (w values values′ cells : List ℕ) (allowance room : ℕ) (one : One
       let b : 0 < terms w = f .some in
       omega arith
 
-  verdict-same : (e : Evaluation) → (evaluates e ≡ true → pred (terms w) < terms w) → verdict e w I ≡ verdict e w I′
+  verdict-same : (e : Evaluation) → (evaluates e ≡ true → pred (terms w) < terms w) → verdict e w ownMarks I ≡ verdict e w ownMarks I′
   verdict-same (Evaluated s) h =
       ap₂ (λ (v : Value) (c : Condition). verdictBy (Evaluated s) (holds (v .num)) (c .free)) (value-at-same w I I′ inputs (pred (terms w)) (h refl))
       (condition-at-same w I I′ inputs (pred (terms w)) (h refl))
@@ -83,7 +83,7 @@ module _ (w values values′ cells : List ℕ) (allowance room : ℕ) (one : One
 
   judgement-same : judgement w values cells allowance room ≡ judgement w values′ cells allowance room
   judgement-same =
-      ap (λ c. verdict (readyBy 512 w c 2 allowance room) w I) (unused-unchecked w values values′ cells one)
+      ap (λ c. verdict (readyBy 512 w c 2 allowance room) w ownMarks I) (unused-unchecked w values values′ cells one)
       ∙ verdict-same (ready 512 w values′ cells 2 allowance room) some
 
   room-same : (before : List ℕ) (j : Judgement) → roomAfter j w values cells before ≡ roomAfter j w values′ cells before

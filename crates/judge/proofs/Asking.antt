@@ -8,6 +8,7 @@ use native.Mathlib.Omega.{arith}
 use lib.Dec.{ltb}
 use lib.ListN.{getD}
 use Rattle.ops.proofs.Booleans.{and-shut}
+use Rattle.table.specs.declared.words.Term.{Term}
 use Rattle.table.specs.Terms.{terms, termAt}
 use Rattle.table.specs.Faults.{reading}
 use Rattle.table.specs.WellFormed.{WellFormed}
@@ -19,7 +20,7 @@ use Rattle.evaluate.specs.Values.{numbers}
 use Rattle.evaluate.specs.Code.Turns as evaluating
 use Rattle.evaluate.proofs.Runs as runs
 use Rattle.evaluate.proofs.Runs.{inCells, looked, Turning}
-use Rattle.judge.specs.Conditions.{truths, ownMarks}
+use Rattle.judge.specs.Conditions.{truths}
 use Rattle.judge.specs.Code.Readings.{truthIn}
 use Rattle.judge.specs.Code.Turns.{turnOf}
 use Rattle.judge.proofs.Meaning.{answerTo}
@@ -46,11 +47,11 @@ module _ (w row front ts : List ℕ) (count n i : ℕ) where
   plain-asks e = rw (e, and-shut)
 
 -- the answer to a read
-pub answer-is : (limit : ℕ) (w row : List ℕ) (cells : ℕ → Cell) (count n : ℕ) (f : WellFormed limit w) (i : ℕ) (b : i < terms w) (turn : Turn)
-    → turn ≡ turnOf w row count n (numbers w (inCells row cells count) i) (truths w ownMarks (inCells row cells count) i) i
-    → (answer : ℕ) → answer ≡ looked cells turn → reading (termAt w i) ≡ true → answer ≡ answerTo limit w row (λ slot j other. lookFrom cells count 0 slot j other) f i b (truthIn (truths w ownMarks (inCells row cells count) i) (termAt w i .q))
-answer-is limit w row cells count n f i b turn asks answer answered r = by (truthIn (truths w ownMarks (inCells row cells count) i) (termAt w i .q)) refl
+pub answer-is : (limit : ℕ) (w : List ℕ) (marked : Term → Bool) (row : List ℕ) (cells : ℕ → Cell) (count n : ℕ) (f : WellFormed limit w) (i : ℕ) (b : i < terms w) (turn : Turn)
+    → turn ≡ turnOf w row count n (numbers w (inCells row cells count) i) (truths w marked (inCells row cells count) i) i
+    → (answer : ℕ) → answer ≡ looked cells turn → reading (termAt w i) ≡ true → answer ≡ answerTo limit w marked row (λ slot j other. lookFrom cells count 0 slot j other) f i b (truthIn (truths w marked (inCells row cells count) i) (termAt w i .q))
+answer-is limit w marked row cells count n f i b turn asks answer answered r = by (truthIn (truths w marked (inCells row cells count) i) (termAt w i .q)) refl
   where
-    by : (z : Bool) → truthIn (truths w ownMarks (inCells row cells count) i) (termAt w i .q) ≡ z → answer ≡ answerTo limit w row (λ slot j other. lookFrom cells count 0 slot j other) f i b z
-    by true e = answered ∙ ap (looked cells) (asks ∙ free-asks w row (numbers w (inCells row cells count) i) (truths w ownMarks (inCells row cells count) i) count n i r e)
-    by false e = runs.answer-is limit w row cells count n f i b turn (asks ∙ plain-asks w row (numbers w (inCells row cells count) i) (truths w ownMarks (inCells row cells count) i) count n i e) answer answered r
+    by : (z : Bool) → truthIn (truths w marked (inCells row cells count) i) (termAt w i .q) ≡ z → answer ≡ answerTo limit w marked row (λ slot j other. lookFrom cells count 0 slot j other) f i b z
+    by true e = answered ∙ ap (looked cells) (asks ∙ free-asks w row (numbers w (inCells row cells count) i) (truths w marked (inCells row cells count) i) count n i r e)
+    by false e = runs.answer-is limit w row cells count n f i b turn (asks ∙ plain-asks w row (numbers w (inCells row cells count) i) (truths w marked (inCells row cells count) i) count n i e) answer answered r

@@ -9,6 +9,7 @@ use lib.ListN.{length, take, drop}
 use Rattle.ops.specs.Meaning.{bit}
 use Rattle.ops.proofs.Booleans.{never}
 use Rattle.table.specs.Folds.{fold}
+use Rattle.table.specs.declared.words.Term.{Term}
 use Rattle.table.specs.Terms.{terms, termAt}
 use Rattle.table.specs.Faults.{reading}
 use Rattle.table.specs.WellFormed.{WellFormed}
@@ -24,32 +25,32 @@ use Rattle.evaluate.proofs.Folds.{length-numbers, numbers-more}
 use Rattle.evaluate.proofs.Onward.{Arrived, arrived}
 use Rattle.evaluate.proofs.Runs.{inCells, Running, Turning, at-is, inside}
 use Rattle.judge.specs.declared.reads.Reading.{Reading}
-use Rattle.judge.specs.Conditions.{plain, conditionIn, conditionOf, conditions, conditionAt, truths, ownMarks}
+use Rattle.judge.specs.Conditions.{plain, conditionIn, conditionOf, conditions, conditionAt, truths}
 use Rattle.judge.specs.Code.Readings.{truthIn, readingOf, written, noted}
 use Rattle.judge.specs.Code.Turns.{turnOf, turnHere}
 use Rattle.judge.proofs.Meaning.{length-truths, answerTo, reading-is}
 use Rattle.judge.proofs.Asking.{turning, plain-asks, answer-is}
 use Rattle.judge.proofs.Rooms.{laid, laid-length, laid-front, laid-truths, laid-more, laid-none}
 
-truths-more : (w : List ℕ) (I : Interpretation) (k : ℕ) → truths w ownMarks I (k + 1) ≡ truths w ownMarks I k ++ (bit (conditionAt w ownMarks I k .free) ∷ [])
-truths-more w I k = map-fold-more (λ cs i. conditionOf w ownMarks (valueIn (values w I i)) (conditionIn cs) (termAt w i)) (λ c. bit (c .free)) k
+truths-more : (w : List ℕ) (marked : Term → Bool) (I : Interpretation) (k : ℕ) → truths w marked I (k + 1) ≡ truths w marked I k ++ (bit (conditionAt w marked I k .free) ∷ [])
+truths-more w marked I k = map-fold-more (λ cs i. conditionOf w marked (valueIn (values w I i)) (conditionIn cs) (termAt w i)) (λ c. bit (c .free)) k
 
-module _ (w row : List ℕ) (cells : ℕ → Cell) (count n : ℕ) (begin : List ℕ) where
+module _ (w : List ℕ) (marked : Term → Bool) (row : List ℕ) (cells : ℕ → Cell) (count n : ℕ) (begin : List ℕ) where
   abbrev I : Interpretation
   I = inCells row cells count
 
   -- the room before term i of n, which began as begin, and what the term asks
   abbrev pub filled : ℕ → List ℕ
-  filled i = laid (numbers w I i) (truths w ownMarks I i) n i begin
+  filled i = laid (numbers w I i) (truths w marked I i) n i begin
 
   abbrev pub asking : ℕ → Turn
-  asking i = turnOf w row count n (numbers w I i) (truths w ownMarks I i) i
+  asking i = turnOf w row count n (numbers w I i) (truths w marked I i) i
 
   abbrev pub Filling : List ℕ → Turn → Type 0
   Filling = Running n filled asking
 
   pub asks : (i : ℕ) → Turning n count i (asking i)
-  asks i = turning w row (numbers w I i) (truths w ownMarks I i) count n i
+  asks i = turning w row (numbers w I i) (truths w marked I i) count n i
 
   -- before the first term no index is free, so it asks as in evaluating
   pub started : (turn : Turn) → turn ≡ evaluating.turnOf w row count n [] 0 → Filling begin turn
@@ -59,30 +60,30 @@ module _ (w row : List ℕ) (cells : ℕ → Cell) (count n : ℕ) (begin : List
   module _ (limit : ℕ) (f : WellFormed limit w) (all : n ≡ terms w) (enough : n + n ≤ length begin) where
     module _ (i : ℕ) (within : i ≤ n) where
       front-is : take i (filled i) ≡ numbers w I i
-      front-is = laid-front (numbers w I i) (truths w ownMarks I i) n i begin enough within (length-numbers w I i) (length-truths w ownMarks I i)
+      front-is = laid-front (numbers w I i) (truths w marked I i) n i begin enough within (length-numbers w I i) (length-truths w marked I i)
 
-      truths-are : take i (drop n (filled i)) ≡ truths w ownMarks I i
-      truths-are = laid-truths (numbers w I i) (truths w ownMarks I i) n i begin enough within (length-numbers w I i) (length-truths w ownMarks I i)
+      truths-are : take i (drop n (filled i)) ≡ truths w marked I i
+      truths-are = laid-truths (numbers w I i) (truths w marked I i) n i begin enough within (length-numbers w I i) (length-truths w marked I i)
 
       long : length (filled i) ≡ length begin
-      long = laid-length (numbers w I i) (truths w ownMarks I i) n i begin enough within (length-numbers w I i) (length-truths w ownMarks I i)
+      long = laid-length (numbers w I i) (truths w marked I i) n i begin enough within (length-numbers w I i) (length-truths w marked I i)
 
     -- a term notes its value and its truth
-    wrote : (i answer : ℕ) (b : i < terms w) → (reading (termAt w i) ≡ true → answer ≡ answerTo limit w row (λ slot j other. lookFrom cells count 0 slot j other) f i b (truthIn (truths w ownMarks I i) (termAt w i .q)))
-        → noted w row n answer (filled i) i ≡ filled (i + 1)
+    wrote : (i answer : ℕ) (b : i < terms w) → (reading (termAt w i) ≡ true → answer ≡ answerTo limit w marked row (λ slot j other. lookFrom cells count 0 slot j other) f i b (truthIn (truths w marked I i) (termAt w i .q)))
+        → noted w marked row n answer (filled i) i ≡ filled (i + 1)
     wrote i answer b h =
-        let meant : Reading = record { value = valueAt w I i .num; free = conditionAt w ownMarks I i .free } in
+        let meant : Reading = record { value = valueAt w I i .num; free = conditionAt w marked I i .free } in
         ap (λ (r : Reading). written r n (filled i) i)
-        (ap₂ (λ (l m : List ℕ). readingOf w row l m (termAt w i) answer) (front-is i (omega arith)) (truths-are i (omega arith))
-        ∙ reading-is limit w row (λ slot j other. lookFrom cells count 0 slot j other) f i b answer h)
-        ∙ laid-more (numbers w I i) (truths w ownMarks I i) n i begin enough (omega arith) (length-numbers w I i) (length-truths w ownMarks I i) (omega arith) (meant .value) (bit (meant .free))
-        ∙ sym (ap₂ (λ (l m : List ℕ). laid l m n (i + 1) begin) (numbers-more w I i) (truths-more w I i))
+        (ap₂ (λ (l m : List ℕ). readingOf w marked row l m (termAt w i) answer) (front-is i (omega arith)) (truths-are i (omega arith))
+        ∙ reading-is limit w marked row (λ slot j other. lookFrom cells count 0 slot j other) f i b answer h)
+        ∙ laid-more (numbers w I i) (truths w marked I i) n i begin enough (omega arith) (length-numbers w I i) (length-truths w marked I i) (omega arith) (meant .value) (bit (meant .free))
+        ∙ sym (ap₂ (λ (l m : List ℕ). laid l m n (i + 1) begin) (numbers-more w I i) (truths-more w marked I i))
 
     -- from term i on to the next read
     module _ (i : ℕ) (within : i ≤ n) (room next : List ℕ) (after : Turn) (is : room ≡ filled i)
-        (e : next ≡ onward w (noted w row n 0) n room i) (t : after ≡ turnHere w row count n next (nextRead w n i)) where
-      there : Arrived (readingAt w) (noted w row n 0) filled n (λ k b s. wrote k 0 (omega arith) (λ r. never (sym s ∙ r))) i room
-      there = arrived (readingAt w) (noted w row n 0) filled n (λ k b s. wrote k 0 (omega arith) (λ r. never (sym s ∙ r))) i room within is
+        (e : next ≡ onward w (noted w marked row n 0) n room i) (t : after ≡ turnHere w row count n next (nextRead w n i)) where
+      there : Arrived (readingAt w) (noted w marked row n 0) filled n (λ k b s. wrote k 0 (omega arith) (λ r. never (sym s ∙ r))) i room
+      there = arrived (readingAt w) (noted w marked row n 0) filled n (λ k b s. wrote k 0 (omega arith) (λ r. never (sym s ∙ r))) i room within is
 
       arrive : Filling next after
       arrive =
@@ -106,19 +107,19 @@ module _ (w row : List ℕ) (cells : ℕ → Cell) (count n : ℕ) (begin : List
         here : h .i < n
         here = inside n filled asking count asks room turn h on
 
-        read-is : noted w row n answer room (turn .at) ≡ filled (h .i + 1)
+        read-is : noted w marked row n answer room (turn .at) ≡ filled (h .i + 1)
         read-is =
-            ap (noted w row n answer room) (at-is n filled asking count asks room turn h)
-            ∙ ap (λ (l : List ℕ). noted w row n answer l (h .i)) (h .is)
-            ∙ wrote (h .i) answer (omega (arith, here)) (answer-is limit w row cells count n f (h .i) (omega (arith, here)) turn (h .asks) answer answered)
+            ap (noted w marked row n answer room) (at-is n filled asking count asks room turn h)
+            ∙ ap (λ (l : List ℕ). noted w marked row n answer l (h .i)) (h .is)
+            ∙ wrote (h .i) answer (omega (arith, here)) (answer-is limit w marked row cells count n f (h .i) (omega (arith, here)) turn (h .asks) answer answered)
 
         -- the next turn, which is of a later term
-        pub turned : (next : List ℕ) (after : Turn) → next ≡ onward w (noted w row n 0) n (noted w row n answer room (turn .at)) (turn .at + 1)
+        pub turned : (next : List ℕ) (after : Turn) → next ≡ onward w (noted w marked row n 0) n (noted w marked row n answer room (turn .at)) (turn .at + 1)
             → after ≡ turnHere w row count n next (nextRead w n (turn .at + 1)) → Filling next after × (turn .at + 1 ≤ after .at)
         turned next after e t =
             let at : turn .at + 1 ≡ h .i + 1 = ap (λ (k : ℕ). k + 1) (at-is n filled asking count asks room turn h) in
             let b : turn .at + 1 ≤ n = omega (arith, here, at) in
-            let is : noted w row n answer room (turn .at) ≡ filled (turn .at + 1) = read-is ∙ ap filled (sym at) in (
-              arrive (turn .at + 1) b (noted w row n answer room (turn .at)) next after is e t,
-              later (turn .at + 1) b (noted w row n answer room (turn .at)) next after is e t,
+            let is : noted w marked row n answer room (turn .at) ≡ filled (turn .at + 1) = read-is ∙ ap filled (sym at) in (
+              arrive (turn .at + 1) b (noted w marked row n answer room (turn .at)) next after is e t,
+              later (turn .at + 1) b (noted w marked row n answer room (turn .at)) next after is e t,
             )

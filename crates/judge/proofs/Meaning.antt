@@ -31,7 +31,7 @@ use Rattle.evaluate.proofs.Folds.{value-below, number-in}
 use Rattle.evaluate.proofs.Meaning.{variable-cell, same-array, reads-select, number-below, cellBeneath, asked, valueRead, number-is}
 use Rattle.table.proofs.OperandSorts.{array-op, three, four, op-at, typing, typing-as, placing-as, two-placed, three-placed}
 use Rattle.judge.specs.declared.reads.Reading.{Reading}
-use Rattle.judge.specs.Conditions.{Condition, plain, storeFree, conditionBy, conditionIn, conditionOf, conditions, conditionAt, truths, ownMarks}
+use Rattle.judge.specs.Conditions.{Condition, plain, storeFree, conditionBy, conditionIn, conditionOf, conditions, conditionAt, truths}
 use Rattle.judge.specs.Code.Readings.{truthIn, overlaid, readingAt, readingBy, settledBy, truthOf, readingOf}
 use Rattle.judge.proofs.Alike.{condition-below}
 use Rattle.judge.proofs.Chains.{reading-end, reading-store, reading-value, reading-unfree}
@@ -53,7 +53,7 @@ module _ (w : List ℕ) (marked : Term → Bool) (I : Interpretation) where
 
 -- One array term
 
-module _ (limit : ℕ) (w row : List ℕ) (look : ℕ → ℕ → ℕ → ℕ) (f : WellFormed limit w) where
+module _ (limit : ℕ) (w : List ℕ) (marked : Term → Bool) (row : List ℕ) (look : ℕ → ℕ → ℕ → ℕ) (f : WellFormed limit w) where
   abbrev I : Interpretation
   I = interpret row look
 
@@ -62,10 +62,10 @@ module _ (limit : ℕ) (w row : List ℕ) (look : ℕ → ℕ → ℕ → ℕ) (
   W i = valueAt w I i
 
   abbrev K : ℕ → Condition
-  K i = conditionAt w ownMarks I i
+  K i = conditionAt w marked I i
 
-  truth-below : (k i : ℕ) → i < k → truthIn (truths w ownMarks I k) i ≡ K i .free
-  truth-below k i b = truth-in w ownMarks I k i ∙ ap (λ (c : Condition). c .free) (condition-below w ownMarks I k i b)
+  truth-below : (k i : ℕ) → i < k → truthIn (truths w marked I k) i ≡ K i .free
+  truth-below k i b = truth-in w marked I k i ∙ ap (λ (c : Condition). c .free) (condition-below w marked I k i b)
 
   -- what a read of array a at j is, by the meanings
   abbrev meant : ℕ → ℕ → Bool → Reading
@@ -73,7 +73,7 @@ module _ (limit : ℕ) (w row : List ℕ) (look : ℕ → ℕ → ℕ → ℕ) (
 
   module _ (k a : ℕ) (c : a < k) (d : a < terms w) (r : array (sortAt w a) ≡ true) (j : ℕ) (cj : Bool)
       (beneath : termAt w a .p < a → array (sortAt w (termAt w a .p)) ≡ true
-      → readingAt w (numbers w I k) (truths w ownMarks I k) (termAt w a .p) j cj (cellBeneath limit w row look f (termAt w a .p) j) ≡ meant (termAt w a .p) j cj) where
+      → readingAt w (numbers w I k) (truths w marked I k) (termAt w a .p) j cj (cellBeneath limit w row look f (termAt w a .p) j) ≡ meant (termAt w a .p) j cj) where
     abbrev x : Term
     x = termAt w a
 
@@ -81,18 +81,18 @@ module _ (limit : ℕ) (w row : List ℕ) (look : ℕ → ℕ → ℕ → ℕ) (
     v = valueIn (values w I a)
 
     abbrev co : ℕ → Condition
-    co = conditionIn (conditions w ownMarks I a)
+    co = conditionIn (conditions w marked I a)
 
     cell-by : (op : Op) → opOf (x .op) ≡ op → W a .cell j ≡ valueBy I v (sortAt w (x .p) .n) x op .cell j
     cell-by op e = ap (λ (o : Op). valueBy I v (sortAt w (x .p) .n) x o .cell j) e
 
-    free-by : (op : Op) → opOf (x .op) ≡ op → K a .readFree j cj ≡ conditionBy ownMarks v co (sortAt w (x .p) .n) x op .readFree j cj
-    free-by op e = ap (λ (o : Op). conditionBy ownMarks v co (sortAt w (x .p) .n) x o .readFree j cj) e
+    free-by : (op : Op) → opOf (x .op) ≡ op → K a .readFree j cj ≡ conditionBy marked v co (sortAt w (x .p) .n) x op .readFree j cj
+    free-by op e = ap (λ (o : Op). conditionBy marked v co (sortAt w (x .p) .n) x o .readFree j cj) e
 
-    own-by : (op : Op) → opOf (x .op) ≡ op → K a .free ≡ conditionBy ownMarks v co (sortAt w (x .p) .n) x op .free
-    own-by op e = ap (λ (o : Op). conditionBy ownMarks v co (sortAt w (x .p) .n) x o .free) e
+    own-by : (op : Op) → opOf (x .op) ≡ op → K a .free ≡ conditionBy marked v co (sortAt w (x .p) .n) x op .free
+    own-by op e = ap (λ (o : Op). conditionBy marked v co (sortAt w (x .p) .n) x o .free) e
 
-    input-free : opOf (x .op) ≡ Variable → truthIn (truths w ownMarks I k) a && cj ≡ K a .readFree j cj
+    input-free : opOf (x .op) ≡ Variable → truthIn (truths w marked I k) a && cj ≡ K a .readFree j cj
     unfolding conditionBy
     input-free e = ap (λ (b : Bool). b && cj) (truth-below k a c ∙ own-by Variable e) ∙ sym (free-by Variable e)
 
@@ -102,12 +102,12 @@ module _ (limit : ℕ) (w row : List ℕ) (look : ℕ → ℕ → ℕ → ℕ) (
         ∙ variable-cell I v (sortAt w (x .p) .n) x j r
         ∙ ap (λ (slot : ℕ). look slot j (getD row slot 0)) (bottom-end w (store-below limit w f) a x refl no-store))
 
-    input-reading : opOf (x .op) ≡ Variable → readingAt w (numbers w I k) (truths w ownMarks I k) a j cj (cellBeneath limit w row look f a j) ≡ meant a j cj
+    input-reading : opOf (x .op) ≡ Variable → readingAt w (numbers w I k) (truths w marked I k) a j cj (cellBeneath limit w row look f a j) ≡ meant a j cj
     input-reading e =
         let no-store : storing x ≡ false = ap (λ (o : Op). writes o) e in
         let vs = input-cell e no-store in
         let fs = input-free e in
-        sym (reading-end w (numbers w I k) (truths w ownMarks I k) (store-below limit w f) j cj (cellBeneath limit w row look f a j) a no-store)
+        sym (reading-end w (numbers w I k) (truths w marked I k) (store-below limit w f) j cj (cellBeneath limit w row look f a j) a no-store)
         ∙ (λ i. record { value = vs i; free = fs i })
 
     -- a store, whose operands are below
@@ -122,15 +122,15 @@ module _ (limit : ℕ) (w row : List ℕ) (look : ℕ → ℕ → ℕ → ℕ) (
       fr : getD (numbers w I k) (x .r) 0 ≡ W (x .r) .num
       fr = number-below limit w row look f k (x .r) (omega arith)
 
-      tq : truthIn (truths w ownMarks I k) (x .q) ≡ K (x .q) .free
+      tq : truthIn (truths w marked I k) (x .q) ≡ K (x .q) .free
       tq = truth-below k (x .q) (omega arith)
 
-      tr : truthIn (truths w ownMarks I k) (x .r) ≡ K (x .r) .free
+      tr : truthIn (truths w marked I k) (x .r) ≡ K (x .r) .free
       tr = truth-below k (x .r) (omega arith)
 
-      below : readingAt w (numbers w I k) (truths w ownMarks I k) (x .p) j cj (cellBeneath limit w row look f a j) ≡ meant (x .p) j cj
+      below : readingAt w (numbers w I k) (truths w marked I k) (x .p) j cj (cellBeneath limit w row look f a j) ≡ meant (x .p) j cj
       below =
-          ap (λ (slot : ℕ). readingAt w (numbers w I k) (truths w ownMarks I k) (x .p) j cj (look slot j (getD row slot 0))) (bottom-on w (store-below limit w f) a x refl stores)
+          ap (λ (slot : ℕ). readingAt w (numbers w I k) (truths w marked I k) (x .p) j cj (look slot j (getD row slot 0))) (bottom-on w (store-below limit w f) a x refl stores)
           ∙ beneath pb arr
 
       -- the store by the meanings of its operands
@@ -141,7 +141,7 @@ module _ (limit : ℕ) (w row : List ℕ) (look : ℕ → ℕ → ℕ → ℕ) (
             free = chosen (K (x .q) .free && cj) (eqb (W (x .q) .num) j) (K (x .r) .free) (K (x .p) .readFree j cj) (eqb (W (x .r) .num) (W (x .p) .cell j));
           }
 
-      from-code : overlaid (numbers w I k) (truths w ownMarks I k) x j cj (readingAt w (numbers w I k) (truths w ownMarks I k) (x .p) j cj (cellBeneath limit w row look f a j)) ≡ laid
+      from-code : overlaid (numbers w I k) (truths w marked I k) x j cj (readingAt w (numbers w I k) (truths w marked I k) (x .p) j cj (cellBeneath limit w row look f a j)) ≡ laid
       from-code =
           λ i.
           record {
@@ -159,13 +159,13 @@ module _ (limit : ℕ) (w row : List ℕ) (look : ℕ → ℕ → ℕ → ℕ) (
       vr = value-below w I a (x .r) rb
 
       cp : co (x .p) ≡ K (x .p)
-      cp = condition-below w ownMarks I a (x .p) pb
+      cp = condition-below w marked I a (x .p) pb
 
       cq : co (x .q) ≡ K (x .q)
-      cq = condition-below w ownMarks I a (x .q) qb
+      cq = condition-below w marked I a (x .q) qb
 
       cr : co (x .r) ≡ K (x .r)
-      cr = condition-below w ownMarks I a (x .r) rb
+      cr = condition-below w marked I a (x .r) rb
 
       cell-is : W a .cell j ≡ laid .value
       unfolding valueBy
@@ -177,38 +177,38 @@ module _ (limit : ℕ) (w row : List ℕ) (look : ℕ → ℕ → ℕ → ℕ) (
           free-by Store e
           ∙ (λ i. chosen (cq i .free && cj) (eqb (vq i .num) j) (cr i .free) (cp i .readFree j cj) (eqb (vr i .num) (vp i .cell j)))
 
-      store-here : readingAt w (numbers w I k) (truths w ownMarks I k) a j cj (cellBeneath limit w row look f a j) ≡ meant a j cj
+      store-here : readingAt w (numbers w I k) (truths w marked I k) a j cj (cellBeneath limit w row look f a j) ≡ meant a j cj
       store-here =
-          sym (reading-store w (numbers w I k) (truths w ownMarks I k) (store-below limit w f) j cj (cellBeneath limit w row look f a j) a stores)
+          sym (reading-store w (numbers w I k) (truths w marked I k) (store-below limit w f) j cj (cellBeneath limit w row look f a j) a stores)
           ∙ from-code
           ∙ sym (λ i. record { value = cell-is i; free = free-is i })
 
-    store-reading : opOf (x .op) ≡ Store → readingAt w (numbers w I k) (truths w ownMarks I k) a j cj (cellBeneath limit w row look f a j) ≡ meant a j cj
+    store-reading : opOf (x .op) ≡ Store → readingAt w (numbers w I k) (truths w marked I k) a j cj (cellBeneath limit w row look f a j) ≡ meant a j cj
     store-reading e =
         let place = three-placed a x (placing-as w a (f .sound a d) Store e) in
         let sorts = four (array (sortAt w a)) (sameSort (sortAt w (x .p)) (sortAt w a)) (vectorOf (sortAt w a .m) (sortAt w (x .q))) (vectorOf (sortAt w a .n) (sortAt w (x .r))) (typing-as w a (f .sound a d) Store e) in
         store-here e (place .0) (place .1) (place .2) (same-array (sortAt w (x .p)) (sortAt w a) (sorts .1) r)
 
-    reading-step : readingAt w (numbers w I k) (truths w ownMarks I k) a j cj (cellBeneath limit w row look f a j) ≡ meant a j cj
+    reading-step : readingAt w (numbers w I k) (truths w marked I k) a j cj (cellBeneath limit w row look f a j) ≡ meant a j cj
     reading-step =
         ⊎-elim input-reading store-reading
         (array-op (opOf (x .op)) (sortAt w a) (sortAt w (x .p)) (sortAt w (x .q)) (sortAt w (x .r)) (op-at w a (f .sound a d)) (typing w a (f .sound a d)) r)
 
   reading-within : (n k a : ℕ) → a < n → a < k → a < terms w → array (sortAt w a) ≡ true → (j : ℕ) (cj : Bool)
-      → readingAt w (numbers w I k) (truths w ownMarks I k) a j cj (cellBeneath limit w row look f a j) ≡ meant a j cj
+      → readingAt w (numbers w I k) (truths w marked I k) a j cj (cellBeneath limit w row look f a j) ≡ meant a j cj
   reading-within zero k a b c d r j cj = absurd (not-suc-le-zero b)
   reading-within (suc n) k a b c d r j cj = reading-step k a c d r j cj (λ pb arr. reading-within n k (termAt w a .p) (omega arith) (omega arith) (omega arith) arr j cj)
 
 -- A term that is no read: its truth by its operator
 
-module _ (w front ts : List ℕ) (v : ℕ → Value) (c : ℕ → Condition) (x : Term) (is : (k : ℕ) → getD front k 0 ≡ v k .num) (free : (k : ℕ) → truthIn ts k ≡ c k .free) where
+module _ (w : List ℕ) (marked : Term → Bool) (front ts : List ℕ) (v : ℕ → Value) (c : ℕ → Condition) (x : Term) (is : (k : ℕ) → getD front k 0 ≡ v k .num) (free : (k : ℕ) → truthIn ts k ≡ c k .free) where
   abbrev width : ℕ
   width = sortAt w (x .p) .n
 
   abbrev truthBy : Op → Bool
   truthBy op =
       cond (immediate op) true
-      (cond (slotted op) (not (ownMarks x))
+      (cond (slotted op) (not (marked x))
       (settles op width (getD front (x .p) 0) (getD front (x .q) 0) (getD front (x .r) 0) (truthIn ts (x .p)) (truthIn ts (x .q)) (truthIn ts (x .r))))
 
   settles-same : (op : Op)
@@ -216,7 +216,7 @@ module _ (w front ts : List ℕ) (v : ℕ → Value) (c : ℕ → Condition) (x 
       ≡ settles op width (v (x .p) .num) (v (x .q) .num) (v (x .r) .num) (c (x .p) .free) (c (x .q) .free) (c (x .r) .free)
   settles-same op = λ i. settles op width (is (x .p) i) (is (x .q) i) (is (x .r) i) (free (x .p) i) (free (x .q) i) (free (x .r) i)
 
-  truth-by : (op : Op) → reads op ≡ false → truthBy op ≡ conditionBy ownMarks v c width x op .free
+  truth-by : (op : Op) → reads op ≡ false → truthBy op ≡ conditionBy marked v c width x op .free
   unfolding conditionBy settles
   truth-by Constant h = refl
   truth-by Variable h = refl
@@ -228,7 +228,7 @@ module _ (w front ts : List ℕ) (v : ℕ → Value) (c : ℕ → Condition) (x 
 
 -- Any term
 
-module _ (limit : ℕ) (w row : List ℕ) (look : ℕ → ℕ → ℕ → ℕ) (f : WellFormed limit w) (k : ℕ) (b : k < terms w) where
+module _ (limit : ℕ) (w : List ℕ) (marked : Term → Bool) (row : List ℕ) (look : ℕ → ℕ → ℕ → ℕ) (f : WellFormed limit w) (k : ℕ) (b : k < terms w) where
   abbrev In : Interpretation
   In = interpret row look
 
@@ -236,7 +236,7 @@ module _ (limit : ℕ) (w row : List ℕ) (look : ℕ → ℕ → ℕ → ℕ) (
   N = numbers w In k
 
   abbrev T : List ℕ
-  T = truths w ownMarks In k
+  T = truths w marked In k
 
   abbrev here : Term
   here = termAt w k
@@ -254,32 +254,32 @@ module _ (limit : ℕ) (w row : List ℕ) (look : ℕ → ℕ → ℕ → ℕ) (
       λ i. record { value = vs i; free = fs i }
 
   read-here : (answer : ℕ) → answer ≡ answerTo (truthIn T (here .q)) → opOf (here .op) ≡ Select
-      → _≡_ {A = Reading} (readingBy (truthIn T (here .q)) w N T here answer) (record { value = valueAt w In k .num; free = conditionAt w ownMarks In k .free })
+      → _≡_ {A = Reading} (readingBy (truthIn T (here .q)) w N T here answer) (record { value = valueAt w In k .num; free = conditionAt w marked In k .free })
   unfolding valueBy conditionBy
   read-here answer h e =
       let place = two-placed k here (placing-as w k (f .sound k b) Select e) in
       let pb : here .p < k = place .0 in
       let sorts = three (array (sortAt w (here .p))) (vectorOf (sortAt w (here .p) .m) (sortAt w (here .q))) (vectorOf (sortAt w (here .p) .n) (sortAt w k)) (typing-as w k (f .sound k b) Select e) in
       let nq = number-in w In k (here .q) in
-      let tq = truth-in w ownMarks In k (here .q) in
+      let tq = truth-in w marked In k (here .q) in
       let vp = value-below w In k (here .p) pb in
-      let cp = condition-below w ownMarks In k (here .p) pb in
+      let cp = condition-below w marked In k (here .p) pb in
       answered (truthIn T (here .q)) answer h
-      ∙ reading-within limit w row look f (suc (here .p)) k (here .p) (omega arith) pb (omega arith) (sorts .0) (getD N (here .q) 0) (truthIn T (here .q))
-      ∙ (λ i. record { value = valueAt w In (here .p) .cell (nq i); free = conditionAt w ownMarks In (here .p) .readFree (nq i) (tq i) })
-      ∙ sym (λ i. record { value = vp i .cell (valueIn (values w In k) (here .q) .num); free = cp i .readFree (valueIn (values w In k) (here .q) .num) (conditionIn (conditions w ownMarks In k) (here .q) .free) })
-      ∙ sym (ap (λ (o : Op). record { value = valueBy In (valueIn (values w In k)) (sortAt w (here .p) .n) here o .num; free = conditionBy ownMarks (valueIn (values w In k)) (conditionIn (conditions w ownMarks In k)) (sortAt w (here .p) .n) here o .free }) e)
+      ∙ reading-within limit w marked row look f (suc (here .p)) k (here .p) (omega arith) pb (omega arith) (sorts .0) (getD N (here .q) 0) (truthIn T (here .q))
+      ∙ (λ i. record { value = valueAt w In (here .p) .cell (nq i); free = conditionAt w marked In (here .p) .readFree (nq i) (tq i) })
+      ∙ sym (λ i. record { value = vp i .cell (valueIn (values w In k) (here .q) .num); free = cp i .readFree (valueIn (values w In k) (here .q) .num) (conditionIn (conditions w marked In k) (here .q) .free) })
+      ∙ sym (ap (λ (o : Op). record { value = valueBy In (valueIn (values w In k)) (sortAt w (here .p) .n) here o .num; free = conditionBy marked (valueIn (values w In k)) (conditionIn (conditions w marked In k)) (sortAt w (here .p) .n) here o .free }) e)
 
   pub reading-is : (answer : ℕ) → (reading here ≡ true → answer ≡ answerTo (truthIn T (here .q)))
-      → readingOf w row N T here answer ≡ record { value = valueAt w In k .num; free = conditionAt w ownMarks In k .free }
+      → readingOf w marked row N T here answer ≡ record { value = valueAt w In k .num; free = conditionAt w marked In k .free }
   unfolding readingOf
   reading-is answer h = go (reading here) refl
     where
       go : (z : Bool) → reading here ≡ z
-          → cond z (readingBy (truthIn T (here .q)) w N T here answer) (record { value = numberOf w row N here answer; free = truthOf w N T here })
-          ≡ record { value = valueAt w In k .num; free = conditionAt w ownMarks In k .free }
+          → cond z (readingBy (truthIn T (here .q)) w N T here answer) (record { value = numberOf w row N here answer; free = truthOf w marked N T here })
+          ≡ record { value = valueAt w In k .num; free = conditionAt w marked In k .free }
       go true e = read-here answer (h e) (reads-select (opOf (here .op)) e)
       go false e =
           let vs = number-is limit w row look f k b answer (λ r. never (sym e ∙ r)) in
-          let fs = truth-by w N T (valueIn (values w In k)) (conditionIn (conditions w ownMarks In k)) here (number-in w In k) (truth-in w ownMarks In k) (opOf (here .op)) e in
+          let fs = truth-by w marked N T (valueIn (values w In k)) (conditionIn (conditions w marked In k)) here (number-in w In k) (truth-in w marked In k) (opOf (here .op)) e in
           λ i. record { value = vs i; free = fs i }

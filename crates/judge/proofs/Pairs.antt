@@ -39,7 +39,7 @@ compared x first second same =
       first = first;
       second = second;
       agree = agree;
-      same = subst (Promise (x .table) (x .values) (x .cells)) first (demand3 (x .table) (x .values) (x .cells) 9 99) .same (x .values′) (x .cells′) 9 99 (x .verdict′) second agree;
+      same = subst (Promise (x .table) (x .values) (x .cells)) first (demand3 ownMarks (x .table) (x .values) (x .cells) 9 99) .same (x .values′) (x .cells′) 9 99 (x .verdict′) second agree;
     }
 
 -- by computation
@@ -53,4 +53,4 @@ sure-of-G x b =
     let checked : check ruleG (0 ∷ x ∷ 1 ∷ []) [] ≡ Admitted = rw (lt-ltb x 256 b) in
     let fit = checked-fits 512 ruleG (0 ∷ x ∷ 1 ∷ []) [] (admission-sound 512 ruleG refl) checked in
     let agree = agreement-computed ruleG ownMarks (0 ∷ 5 ∷ 1 ∷ []) (look []) (0 ∷ x ∷ 1 ∷ []) (look []) refl in
-    subst (Promise ruleG (0 ∷ 5 ∷ 1 ∷ []) []) (compared-pairs .0 .first) (demand3 ruleG (0 ∷ 5 ∷ 1 ∷ []) [] 9 99) .sure refl (interpret (0 ∷ x ∷ 1 ∷ []) (look [])) fit agree
+    subst (Promise ruleG (0 ∷ 5 ∷ 1 ∷ []) []) (compared-pairs .0 .first) (demand3 ownMarks ruleG (0 ∷ 5 ∷ 1 ∷ []) [] 9 99) .sure refl (interpret (0 ∷ x ∷ 1 ∷ []) (look [])) fit agree

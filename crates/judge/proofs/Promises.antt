@@ -9,6 +9,7 @@ use lib.Dec.{ltb}
 use Rattle.ops.proofs.Booleans.{and-parts}
 use Rattle.table.specs.declared.Admission.{Admission}
 use Rattle.table.specs.declared.Admission.the-variants.{Admitted, Refused}
+use Rattle.table.specs.declared.words.Term.{Term}
 use Rattle.table.specs.Terms.{terms}
 use Rattle.table.specs.Admission.{admissionWithin}
 use Rattle.table.specs.WellFormed.{WellFormed}
@@ -25,9 +26,8 @@ use Rattle.evaluate.proofs.Answers.{passed}
 use Rattle.judge.specs.declared.Verdict.{Verdict}
 use Rattle.judge.specs.declared.Judgement.{Judgement}
 use Rattle.judge.specs.declared.Judgement.the-variants.{Judged, NotJudged}
-use Rattle.judge.specs.Conditions.{ownMarks}
-use Rattle.judge.specs.Judgement.{ruleIn, ruleCondition, verdict, judgement, passes}
-use Rattle.judge.specs.Demand3.{SameVerdict, Promise, Demand3}
+use Rattle.judge.specs.Judgement.{ruleIn, ruleCondition, verdict, judgementUnder, passes}
+use Rattle.judge.specs.Demand3.{SameVerdict, PromiseUnder, Demand3}
 use Rattle.judge.proofs.Alike.{independence}
 
 -- The steps that an evaluation spent
@@ -62,56 +62,57 @@ ready-spends limit w values cells each allowance room =
 
 -- What is known of a verdict
 
--- a judgement that is no refusal: the table is well formed, the setting fits, and this is what it says
-pub record Known (w values cells : List ℕ) (v : Verdict) : Type 0 where
-  pub formed : WellFormed 512 w
-  pub fit : FitInputs w (interpret values (look cells))
-  pub rule : v .rule ≡ ruleIn w (interpret values (look cells))
-  pub condition : v .condition ≡ ruleCondition w (interpret values (look cells))
-  pub steps : v .steps ≡ steps w (terms w)
+module _ (marked : Term → Bool) where
+  -- a judgement that is no refusal: the table is well formed, the setting fits, and this is what it says
+  pub record Known (w values cells : List ℕ) (v : Verdict) : Type 0 where
+    pub formed : WellFormed 512 w
+    pub fit : FitInputs w (interpret values (look cells))
+    pub rule : v .rule ≡ ruleIn w (interpret values (look cells))
+    pub condition : v .condition ≡ ruleCondition w marked (interpret values (look cells))
+    pub steps : v .steps ≡ steps w (terms w)
 
--- the same of a judgement: nothing of a refusal
-abbrev KnownOf : List ℕ → List ℕ → List ℕ → Judgement → Type 0
-KnownOf w values cells (Judged v) = Known w values cells v
-KnownOf w values cells (NotJudged r) = Unit {0}
+  -- the same of a judgement: nothing of a refusal
+  abbrev KnownOf : List ℕ → List ℕ → List ℕ → Judgement → Type 0
+  KnownOf w values cells (Judged v) = Known w values cells v
+  KnownOf w values cells (NotJudged r) = Unit {0}
 
--- it is so of every judgement
-known : (w values cells : List ℕ) (allowance room : ℕ) → KnownOf w values cells (judgement w values cells allowance room)
-known w values cells allowance room =
-    go (ready 512 w values cells 2 allowance room) (ready-spends 512 w values cells 2 allowance room)
-    (λ h. let p = passed 512 w values cells 2 allowance room h in let f = admission-sound 512 w (p .admitted) in (f, checked-fits 512 w values cells f (p .checked)))
-  where
-    go : (e : Evaluation) → Spends (steps w (terms w)) e → (evaluates e ≡ true → WellFormed 512 w × FitInputs w (interpret values (look cells))) → KnownOf w values cells (verdict e w (interpret values (look cells)))
-    go (Evaluated s) h f = record { formed = f refl .0; fit = f refl .1; rule = refl; condition = refl; steps = h }
-    go (NotEvaluated r) h f = tt
+  -- it is so of every judgement
+  known : (w values cells : List ℕ) (allowance room : ℕ) → KnownOf w values cells (judgementUnder marked w values cells allowance room)
+  known w values cells allowance room =
+      go (ready 512 w values cells 2 allowance room) (ready-spends 512 w values cells 2 allowance room)
+      (λ h. let p = passed 512 w values cells 2 allowance room h in let f = admission-sound 512 w (p .admitted) in (f, checked-fits 512 w values cells f (p .checked)))
+    where
+      go : (e : Evaluation) → Spends (steps w (terms w)) e → (evaluates e ≡ true → WellFormed 512 w × FitInputs w (interpret values (look cells))) → KnownOf w values cells (verdict e w marked (interpret values (look cells)))
+      go (Evaluated s) h f = record { formed = f refl .0; fit = f refl .1; rule = refl; condition = refl; steps = h }
+      go (NotEvaluated r) h f = tt
 
--- (a) two verdicts of settings that agree on every unmarked input
-same-verdict : (w values cells values′ cells′ : List ℕ) (v v′ : Verdict) → Known w values cells v → Known w values′ cells′ v′
-    → AgreeUnmarked w ownMarks (interpret values (look cells)) (interpret values′ (look cells′)) → SameVerdict v v′
-same-verdict w values cells values′ cells′ v v′ k k′ agree =
-    let one = independence 512 w (interpret values (look cells)) (interpret values′ (look cells′)) (k .formed) (k .fit) (k′ .fit) agree in
-    record {
-      condition = k .condition ∙ one .condition ∙ sym (k′ .condition);
-      steps = k .steps ∙ sym (k′ .steps);
-      rule = λ h. k .rule ∙ one .rule (sym (k .condition) ∙ h) ∙ sym (k′ .rule);
-    }
+  -- (a) two verdicts of settings that agree on every unmarked input
+  same-verdict : (w values cells values′ cells′ : List ℕ) (v v′ : Verdict) → Known w values cells v → Known w values′ cells′ v′
+      → AgreeUnmarked w marked (interpret values (look cells)) (interpret values′ (look cells′)) → SameVerdict v v′
+  same-verdict w values cells values′ cells′ v v′ k k′ agree =
+      let one = independence 512 w marked (interpret values (look cells)) (interpret values′ (look cells′)) (k .formed) (k .fit) (k′ .fit) agree in
+      record {
+        condition = k .condition ∙ one .condition ∙ sym (k′ .condition);
+        steps = k .steps ∙ sym (k′ .steps);
+        rule = λ h. k .rule ∙ one .rule (sym (k .condition) ∙ h) ∙ sym (k′ .rule);
+      }
 
--- (b) a verdict that passes, and an interpretation that agrees
-sure-of : (w values cells : List ℕ) (v : Verdict) → Known w values cells v → passes v ≡ true
-    → (I : Interpretation) → FitInputs w I → AgreeUnmarked w ownMarks (interpret values (look cells)) I → ruleIn w I ≡ true
-sure-of w values cells v k h I fit agree =
-    let both = and-parts (v .rule) (v .condition) h in
-    sym (independence 512 w (interpret values (look cells)) I (k .formed) (k .fit) fit agree .rule (sym (k .condition) ∙ both .1)) ∙ sym (k .rule) ∙ both .0
+  -- (b) a verdict that passes, and an interpretation that agrees
+  sure-of : (w values cells : List ℕ) (v : Verdict) → Known w values cells v → passes v ≡ true
+      → (I : Interpretation) → FitInputs w I → AgreeUnmarked w marked (interpret values (look cells)) I → ruleIn w I ≡ true
+  sure-of w values cells v k h I fit agree =
+      let both = and-parts (v .rule) (v .condition) h in
+      sym (independence 512 w marked (interpret values (look cells)) I (k .formed) (k .fit) fit agree .rule (sym (k .condition) ∙ both .1)) ∙ sym (k .rule) ∙ both .0
 
--- both, of every judgement
+  -- both, of every judgement
+  promised : (w values cells : List ℕ) (j : Judgement) → KnownOf w values cells j → PromiseUnder marked w values cells j
+  promised w values cells (Judged v) k =
+      record {
+        same = λ values′ cells′ allowance′ room′ v′ e agree.
+            same-verdict w values cells values′ cells′ v v′ k (subst (KnownOf w values′ cells′) e (known w values′ cells′ allowance′ room′)) agree;
+        sure = sure-of w values cells v k;
+      }
+  promised w values cells (NotJudged r) k = tt
+
 pub demand3 : Demand3
-demand3 w values cells allowance room = go (judgement w values cells allowance room) (known w values cells allowance room)
-  where
-    go : (j : Judgement) → KnownOf w values cells j → Promise w values cells j
-    go (Judged v) k =
-        record {
-          same = λ values′ cells′ allowance′ room′ v′ e agree.
-              same-verdict w values cells values′ cells′ v v′ k (subst (KnownOf w values′ cells′) e (known w values′ cells′ allowance′ room′)) agree;
-          sure = sure-of w values cells v k;
-        }
-    go (NotJudged r) k = tt
+demand3 marked w values cells allowance room = promised marked w values cells (judgementUnder marked w values cells allowance room) (known marked w values cells allowance room)

@@ -18,9 +18,9 @@ use Rattle.judge.specs.declared.reads.Reading.{Reading}
 use Rattle.judge.specs.Code.Readings.{readingOf, written, noted}
 
 -- only a read depends on the answer
-same-reading : (w row front ts : List ℕ) (x : Term) (answer : ℕ) → reading x ≡ false → readingOf w row front ts x answer ≡ readingOf w row front ts x 0
+same-reading : (w : List ℕ) (marked : Term → Bool) (row front ts : List ℕ) (x : Term) (answer : ℕ) → reading x ≡ false → readingOf w marked row front ts x answer ≡ readingOf w marked row front ts x 0
 unfolding readingOf numberOf
-same-reading w row front ts x answer h = rw h
+same-reading w marked row front ts x answer h = rw h
 
 module _ (w row : List ℕ) (n at answer : ℕ) where
   -- where a step stops that has begun at term at
@@ -33,22 +33,6 @@ module _ (w row : List ℕ) (n at answer : ℕ) where
   stops-later : (k : ℕ) → at < k → stopsAfter k ≡ readingAt w k
   stops-later k b = rw (ne-eqb k at (λ e. omega (arith, e, b)))
 
-  same-noted : (room : List ℕ) (k : ℕ) → readingAt w k ≡ false → noted w row n answer room k ≡ noted w row n 0 room k
-  same-noted room k e = ap (λ (r : Reading). written r n room k) (same-reading w row (take k room) (take k (drop n room)) (termAt w k) answer e)
-
-  same-on : (left k : ℕ) (room : List ℕ) → at < k → onFrom stopsAfter (noted w row n answer) left room k ≡ onFrom (readingAt w) (noted w row n 0) left room k
-  unfolding onFrom
-  same-on zero k room b = refl
-  same-on (suc left) k room b =
-      ap (λ (s : Bool). cond s room (onFrom stopsAfter (noted w row n answer) left (noted w row n answer room k) (suc k))) (stops-later k b)
-      ∙ by (readingAt w k) refl (same-on left (suc k) (noted w row n answer room k) (omega arith))
-    where
-      by : (s : Bool) → readingAt w k ≡ s
-          → onFrom stopsAfter (noted w row n answer) left (noted w row n answer room k) (suc k) ≡ onFrom (readingAt w) (noted w row n 0) left (noted w row n answer room k) (suc k)
-          → cond s room (onFrom stopsAfter (noted w row n answer) left (noted w row n answer room k) (suc k)) ≡ cond s room (onFrom (readingAt w) (noted w row n 0) left (noted w row n 0 room k) (suc k))
-      by true e rest = refl
-      by false e rest = rest ∙ ap (λ (r : List ℕ). onFrom (readingAt w) (noted w row n 0) left r (suc k)) (same-noted room k e)
-
   same-first : (left k : ℕ) → at < k → firstFrom stopsAfter left k ≡ firstFrom (readingAt w) left k
   unfolding firstFrom
   same-first zero k b = refl
@@ -56,9 +40,27 @@ module _ (w row : List ℕ) (n at answer : ℕ) where
       ap (λ (s : Bool). cond s k (firstFrom stopsAfter left (suc k))) (stops-later k b)
       ∙ ap (cond (readingAt w k) k) (same-first left (suc k) (omega arith))
 
-  -- where it stops, and the room there
+  -- where it stops
   pub step-next : at < n → firstFrom stopsAfter (n - at) at ≡ nextRead w n (at + 1)
   step-next b = first-on stopsAfter n at b stops-here ∙ same-first (n - (at + 1)) (at + 1) (omega arith)
 
-  pub step-room : (room : List ℕ) → at < n → onFrom stopsAfter (noted w row n answer) (n - at) room at ≡ onward w (noted w row n 0) n (noted w row n answer room at) (at + 1)
-  step-room room b = on-more stopsAfter (noted w row n answer) n at room b stops-here ∙ same-on (n - (at + 1)) (at + 1) (noted w row n answer room at) (omega arith)
+  module _ (marked : Term → Bool) where
+    same-noted : (room : List ℕ) (k : ℕ) → readingAt w k ≡ false → noted w marked row n answer room k ≡ noted w marked row n 0 room k
+    same-noted room k e = ap (λ (r : Reading). written r n room k) (same-reading w marked row (take k room) (take k (drop n room)) (termAt w k) answer e)
+
+    same-on : (left k : ℕ) (room : List ℕ) → at < k → onFrom stopsAfter (noted w marked row n answer) left room k ≡ onFrom (readingAt w) (noted w marked row n 0) left room k
+    unfolding onFrom
+    same-on zero k room b = refl
+    same-on (suc left) k room b =
+        ap (λ (s : Bool). cond s room (onFrom stopsAfter (noted w marked row n answer) left (noted w marked row n answer room k) (suc k))) (stops-later k b)
+        ∙ by (readingAt w k) refl (same-on left (suc k) (noted w marked row n answer room k) (omega arith))
+      where
+        by : (s : Bool) → readingAt w k ≡ s
+            → onFrom stopsAfter (noted w marked row n answer) left (noted w marked row n answer room k) (suc k) ≡ onFrom (readingAt w) (noted w marked row n 0) left (noted w marked row n answer room k) (suc k)
+            → cond s room (onFrom stopsAfter (noted w marked row n answer) left (noted w marked row n answer room k) (suc k)) ≡ cond s room (onFrom (readingAt w) (noted w marked row n 0) left (noted w marked row n 0 room k) (suc k))
+        by true e rest = refl
+        by false e rest = rest ∙ ap (λ (r : List ℕ). onFrom (readingAt w) (noted w marked row n 0) left r (suc k)) (same-noted room k e)
+
+    -- and the room there
+    pub step-room : (room : List ℕ) → at < n → onFrom stopsAfter (noted w marked row n answer) (n - at) room at ≡ onward w (noted w marked row n 0) n (noted w marked row n answer room at) (at + 1)
+    step-room room b = on-more stopsAfter (noted w marked row n answer) n at room b stops-here ∙ same-on (n - (at + 1)) (at + 1) (noted w marked row n answer room at) (omega arith)

@@ -10,6 +10,7 @@ use lib.ListN.{length, getD, drop, length-append, List·getD-append}
 use lib.Seq.{getD-append-add}
 use Rattle.ops.specs.Meaning.{bit, holds}
 use Rattle.ops.proofs.Booleans.{never}
+use Rattle.table.specs.declared.words.Term.{Term}
 use Rattle.table.specs.Terms.{terms}
 use Rattle.setting.specs.Cells.{look}
 use Rattle.setting.specs.Interpretation.{Interpretation, interpret}
@@ -40,28 +41,28 @@ room-filled (Evaluated s) a b w values cells room h = refl
 room-filled (NotEvaluated r) a b w values cells room h = never h
 
 -- the last term's value and truth stand at the ends of the two fronts
-module _ (w : List ℕ) (I : Interpretation) (rest : List ℕ) (some : 0 < terms w) where
+module _ (w : List ℕ) (marked : Term → Bool) (I : Interpretation) (rest : List ℕ) (some : 0 < terms w) where
   abbrev n : ℕ
   n = terms w
 
   last-is : n - 1 ≡ pred n
   last-is = omega arith
 
-  pub rule-read : holds (getD (numbers w I n ++ truths w ownMarks I n ++ rest) (n - 1) 0) ≡ ruleIn w I
+  pub rule-read : holds (getD (numbers w I n ++ truths w marked I n ++ rest) (n - 1) 0) ≡ ruleIn w I
   rule-read =
       ap holds
-      (List·getD-append (numbers w I n ++ truths w ownMarks I n) rest 0 (n - 1) (rw (length-append, length-numbers w I n) (omega arith))
-      ∙ List·getD-append (numbers w I n) (truths w ownMarks I n) 0 (n - 1) (rw (length-numbers w I n) (omega arith))
+      (List·getD-append (numbers w I n ++ truths w marked I n) rest 0 (n - 1) (rw (length-append, length-numbers w I n) (omega arith))
+      ∙ List·getD-append (numbers w I n) (truths w marked I n) 0 (n - 1) (rw (length-numbers w I n) (omega arith))
       ∙ number-in w I n (n - 1)
       ∙ ap (λ (v : Value). v .num) (value-below w I n (n - 1) (omega arith))
       ∙ ap (λ (k : ℕ). valueAt w I k .num) last-is)
 
-  pub condition-read : holds (getD (numbers w I n ++ truths w ownMarks I n ++ rest) (n + (n - 1)) 0) ≡ ruleCondition w I
+  pub condition-read : holds (getD (numbers w I n ++ truths w marked I n ++ rest) (n + (n - 1)) 0) ≡ ruleCondition w marked I
   condition-read =
       ap holds
-      (List·getD-append (numbers w I n ++ truths w ownMarks I n) rest 0 (n + (n - 1)) (rw (length-append, length-numbers w I n, length-truths w ownMarks I n) (omega arith))
-      ∙ ap (λ (k : ℕ). getD (numbers w I n ++ truths w ownMarks I n) (k + (n - 1)) 0) (sym (length-numbers w I n))
-      ∙ getD-append-add (numbers w I n) (truths w ownMarks I n) (n - 1) 0)
-      ∙ truth-in w ownMarks I n (n - 1)
-      ∙ ap (λ (c : Condition). c .free) (condition-below w ownMarks I n (n - 1) (omega arith))
-      ∙ ap (λ (k : ℕ). conditionAt w ownMarks I k .free) last-is
+      (List·getD-append (numbers w I n ++ truths w marked I n) rest 0 (n + (n - 1)) (rw (length-append, length-numbers w I n, length-truths w marked I n) (omega arith))
+      ∙ ap (λ (k : ℕ). getD (numbers w I n ++ truths w marked I n) (k + (n - 1)) 0) (sym (length-numbers w I n))
+      ∙ getD-append-add (numbers w I n) (truths w marked I n) (n - 1) 0)
+      ∙ truth-in w marked I n (n - 1)
+      ∙ ap (λ (c : Condition). c .free) (condition-below w marked I n (n - 1) (omega arith))
+      ∙ ap (λ (k : ℕ). conditionAt w marked I k .free) last-is

@@ -13,17 +13,17 @@ use Rattle.judge.specs.declared.Verdict.{Verdict}
 use Rattle.judge.specs.declared.Judgement.{Judgement}
 use Rattle.judge.specs.declared.Judgement.the-variants.{Judged, NotJudged}
 use Rattle.judge.specs.Conditions.{ownMarks, conditionAt}
-use Rattle.judge.specs.Judgement.{ruleIn, ruleCondition, judgement, passes}
+use Rattle.judge.specs.Judgement.{ruleIn, ruleCondition, judgementUnder, passes}
 
--- Of interpretations: two that fit and agree on every unmarked input give the rule one condition, and where it is true one value.
-pub record OneCondition (w : List ℕ) (I I′ : Interpretation) : Type 0 where
-  pub condition : ruleCondition w I ≡ ruleCondition w I′
-  pub rule : ruleCondition w I ≡ true → ruleIn w I ≡ ruleIn w I′
+-- Of interpretations, under any marks: two that fit and agree on every unmarked input give the rule one condition, and where it is true one value.
+pub record OneCondition (w : List ℕ) (marked : Term → Bool) (I I′ : Interpretation) : Type 0 where
+  pub condition : ruleCondition w marked I ≡ ruleCondition w marked I′
+  pub rule : ruleCondition w marked I ≡ true → ruleIn w I ≡ ruleIn w I′
 
 abbrev pub Independence : Type 0
 Independence =
-    (limit : ℕ) (w : List ℕ) (I I′ : Interpretation) → WellFormed limit w → FitInputs w I → FitInputs w I′
-    → AgreeUnmarked w ownMarks I I′ → OneCondition w I I′
+    (limit : ℕ) (w : List ℕ) (marked : Term → Bool) (I I′ : Interpretation) → WellFormed limit w → FitInputs w I → FitInputs w I′
+    → AgreeUnmarked w marked I I′ → OneCondition w marked I I′
 
 -- (a) of two judgements of one table that are not refused, in settings that agree on every unmarked input, whatever the marked inputs,
 -- the rows' lengths and listings, the allowances and the rooms: one condition, one count of steps, and where the condition is true one
@@ -34,16 +34,20 @@ pub record SameVerdict (v v′ : Verdict) : Type 0 where
   pub rule : v .condition ≡ true → v .rule ≡ v′ .rule
 
 -- (b) where a setting passes, the rule's SMT-LIB value is true in every fitting interpretation that agrees with it on the unmarked inputs
-pub record Independent (w values cells : List ℕ) (v : Verdict) : Type 0 where
-  pub same : (values′ cells′ : List ℕ) (allowance′ room′ : ℕ) (v′ : Verdict) → judgement w values′ cells′ allowance′ room′ ≡ Judged v′
-      → AgreeUnmarked w ownMarks (interpret values (look cells)) (interpret values′ (look cells′)) → SameVerdict v v′
-  pub sure : passes v ≡ true → (I : Interpretation) → FitInputs w I → AgreeUnmarked w ownMarks (interpret values (look cells)) I → ruleIn w I ≡ true
+pub record Independent (marked : Term → Bool) (w values cells : List ℕ) (v : Verdict) : Type 0 where
+  pub same : (values′ cells′ : List ℕ) (allowance′ room′ : ℕ) (v′ : Verdict) → judgementUnder marked w values′ cells′ allowance′ room′ ≡ Judged v′
+      → AgreeUnmarked w marked (interpret values (look cells)) (interpret values′ (look cells′)) → SameVerdict v v′
+  pub sure : passes v ≡ true → (I : Interpretation) → FitInputs w I → AgreeUnmarked w marked (interpret values (look cells)) I → ruleIn w I ≡ true
 
 -- what a judgement promises besides its answer: nothing for a refusal
-abbrev pub Promise : List ℕ → List ℕ → List ℕ → Judgement → Type 0
-Promise w values cells (Judged v) = Independent w values cells v
-Promise w values cells (NotJudged r) = Unit {0}
+abbrev pub PromiseUnder : (Term → Bool) → List ℕ → List ℕ → List ℕ → Judgement → Type 0
+PromiseUnder marked w values cells (Judged v) = Independent marked w values cells v
+PromiseUnder marked w values cells (NotJudged r) = Unit {0}
 
--- Demand 3, of every judgement
+-- by the table's own marks
+abbrev pub Promise : List ℕ → List ℕ → List ℕ → Judgement → Type 0
+Promise w values cells j = PromiseUnder ownMarks w values cells j
+
+-- Demand 3, of every judgement, under any marks
 abbrev pub Demand3 : Type 0
-Demand3 = (w values cells : List ℕ) (allowance room : ℕ) → Promise w values cells (judgement w values cells allowance room)
+Demand3 = (marked : Term → Bool) (w values cells : List ℕ) (allowance room : ℕ) → PromiseUnder marked w values cells (judgementUnder marked w values cells allowance room)

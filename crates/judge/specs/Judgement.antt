@@ -5,6 +5,7 @@ use mathlib.Core.List.{List, _++_}
 use Prim.Native.Nat.{ℕ, pred, _*_}
 use lib.ListN.{length, drop}
 use Rattle.ops.specs.Meaning.{holds}
+use Rattle.table.specs.declared.words.Term.{Term}
 use Rattle.table.specs.Terms.{terms}
 use Rattle.setting.specs.Cells.{look}
 use Rattle.setting.specs.Interpretation.{Interpretation, interpret}
@@ -17,33 +18,37 @@ use Rattle.judge.specs.declared.Judgement.{Judgement}
 use Rattle.judge.specs.declared.Judgement.the-variants.{Judged, NotJudged}
 use Rattle.judge.specs.Conditions.{ownMarks, conditionAt, truths}
 
--- the rule is the last term: its value and its condition in an interpretation
+-- the rule is the last term: its value and its condition in an interpretation; which terms are marked is a parameter
 abbrev pub ruleIn : List ℕ → Interpretation → Bool
 ruleIn w I = holds (valueAt w I (pred (terms w)) .num)
 
-abbrev pub ruleCondition : List ℕ → Interpretation → Bool
-ruleCondition w I = conditionAt w ownMarks I (pred (terms w)) .free
+abbrev pub ruleCondition : List ℕ → (Term → Bool) → Interpretation → Bool
+ruleCondition w marked I = conditionAt w marked I (pred (terms w)) .free
 
 -- rule, condition, steps and allowance left, or the refusal
 abbrev pub verdictBy : Evaluation → Bool → Bool → Judgement
 verdictBy (Evaluated s) rule condition = Judged (record { rule = rule; condition = condition; steps = s .steps; left = s .left })
 verdictBy (NotEvaluated r) rule condition = NotJudged r
 
-abbrev pub verdict : Evaluation → List ℕ → Interpretation → Judgement
-verdict e w I = verdictBy e (ruleIn w I) (ruleCondition w I)
+abbrev pub verdict : Evaluation → List ℕ → (Term → Bool) → Interpretation → Judgement
+verdict e w marked I = verdictBy e (ruleIn w I) (ruleCondition w marked I)
 
 -- judging: at most 512 terms, two numbers a term
+abbrev pub judgementUnder : (Term → Bool) → List ℕ → List ℕ → List ℕ → ℕ → ℕ → Judgement
+judgementUnder marked w values cells allowance room = verdict (ready 512 w values cells 2 allowance room) w marked (interpret values (look cells))
+
+-- by the table's own marks
 abbrev pub judgement : List ℕ → List ℕ → List ℕ → ℕ → ℕ → Judgement
-judgement w values cells allowance room = verdict (ready 512 w values cells 2 allowance room) w (interpret values (look cells))
+judgement w values cells allowance room = judgementUnder ownMarks w values cells allowance room
 
 -- a setting passes just where rule and condition are both true
 abbrev pub passes : Verdict → Bool
 passes v = v .rule && v .condition
 
 -- the room: the n values, then the n truths, in the setting's interpretation, its rest untouched; a refusal leaves it as it was
-abbrev pub roomIn : Judgement → List ℕ → Interpretation → List ℕ → List ℕ
-roomIn (Judged v) w I room = numbers w I (terms w) ++ truths w ownMarks I (terms w) ++ drop (terms w * 2) room
-roomIn (NotJudged r) w I room = room
+abbrev pub roomIn : Judgement → List ℕ → (Term → Bool) → Interpretation → List ℕ → List ℕ
+roomIn (Judged v) w marked I room = numbers w I (terms w) ++ truths w marked I (terms w) ++ drop (terms w * 2) room
+roomIn (NotJudged r) w marked I room = room
 
 abbrev pub roomAfter : Judgement → List ℕ → List ℕ → List ℕ → List ℕ → List ℕ
-roomAfter j w values cells room = roomIn j w (interpret values (look cells)) room
+roomAfter j w values cells room = roomIn j w ownMarks (interpret values (look cells)) room

@@ -10,6 +10,7 @@ use Rattle.setting.specs.Laws.{OneUsedValues}
 use Rattle.evaluate.specs.Laws.{runNumbers}
 use Rattle.judge.specs.declared.Judgement.{Judgement}
 use Rattle.judge.specs.declared.Judgement.the-variants.{Judged, NotJudged}
+use Rattle.judge.specs.Conditions.{ownMarks}
 use Rattle.judge.specs.Bench.{either}
 use Rattle.judge.specs.Judgement.{ruleIn, ruleCondition, judgement, roomAfter}
 
@@ -33,4 +34,4 @@ UnusedUnjudged =
 
 -- P12 whatever x holds: "x < 5 or not (x < 5)" is true, and its condition false.
 abbrev pub AlwaysDependent : Type 0
-AlwaysDependent = (I : Interpretation) → (ruleIn either I ≡ true) × (ruleCondition either I ≡ false)
+AlwaysDependent = (I : Interpretation) → (ruleIn either I ≡ true) × (ruleCondition either ownMarks I ≡ false)

@@ -5,6 +5,7 @@ ghost use lib.ListN.{length};
 ghost use Rattle.table.specs.Terms as tables;
 ghost use Rattle.table.specs.WellFormed.{WellFormed};
 ghost use Rattle.evaluate.specs.Code.Turns.{nextRead, onward, Next, Behind};
+ghost use Rattle.judge.specs.Conditions.{ownMarks};
 ghost use Rattle.judge.specs.Code.Readings.{operatedReading, readingOf, readingHere, written, noted};
 ghost use Rattle.judge.specs.Code.Turns.{turnHere};
 use crate::reads::Reading;
@@ -59,7 +60,8 @@ fn reading_of(
     requires { ⌜ Next (now table) (now front) x ⌝ }
     requires { ⌜ length (now truths) ≡ length (now front) ⌝ }
     ensures { λ r. ⌜ r
-        ≡ readingOf (now (table .entry)) (now (values .entry)) (now (front .entry)) (now (truths .entry)) x answer ⌝ }
+        ≡ readingOf (now (table .entry)) ownMarks (now (values .entry)) (now (front .entry)) (now (truths .entry)) x
+        answer ⌝ }
 {
     if table::reading(x) {
         let free = truth_at(truths, x.q);
@@ -103,7 +105,8 @@ fn reading_here(
     requires { ⌜ WellFormed 80000 (now table) ⌝ }
     requires { ⌜ terms ≡ tables.terms (now table) ⌝ }
     requires { ⌜ (at < terms) × (terms + at ≤ length (now room)) ⌝ }
-    ensures { λ r. ⌜ r ≡ readingHere (now (table .entry)) (now (values .entry)) terms (now (room .entry)) at answer ⌝ }
+    ensures { λ r. ⌜ r
+        ≡ readingHere (now (table .entry)) ownMarks (now (values .entry)) terms (now (room .entry)) at answer ⌝ }
 {
     let end = at as usize;
     let start = terms as usize;
@@ -141,8 +144,9 @@ pub fn step(
     ensures { λ r. ⌜ r ≡ turnHere (now (table .entry)) (now (values .entry)) count terms (now (work .exit))
         (nextRead (now (table .entry)) terms (turn .at + 1)) ⌝ }
     ensures { λ r. ⌜ now (work .exit)
-        ≡ onward (now (table .entry)) (noted (now (table .entry)) (now (values .entry)) terms 0) terms (noted
-        (now (table .entry)) (now (values .entry)) terms answer (now (work .entry)) (turn .at)) (turn .at + 1) ⌝ }
+        ≡ onward (now (table .entry)) (noted (now (table .entry)) ownMarks (now (values .entry)) terms 0) terms
+        (noted (now (table .entry)) ownMarks (now (values .entry)) terms answer (now (work .entry)) (turn .at))
+        (turn .at + 1) ⌝ }
 {
     let at = turn.at;
     let mut i = at;

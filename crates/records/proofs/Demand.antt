@@ -42,11 +42,11 @@ module _ (w values : List ℕ) (cells : List Cell) where
 pub record-demand3 : RecordDemand3
 record-demand3 w values cells allowance room =
     subst (Promise w values cells) (sym (equal-judgement w values cells allowance room))
-    (of-laid w values cells (judges.judgement w values (laid cells) allowance room) (demand3 w values (laid cells) allowance room))
+    (of-laid w values cells (judges.judgement w values (laid cells) allowance room) (demand3 ownMarks w values (laid cells) allowance room))
 
 -- a judgement of numbers against one of records
 pub flat-demand3 : FlatDemand3
-flat-demand3 w values cells allowance room = go (judges.judgement w values cells allowance room) (demand3 w values cells allowance room)
+flat-demand3 w values cells allowance room = go (judges.judgement w values cells allowance room) (demand3 ownMarks w values cells allowance room)
   where
     go : (j : Judgement) → demands.Promise w values cells j → FlatPromise w values cells j
     go (Judged v) p = λ values′ cells′ allowance′ room′ v′ e agree.

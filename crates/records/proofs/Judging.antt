@@ -31,11 +31,11 @@ use Rattle.records.specs.Answers.{inRecords, ready, judgement, judged}
 use Rattle.records.specs.Code.Drive.{firstTurn, verdictFrom}
 use Rattle.records.proofs.Driving as driving
 
-filled-room : (e : Evaluation) (a b : Bool) (w : List ℕ) (I : Interpretation) (room : List ℕ) → evaluates e ≡ true → numbers w I (terms w) ++ truths w ownMarks I (terms w) ++ drop (terms w * 2) room ≡ roomIn (verdictBy e a b) w I room
+filled-room : (e : Evaluation) (a b : Bool) (w : List ℕ) (I : Interpretation) (room : List ℕ) → evaluates e ≡ true → numbers w I (terms w) ++ truths w ownMarks I (terms w) ++ drop (terms w * 2) room ≡ roomIn (verdictBy e a b) w ownMarks I room
 filled-room (Evaluated s) a b w I room h = refl
 filled-room (NotEvaluated r) a b w I room h = never h
 
-kept-room : (e : Evaluation) (a b : Bool) (w : List ℕ) (I : Interpretation) (room : List ℕ) → evaluates e ≡ false → room ≡ roomIn (verdictBy e a b) w I room
+kept-room : (e : Evaluation) (a b : Bool) (w : List ℕ) (I : Interpretation) (room : List ℕ) → evaluates e ≡ false → room ≡ roomIn (verdictBy e a b) w ownMarks I room
 kept-room (Evaluated s) a b w I room h = never (sym h)
 kept-room (NotEvaluated r) a b w I room h = refl
 
@@ -48,13 +48,13 @@ module _ (w values : List ℕ) (cells : List Cell) (allowance : ℕ) (begin : Li
     formed-some b = formed (driving.counted 512 w values cells 2 allowance begin (omega arith) e is n is-n b)
 
     abbrev Filling : List ℕ → Turn → Type 0
-    Filling = fills.Filling w values (recordAt cells) (length cells) n begin
+    Filling = fills.Filling w ownMarks values (recordAt cells) (length cells) n begin
 
     abbrev pub Driven : List ℕ → Turn → Type 0
     Driven = driving.Driven e begin Filling
 
     pub started : (turn : Turn) → turn ≡ firstTurn w values (length cells) n → Driven begin turn
-    started turn first = driving.started 512 w values cells 2 allowance begin (omega arith) e is n is-n Filling turn first (fills.started w values (recordAt cells) (length cells) n begin turn)
+    started turn first = driving.started 512 w values cells 2 allowance begin (omega arith) e is n is-n Filling turn first (fills.started w ownMarks values (recordAt cells) (length cells) n begin turn)
 
     module _ (on : evaluates e ≡ true) where
       all : n ≡ terms w
@@ -65,7 +65,7 @@ module _ (w values : List ℕ) (cells : List Cell) (allowance : ℕ) (begin : Li
 
     module _ (room : List ℕ) (turn : Turn) (h : Driven room turn) where
       same-by : (b : Bool) → evaluates e ≡ b → length room ≡ length begin
-      same-by true on = fills.same-length w values (recordAt cells) (length cells) n begin 80000 (formed on) (all on) (enough on) room turn (h .running on)
+      same-by true on = fills.same-length w ownMarks values (recordAt cells) (length cells) n begin 80000 (formed on) (all on) (enough on) room turn (h .running on)
       same-by false off = ap length (h .resting off .0)
 
       pub same-length : length room ≡ length begin
@@ -83,19 +83,19 @@ module _ (w values : List ℕ) (cells : List Cell) (allowance : ℕ) (begin : Li
         every = all runs
 
         pub most : turn .count ≤ length cells
-        most = count-here n (fills.filled w values (recordAt cells) (length cells) n begin) (fills.asking w values (recordAt cells) (length cells) n begin) (length cells) (fills.asks w values (recordAt cells) (length cells) n begin) room turn (h .running runs)
+        most = count-here n (fills.filled w ownMarks values (recordAt cells) (length cells) n begin) (fills.asking w ownMarks values (recordAt cells) (length cells) n begin) (length cells) (fills.asks w ownMarks values (recordAt cells) (length cells) n begin) room turn (h .running runs)
 
         inside : turn .at < n
-        inside = going n (fills.filled w values (recordAt cells) (length cells) n begin) (fills.asking w values (recordAt cells) (length cells) n begin) (length cells) (fills.asks w values (recordAt cells) (length cells) n begin) room turn (h .running runs) on
+        inside = going n (fills.filled w ownMarks values (recordAt cells) (length cells) n begin) (fills.asking w ownMarks values (recordAt cells) (length cells) n begin) (length cells) (fills.asks w ownMarks values (recordAt cells) (length cells) n begin) room turn (h .running runs) on
 
         pub place : (turn .at < n) × (n + n ≤ length room)
         place = (inside, omega (arith, enough runs, same-length))
 
         pub turned : (answer : ℕ) → answer ≡ lookFrom (recordAt cells) (turn .count) 0 (turn .slot) (turn .index) (turn .other) → (next : List ℕ) (after : Turn)
             → after ≡ turnHere w values (length cells) n next (nextRead w n (turn .at + 1))
-            → next ≡ onward w (noted w values n 0) n (noted w values n answer room (turn .at)) (turn .at + 1) → Driven next after × (n - after .at < n - turn .at)
+            → next ≡ onward w (noted w ownMarks values n 0) n (noted w ownMarks values n answer room (turn .at)) (turn .at + 1) → Driven next after × (n - after .at < n - turn .at)
         turned answer answered next after t e′ =
-            let f = fills.turned w values (recordAt cells) (length cells) n begin 80000 well (all runs) (enough runs) room turn (h .running runs) on answer answered next after e′ t in
+            let f = fills.turned w ownMarks values (recordAt cells) (length cells) n begin 80000 well (all runs) (enough runs) room turn (h .running runs) on answer answered next after e′ t in
             (driving.goes-on e begin Filling runs next after (f .0), omega (arith, f .1, inside))
 
       -- the loop is left
@@ -104,7 +104,7 @@ module _ (w values : List ℕ) (cells : List Cell) (allowance : ℕ) (begin : Li
 
       whole : evaluates e ≡ true → turn .on ≡ false → room ≡ numbers w I (terms w) ++ truths w ownMarks I (terms w) ++ drop (terms w * 2) begin
       whole on off =
-          ended n (fills.filled w values (recordAt cells) (length cells) n begin) (fills.asking w values (recordAt cells) (length cells) n begin) (length cells) (fills.asks w values (recordAt cells) (length cells) n begin) room turn (h .running on) off
+          ended n (fills.filled w ownMarks values (recordAt cells) (length cells) n begin) (fills.asking w ownMarks values (recordAt cells) (length cells) n begin) (length cells) (fills.asks w ownMarks values (recordAt cells) (length cells) n begin) room turn (h .running on) off
           ∙ laid-all (numbers w I n) (truths w ownMarks I n) n begin (enough on)
           ∙ ap (λ (k : ℕ). numbers w I k ++ truths w ownMarks I k ++ drop (k * 2) begin) (all on)
 
@@ -114,18 +114,18 @@ module _ (w values : List ℕ) (cells : List Cell) (allowance : ℕ) (begin : Li
           let some = driving.some 512 w values cells 2 allowance begin (omega arith) e is on in
           (omega (arith, all on, some), omega (arith, enough on, same-length))
 
-      verdict-by : (b : Bool) → evaluates e ≡ b → turn .on ≡ false → verdictFrom e n room ≡ verdictBy e (ruleIn w I) (ruleCondition w I)
+      verdict-by : (b : Bool) → evaluates e ≡ b → turn .on ≡ false → verdictFrom e n room ≡ verdictBy e (ruleIn w I) (ruleCondition w ownMarks I)
       verdict-by true on off =
           let some = driving.some 512 w values cells 2 allowance begin (omega arith) e is on in
           let rest = drop (terms w * 2) begin in
           ap₂ (λ (k : ℕ) (l : List ℕ). verdictFrom e k l) (all on) (whole on off)
-          ∙ ap₂ (λ (x y : Bool). verdictBy e x y) (rule-read w I rest some) (condition-read w I rest some)
+          ∙ ap₂ (λ (x y : Bool). verdictBy e x y) (rule-read w ownMarks I rest some) (condition-read w ownMarks I rest some)
       verdict-by false refused off = stands e _ _ _ _ refused
 
       pub verdict-is : turn .on ≡ false → verdictFrom e n room ≡ judgement w values cells allowance (length begin)
-      verdict-is off = verdict-by (evaluates e) refl off ∙ ap (λ (x : Evaluation). verdictBy x (ruleIn w I) (ruleCondition w I)) is
+      verdict-is off = verdict-by (evaluates e) refl off ∙ ap (λ (x : Evaluation). verdictBy x (ruleIn w I) (ruleCondition w ownMarks I)) is
 
-      left-by : (b : Bool) → evaluates e ≡ b → (x y : Bool) → turn .on ≡ false → room ≡ roomIn (verdictBy e x y) w I begin
+      left-by : (b : Bool) → evaluates e ≡ b → (x y : Bool) → turn .on ≡ false → room ≡ roomIn (verdictBy e x y) w ownMarks I begin
       left-by true on x y off = whole on off ∙ filled-room e x y w I begin on
       left-by false refused x y off = h .resting refused .0 ∙ kept-room e x y w I begin refused
 

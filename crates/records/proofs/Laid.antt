@@ -11,6 +11,7 @@ use Rattle.setting.specs.Check as checks
 use Rattle.setting.specs.Interpretation.{interpret}
 use Rattle.evaluate.specs.Evaluation as evaluates
 use Rattle.evaluate.proofs.UnusedSlots.{unused-unevaluated}
+use Rattle.judge.specs.Conditions.{ownMarks}
 use Rattle.judge.specs.Judgement as judges
 use Rattle.judge.proofs.Answers.{unused-unjudged}
 use Rattle.records.specs.Rows.{recordAt, look, laid}
@@ -60,7 +61,7 @@ module _ (w values : List ℕ) (cells : List Cell) (allowance : ℕ) where
 
   pub equal-judgement : (room : ℕ) → judgement w values cells allowance room ≡ judges.judgement w values (laid cells) allowance room
   equal-judgement room =
-      ap₂ (λ c I. judges.verdict (evaluates.readyBy 512 w c 2 allowance room) w I) (sym (laid-check cells w values)) (sym (laid-interpret cells values))
+      ap₂ (λ c I. judges.verdict (evaluates.readyBy 512 w c 2 allowance room) w ownMarks I) (sym (laid-check cells w values)) (sym (laid-interpret cells values))
 
 pub equal-answers : EqualAnswers
 equal-answers w values cells allowance room =
@@ -71,7 +72,7 @@ equal-answers w values cells allowance room =
       answer = answer;
       answer-room = λ i. evaluates.roomIn (answer i) w (setting i) room;
       verdict = verdict;
-      verdict-room = λ i. judges.roomIn (verdict i) w (setting i) room;
+      verdict-room = λ i. judges.roomIn (verdict i) w ownMarks (setting i) room;
     }
 
 -- Each row of whole cells is that of some records

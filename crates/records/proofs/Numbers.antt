@@ -11,6 +11,7 @@ use Rattle.setting.specs.declared.cells.Cell.{Cell}
 use Rattle.setting.proofs.Refusals.{cells-by}
 use Rattle.evaluate.specs.Laws.{NotEvaluatedBy}
 use Rattle.evaluate.proofs.Refusals.{ready-by}
+use Rattle.judge.specs.Conditions.{ownMarks}
 use Rattle.judge.specs.Judgement.{ruleIn, ruleCondition}
 use Rattle.judge.specs.Laws.{NotJudgedBy}
 use Rattle.judge.proofs.Answers.{judged-by}
@@ -30,7 +31,7 @@ evaluation-numbers w values cells allowance room = ready-numbers 80000 w values 
 pub judgement-numbers : JudgementNumbers
 judgement-numbers w values cells allowance room =
     let I = inRecords values cells in
-    judged-by recordNumbers (ready 512 w values cells 2 allowance room) (ruleIn w I) (ruleCondition w I) (ready-numbers 512 w values cells 2 allowance room)
+    judged-by recordNumbers (ready 512 w values cells 2 allowance room) (ruleIn w I) (ruleCondition w ownMarks I) (ready-numbers 512 w values cells 2 allowance room)
 
 pub never-eleven : NeverEleven
 never-eleven w values cells allowance room place =

@@ -11,6 +11,7 @@ use Rattle.setting.specs.Interpretation.{Interpretation, interpret}
 use Rattle.evaluate.specs.declared.Evaluation.{Evaluation}
 use Rattle.evaluate.specs.Evaluation as evaluates
 use Rattle.judge.specs.declared.Judgement.{Judgement}
+use Rattle.judge.specs.Conditions.{ownMarks}
 use Rattle.judge.specs.Judgement as judges
 use Rattle.records.specs.Rows.{recordAt, look}
 
@@ -34,7 +35,7 @@ evaluated e w values cells room = evaluates.roomIn e w (inRecords values cells) 
 
 -- judging, and its room
 abbrev pub judgement : List ℕ → List ℕ → List Cell → ℕ → ℕ → Judgement
-judgement w values cells allowance room = judges.verdict (ready 512 w values cells 2 allowance room) w (inRecords values cells)
+judgement w values cells allowance room = judges.verdict (ready 512 w values cells 2 allowance room) w ownMarks (inRecords values cells)
 
 abbrev pub judged : Judgement → List ℕ → List ℕ → List Cell → List ℕ → List ℕ
-judged j w values cells room = judges.roomIn j w (inRecords values cells) room
+judged j w values cells room = judges.roomIn j w ownMarks (inRecords values cells) room

@@ -15,6 +15,7 @@ use Rattle.evaluate.specs.declared.Evaluation.{Evaluation}
 use Rattle.evaluate.specs.Evaluation.{evaluates}
 use Rattle.evaluate.proofs.Answers.{Passed, passed}
 use Rattle.judge.specs.declared.Judgement.{Judgement}
+use Rattle.judge.specs.Conditions.{ownMarks}
 use Rattle.judge.specs.Judgement.{ruleIn, ruleCondition, verdictBy, judgement, roomAfter}
 use Rattle.judge.specs.Demand3.{Promise}
 use Rattle.judge.proofs.Promises.{demand3}
@@ -29,11 +30,11 @@ returns c =
     let I = interpret (a .values .now) (look (a .cells .now)) in
     let e = c .before .before .before .ready in
     let off : evaluates (e .result) ≡ false = sym (c .before .before .evaluates .ensures) ∙ not-true _ (c .before .if1 .taken) in
-    let is = c .answered .ensures ∙ stands (e .result) false false (ruleIn (a .table .now) I) (ruleCondition (a .table .now) I) off ∙ ap (λ (x : Evaluation). verdictBy x (ruleIn (a .table .now) I) (ruleCondition (a .table .now) I)) (e .ensures) in (
+    let is = c .answered .ensures ∙ stands (e .result) false false (ruleIn (a .table .now) I) (ruleCondition (a .table .now) ownMarks I) off ∙ ap (λ (x : Evaluation). verdictBy x (ruleIn (a .table .now) I) (ruleCondition (a .table .now) ownMarks I)) (e .ensures) in (
       is,
       (
         room-kept (e .result) false false (a .table .now) (a .values .now) (a .cells .now) (a .work .now) off ∙ ap (λ (j : Judgement). roomAfter j (a .table .now) (a .values .now) (a .cells .now) (a .work .now)) (sym (c .answered .ensures)),
-        subst (Promise (a .table .now) (a .values .now) (a .cells .now)) (sym is) (demand3 (a .table .now) (a .values .now) (a .cells .now) (a .allowance) (length (a .work .now))),
+        subst (Promise (a .table .now) (a .values .now) (a .cells .now)) (sym is) (demand3 ownMarks (a .table .now) (a .values .now) (a .cells .now) (a .allowance) (length (a .work .now))),
       ),
     )
 
@@ -70,13 +71,13 @@ returns-2 c =
     let e = c .before .before .before .before .before .before .before .before .before .ready in
     let on : evaluates (e .result) ≡ true = sym (c .before .before .before .before .before .before .before .before .evaluates .ensures) ∙ not-false _ (c .before .before .before .before .before .before .before .if1 .left) in
     let filled = c .before .before .before .before .before .fill .ensures in
-    let rule = ap (λ (l : List ℕ). holds (getD l (terms w - 1) 0)) filled ∙ rule-read w I rest (some (c .before .before .before .before .before .before .before)) in
-    let condition = ap (λ (l : List ℕ). holds (getD l (terms w + (terms w - 1)) 0)) filled ∙ condition-read w I rest (some (c .before .before .before .before .before .before .before)) in
-    let is = c .answered2 .ensures ∙ ap₂ (λ (x y : Bool). verdictBy (e .result) x y) rule condition ∙ ap (λ (x : Evaluation). verdictBy x (ruleIn w I) (ruleCondition w I)) (e .ensures) in (
+    let rule = ap (λ (l : List ℕ). holds (getD l (terms w - 1) 0)) filled ∙ rule-read w ownMarks I rest (some (c .before .before .before .before .before .before .before)) in
+    let condition = ap (λ (l : List ℕ). holds (getD l (terms w + (terms w - 1)) 0)) filled ∙ condition-read w ownMarks I rest (some (c .before .before .before .before .before .before .before)) in
+    let is = c .answered2 .ensures ∙ ap₂ (λ (x y : Bool). verdictBy (e .result) x y) rule condition ∙ ap (λ (x : Evaluation). verdictBy x (ruleIn w I) (ruleCondition w ownMarks I)) (e .ensures) in (
       is,
       (
         filled ∙ room-filled (e .result) _ _ w (a .values .now) (a .cells .now) (a .work .now) on ∙ ap (λ (j : Judgement). roomAfter j w (a .values .now) (a .cells .now) (a .work .now)) (sym (c .answered2 .ensures)),
-        subst (Promise w (a .values .now) (a .cells .now)) (sym is) (demand3 w (a .values .now) (a .cells .now) (a .allowance) (length (a .work .now))),
+        subst (Promise w (a .values .now) (a .cells .now)) (sym is) (demand3 ownMarks w (a .values .now) (a .cells .now) (a .allowance) (length (a .work .now))),
       ),
     )
 

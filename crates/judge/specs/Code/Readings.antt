@@ -14,7 +14,6 @@ use Rattle.table.specs.Faults.{variable, constant, reading, storing}
 use Rattle.evaluate.specs.Code.Reads.{readAt}
 use Rattle.evaluate.specs.Code.Turns.{operatedNumber, numberOf}
 use Rattle.judge.specs.declared.reads.Reading.{Reading}
-use Rattle.judge.specs.Conditions.{ownMarks}
 
 abbrev pub truthIn : List ℕ → ℕ → Bool
 truthIn truths k = holds (getD truths k 0)
@@ -61,28 +60,28 @@ settledBy w front truths x =
 abbrev pub operatedReading : List ℕ → List ℕ → List ℕ → Term → Reading
 operatedReading w front truths x = record { value = operatedNumber w front x; free = settledBy w front truths x }
 
--- the truth of a term that is no read
-abbrev pub truthOf : List ℕ → List ℕ → List ℕ → Term → Bool
-truthOf w front truths x = cond (constant x) true (cond (variable x) (not (ownMarks x)) (settledBy w front truths x))
+-- the truth of a term that is no read; which terms are marked is a parameter
+abbrev pub truthOf : List ℕ → (Term → Bool) → List ℕ → List ℕ → Term → Bool
+truthOf w marked front truths x = cond (constant x) true (cond (variable x) (not (marked x)) (settledBy w front truths x))
 
 -- a read, whose index's condition is cj: where that is false, the read's is too
 abbrev pub readingBy : Bool → List ℕ → List ℕ → List ℕ → Term → ℕ → Reading
 readingBy cj w front truths x answer = cond cj (readingAt w front truths (x .p) (getD front (x .q) 0) cj answer) (record { value = answer; free = false })
 
 -- value and truth of term x; of a read from the answer: where its index is free that is the variable's cell, else its value
-unfoldable pub readingOf : List ℕ → List ℕ → List ℕ → List ℕ → Term → ℕ → Reading
-readingOf w row front truths x answer =
+unfoldable pub readingOf : List ℕ → (Term → Bool) → List ℕ → List ℕ → List ℕ → Term → ℕ → Reading
+readingOf w marked row front truths x answer =
     cond (reading x) (readingBy (truthIn truths (x .q)) w front truths x answer)
-    (record { value = numberOf w row front x answer; free = truthOf w front truths x })
+    (record { value = numberOf w row front x answer; free = truthOf w marked front truths x })
 
 -- what a turn at term at reads: the numbers before it stand at the front of the room, the truths from number terms on
-abbrev pub readingHere : List ℕ → List ℕ → ℕ → List ℕ → ℕ → ℕ → Reading
-readingHere w row terms room at answer = readingOf w row (take at room) (take at (drop terms room)) (termAt w at) answer
+abbrev pub readingHere : List ℕ → (Term → Bool) → List ℕ → ℕ → List ℕ → ℕ → ℕ → Reading
+readingHere w marked row terms room at answer = readingOf w marked row (take at room) (take at (drop terms room)) (termAt w at) answer
 
 -- and writes: its value, and its truth
 abbrev pub written : Reading → ℕ → List ℕ → ℕ → List ℕ
 written r terms room at = set (set room at (r .value)) (terms + at) (bit (r .free))
 
 -- term at notes its value and its truth: from the answer, which only a read asks for
-abbrev pub noted : List ℕ → List ℕ → ℕ → ℕ → List ℕ → ℕ → List ℕ
-noted w row terms answer room at = written (readingHere w row terms room at answer) terms room at
+abbrev pub noted : List ℕ → (Term → Bool) → List ℕ → ℕ → ℕ → List ℕ → ℕ → List ℕ
+noted w marked row terms answer room at = written (readingHere w marked row terms room at answer) terms room at

@@ -57,6 +57,7 @@ use Rattle.evaluate.specs.Evaluation.{evaluates}
 use Rattle.evaluate.specs.Code.Turns.{nextRead, onward}
 use Rattle.judge.specs.Code.Turns.{turnHere}
 use Rattle.judge.specs.declared.Judgement.{Judgement}
+use Rattle.judge.specs.Conditions.{ownMarks}
 use Rattle.judge.specs.Code.Readings.{noted}
 use Rattle.evaluate.proofs.Evaluation as Ev
 use Rattle.evaluate.proofs.Evaluation.Laws as Ev′
@@ -303,7 +304,7 @@ module _ {M : Type 1} (𝓤 : URA M) (H : Heap 𝓤) (A : Atoms 𝓤) (W : Given
   next-turn n t r z = r ≡ turnHere w values (length cells) n z (nextRead w n (t .at + 1))
 
   abbrev next-work : ℕ → List ℕ → Turn → ℕ → List ℕ → Type 0
-  next-work n l t v z = z ≡ onward w (noted w values n 0) n (noted w values n v l (t .at)) (t .at + 1)
+  next-work n l t v z = z ≡ onward w (noted w ownMarks values n 0) n (noted w ownMarks values n v l (t .at)) (t .at + 1)
 
   abbrev sl₀ : Ty
   sl₀ = sliceTy (tyRef (named 0) imm (tyInt w32))

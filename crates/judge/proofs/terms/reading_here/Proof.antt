@@ -1,3 +1,4 @@
+use Rattle.judge.specs.Conditions.{ownMarks}
 use Rattle.judge.specs.Code.Readings.{readingOf}
 use Rattle.table.specs.Terms.{terms, termAt}
 use Rattle.table.specs.declared.words.Term.{Term}
@@ -27,8 +28,8 @@ returns c =
     let a = c .before .before .before .before .before .before .before .args in
     let e : a .terms + a .at - a .terms ≡ a .at = omega arith in
     c .reading-of .ensures
-    ∙ ap (λ (n : ℕ). readingOf (a .table .now) (a .values .now) (take (a .at) (a .room .now)) (take n (drop (a .terms) (a .room .now))) (c .before .before .before .term-at .result) (a .answer)) e
-    ∙ ap (λ (x : Term). readingOf (a .table .now) (a .values .now) (take (a .at) (a .room .now)) (take (a .at) (drop (a .terms) (a .room .now))) x (a .answer)) (c .before .before .before .term-at .ensures)
+    ∙ ap (λ (n : ℕ). readingOf (a .table .now) ownMarks (a .values .now) (take (a .at) (a .room .now)) (take n (drop (a .terms) (a .room .now))) (c .before .before .before .term-at .result) (a .answer)) e
+    ∙ ap (λ (x : Term). readingOf (a .table .now) ownMarks (a .values .now) (take (a .at) (a .room .now)) (take (a .at) (drop (a .terms) (a .room .now))) x (a .answer)) (c .before .before .before .term-at .ensures)
 
 pub reading-here-spec : {M : Type 1} → statement M
 reading-here-spec =

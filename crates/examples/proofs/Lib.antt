@@ -1,2 +1,1 @@
-pub mod LentRow
 pub mod Placing

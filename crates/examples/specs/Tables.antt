@@ -1,19 +1,14 @@
--- The tables and cells of the examples, as the program builds them.
+-- The tables of the examples, as the program builds them.
 -- Assumes nothing.
 use mathlib.Core.List.{List, []}
 use Prim.Native.Nat.{ℕ, zero, suc, _+_}
 use Rattle.table.specs.declared.words.Term.{Term}
 use Rattle.table.specs.Terms.{placed}
 use Rattle.table.specs.Bench.{term}
-use Rattle.setting.specs.declared.cells.Cell.{Cell}
 
 -- a term by its six numbers
 abbrev pub termOf : ℕ → ℕ → ℕ → ℕ → ℕ → ℕ → Term
 termOf op m n p q r = record { op = op; sort = record { m = m; n = n }; p = p; q = q; r = r }
-
--- a cell by its three numbers
-abbrev pub cellOf : ℕ → ℕ → ℕ → Cell
-cellOf slot index value = record { slot = slot; index = index; value = value }
 
 -- from term 2 on, stores of term 0 onto the term before
 unfoldable pub stacked : List ℕ → ℕ → List ℕ

@@ -3,7 +3,6 @@ mod admissions; // what admit answers
 mod evaluations; // what evaluate answers
 mod finishings; // what finish answers
 mod judgements; // what judge answers
-mod record_cells; // what the record entrance answers
 mod rules; // the tables
 mod shows; // printing answers and rooms
 
@@ -32,8 +31,4 @@ fn main() {
     finishings::unmarked_finished();
     finishings::stores_finished();
     finishings::refusals();
-    record_cells::rule_h_evaluated();
-    record_cells::rule_h_refused();
-    record_cells::rule_h_judged();
-    record_cells::both_listed();
 }

@@ -3,11 +3,12 @@ ghost use mathlib.Core.Path.{_≡_};
 ghost use Prim.Native.Nat.{_*_, _≤_};
 ghost use lib.ListN.{length};
 ghost use Rattle.table.specs.Terms.{words};
-ghost use Rattle.table.specs.Faults.{conflicts, claims, firstClash};
+ghost use Rattle.table.specs.Faults.{conflicts};
+ghost use Rattle.table.specs.Code.Clashes.{claims, firstClash};
 use table::Term;
+use table::is_variable;
 use table::same_sort;
 use table::term_in;
-use table::variable;
 
 // One slot, and another sort or mark.
 fn conflicts(a: Term, x: Term) -> bool
@@ -20,7 +21,7 @@ fn conflicts(a: Term, x: Term) -> bool
 fn claims(x: Term) -> bool
     ensures { λ r. ⌜ r ≡ claims x ⌝ }
 {
-    variable(x) & (x.p <= 255)
+    is_variable(x) & (x.p <= 255)
 }
 
 // The first variable that clashes with an earlier one, else the count of terms. Of the earlier variables the first of

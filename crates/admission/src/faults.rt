@@ -4,11 +4,11 @@ ghost use lib.Dec.{leb};
 ghost use Rattle.table.specs.Terms.{HasTerm, termAt};
 ghost use Rattle.table.specs.Faults.{known, chain, size, faultIf};
 use table::Term;
+use table::is_store;
 use table::rank_fault;
 use table::rank_of;
-use table::refuse;
+use table::refuse_unless;
 use table::sorted;
-use table::storing;
 use table::term_at;
 use table::term_in;
 
@@ -20,7 +20,7 @@ pub fn chain(table: &[u32], k: u32) -> u32
     let mut count = 0u32;
     while count < 17 {
         let x = term_at(table, at);
-        if !storing(x) {
+        if !is_store(x) {
             break;
         }
         at = x.p;
@@ -41,7 +41,7 @@ fn short(table: &[u32], i: u32, x: Term) -> bool
     requires { ⌜ x ≡ termAt (now table) i ⌝ }
     ensures { λ r. ⌜ r ≡ leb (size (now (table .entry)) i) 16 ⌝ }
 {
-    if !storing(x) {
+    if !is_store(x) {
         return true;
     }
     chain(table, i) <= 16
@@ -63,5 +63,5 @@ pub fn fault(table: &[u32], i: u32, clashing: bool) -> u32
     if number != 0 {
         return number;
     }
-    refuse(8, !clashing, refuse(9, short(table, i, x), 0))
+    refuse_unless(8, !clashing, refuse_unless(9, short(table, i, x), 0))
 }

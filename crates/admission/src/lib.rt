@@ -3,7 +3,7 @@ mod clashes; // refusal 8
 mod faults; // refusals 3 to 9, term by term
 
 pub use faults::chain;
-use table::Admission;
+use table::Acceptance;
 use table::WORDS;
 use table::boolean;
 use table::refused;
@@ -13,20 +13,21 @@ ghost use Prim.Native.Nat.{pred, _*_, _≤_, _<_};
 ghost use lib.ListN.{length};
 ghost use Rattle.table.specs.Terms.{words};
 ghost use Rattle.table.specs.Admission.{scan, ended, admissionWithin, admission};
-ghost use Rattle.table.specs.Faults.{fault, firstClash};
+ghost use Rattle.table.specs.Faults.{fault};
+ghost use Rattle.table.specs.Code.Clashes.{firstClash};
 
-fn ended(table: &[u32], last: u32) -> Admission
+fn ended(table: &[u32], last: u32) -> Acceptance
     ensures { λ r. ⌜ r ≡ ended (now (table .entry)) last ⌝ }
 {
     if boolean(sort_at(table, last)) {
-        Admission::Admitted
+        Acceptance::Accepted
     } else {
         refused(10, last as u64)
     }
 }
 
 // The terms in order, the first clash being known; then the last term's sort.
-fn first_fault(table: &[u32], terms: u32, clash: u32) -> Admission
+fn first_fault(table: &[u32], terms: u32, clash: u32) -> Acceptance
     requires { ⌜ 0 < terms ⌝ }
     requires { ⌜ terms * words ≤ length (now table) ⌝ }
     requires { ⌜ clash ≡ firstClash (now table) terms ⌝ }
@@ -41,8 +42,8 @@ fn first_fault(table: &[u32], terms: u32, clash: u32) -> Admission
     ended(table, terms - 1)
 }
 
-// Admission with any limit on the count of terms.
-pub fn admit_within(table: &[u32], limit: u32) -> Admission
+// Acceptance with any limit on the count of terms.
+pub fn admit_within(table: &[u32], limit: u32) -> Acceptance
     ensures { λ r. ⌜ r ≡ admissionWithin limit (now (table .entry)) ⌝ }
 {
     let len = table.len();
@@ -58,7 +59,7 @@ pub fn admit_within(table: &[u32], limit: u32) -> Admission
 }
 
 // Whether a table is one that the other routines take, else its first refusal.
-pub fn admit(table: &[u32]) -> Admission
+pub fn admit(table: &[u32]) -> Acceptance
     ensures { λ r. ⌜ r ≡ admission (now (table .entry)) ⌝ }
 {
     admit_within(table, 512)

@@ -8,7 +8,7 @@ use crate::refusals::say_refusal;
 use crate::rows;
 use judge::Judgement;
 use judge::Verdict;
-use setting::number_at;
+use table::number_at;
 
 // What it comes to.
 fn say_outcome(v: Verdict) {

@@ -99,7 +99,7 @@ fn answer(command: Command, numbers: &[u32], case: Case)
     let table = &numbers[table_from..table_to];
     let values = &numbers[values_from..values_to];
     let cells = &numbers[cells_from..cells_to];
-    let allowance = setting::number_at(numbers, case.allowance) as u64;
+    let allowance = table::number_at(numbers, case.allowance) as u64;
     let mut room = work_room();
     run(command, table, values, cells, allowance, &mut room);
 }

@@ -49,7 +49,7 @@ const NAMES: [u32; 17] = [0, 0, 3, 3, 2, 2, 1, 3, 5, 5, 4, 5, 5, 5, 5, 6, 5];
 pub fn name_width(op: u32) -> u32
     ensures { λ r. ⌜ r ≡ getD nameWidths op 0 ⌝ }
 {
-    setting::number_at(&NAMES, op)
+    table::number_at(&NAMES, op)
 }
 
 fn say_operand(there: bool, k: u32) {

@@ -11,8 +11,8 @@ use crate::print::say_value;
 use explain::Blame;
 use explain::Culprit;
 use explain::Operand;
-use setting::number_at;
 use table::Term;
+use table::number_at;
 
 // The one or two operands that are not free; one that is both is told once.
 fn say_unfree(blame: Blame) {

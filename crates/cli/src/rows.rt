@@ -12,10 +12,10 @@ use crate::print::say_term;
 use crate::print::say_truth;
 use crate::print::say_value;
 use crate::print::spaces;
-use setting::number_at;
 use table::Sort;
 use table::Term;
 use table::WORDS;
+use table::number_at;
 
 // The term's number, its operator, its sort.
 fn say_left(k: u32, x: Term) {

@@ -8,10 +8,10 @@ use lib.Dec.{ltb}
 use lib.ListN.{drop}
 use borrow.Author.Tests.{ltb-false}
 use Rattle.ops.proofs.Booleans.{never}
-use Rattle.table.specs.declared.Admission.{Admission}
-use Rattle.table.specs.declared.Admission.the-variants.{Admitted, Refused}
+use Rattle.table.specs.declared.Acceptance.{Acceptance}
+use Rattle.table.specs.declared.Acceptance.the-variants.{Accepted, Refused}
 use Rattle.table.specs.Terms.{terms}
-use Rattle.table.specs.Admission.{admissionWithin}
+use Rattle.table.specs.Admission.{andThen, admissionWithin, accepts}
 use Rattle.setting.specs.Cells.{look}
 use Rattle.setting.specs.Check.{check}
 use Rattle.setting.specs.Interpretation.{interpret}
@@ -19,21 +19,21 @@ use Rattle.evaluate.specs.declared.Evaluation.{Evaluation}
 use Rattle.evaluate.specs.declared.Evaluation.the-variants.{Evaluated, NotEvaluated}
 use Rattle.evaluate.specs.Values.{numbers}
 use Rattle.evaluate.specs.Steps.{steps}
-use Rattle.evaluate.specs.Evaluation.{admits, evaluates, andThen, notEvaluated, afford, ready, roomAfter}
+use Rattle.evaluate.specs.Evaluation.{evaluates, notEvaluated, afford, ready, roomAfter}
 
-pub is-admitted : (a : Admission) → admits a ≡ true → a ≡ Admitted
-is-admitted Admitted h = refl
+pub is-admitted : (a : Acceptance) → accepts a ≡ true → a ≡ Accepted
+is-admitted Accepted h = refl
 is-admitted (Refused r) h = never h
 
 -- what is refused stays so, whatever would come after
-pub stands : (a : Admission) (x y : Evaluation) → admits a ≡ false → andThen a x ≡ andThen a y
-stands Admitted x y h = never (sym h)
+pub stands : (a : Acceptance) (x y : Evaluation) → accepts a ≡ false → andThen NotEvaluated a x ≡ andThen NotEvaluated a y
+stands Accepted x y h = never (sym h)
 stands (Refused r) x y h = refl
 
 -- What was not refused
 
-both : (a : Admission) (e : Evaluation) → evaluates (andThen a e) ≡ true → (a ≡ Admitted) × (evaluates e ≡ true)
-both Admitted e h = (refl, h)
+both : (a : Acceptance) (e : Evaluation) → evaluates (andThen NotEvaluated a e) ≡ true → (a ≡ Accepted) × (evaluates e ≡ true)
+both Accepted e h = (refl, h)
 both (Refused r) e h = never h
 
 room-enough : (b : Bool) (number place : ℕ) (rest : Evaluation) → evaluates (cond b (notEvaluated number place) rest) ≡ true → (b ≡ false) × (evaluates rest ≡ true)
@@ -51,14 +51,14 @@ afforded w each allowance room h =
 
 -- an answer that is no refusal: the table is admitted, the setting checked, the room long enough and the allowance large enough
 pub record Passed (limit : ℕ) (w values cells : List ℕ) (each allowance room : ℕ) : Type 0 where
-  pub admitted : admissionWithin limit w ≡ Admitted
-  pub checked : check w values cells ≡ Admitted
+  pub admitted : admissionWithin limit w ≡ Accepted
+  pub checked : check w values cells ≡ Accepted
   pub long : terms w * each ≤ room
   pub large : steps w (terms w) ≤ allowance
 
 pub passed : (limit : ℕ) (w values cells : List ℕ) (each allowance room : ℕ) → evaluates (ready limit w values cells each allowance room) ≡ true → Passed limit w values cells each allowance room
 passed limit w values cells each allowance room h =
-    let first = both (admissionWithin limit w) (andThen (check w values cells) (afford w each allowance room)) h in
+    let first = both (admissionWithin limit w) (andThen NotEvaluated (check w values cells) (afford w each allowance room)) h in
     let second = both (check w values cells) (afford w each allowance room) (first .1) in
     let last = afforded w each allowance room (second .1) in
     record { admitted = first .0; checked = second .0; long = last .0; large = last .1 }

@@ -10,14 +10,14 @@ use lib.Seq.{take-at}
 use Rattle.ops.proofs.Booleans.{never}
 use Rattle.table.specs.Folds.{fold}
 use Rattle.table.specs.Terms.{terms, termAt}
-use Rattle.table.specs.Faults.{reading}
+use Rattle.table.specs.Faults.{isRead}
 use Rattle.table.specs.WellFormed.{WellFormed}
 use Rattle.setting.specs.declared.cells.Cell.{Cell}
 use Rattle.setting.specs.Cells.{lookFrom}
 use Rattle.setting.specs.Interpretation.{Interpretation}
 use Rattle.evaluate.specs.declared.turns.Turn.{Turn}
 use Rattle.evaluate.specs.Values.{valueAt, numbers}
-use Rattle.evaluate.specs.Code.Turns.{turnOf, numberOf, readingAt, nextRead, onward, numbered}
+use Rattle.evaluate.specs.Code.Turns.{turnOf, numberOf, isReadAt, nextRead, onward, numbered}
 use Rattle.evaluate.proofs.Folds.{length-numbers, numbers-more}
 use Rattle.evaluate.proofs.Fronts.{front-more, front-length}
 use Rattle.evaluate.proofs.Meaning.{valueRead, number-is}
@@ -50,7 +50,7 @@ module _ (w row : List ℕ) (cells : ℕ → Cell) (count n : ℕ) (begin : List
 
   module _ (limit : ℕ) (f : WellFormed limit w) (all : n ≡ terms w) (enough : n ≤ length begin) where
     -- a term writes its value
-    wrote : (i answer : ℕ) (b : i < terms w) → (reading (termAt w i) ≡ true → answer ≡ valueRead limit w row (λ slot j other. lookFrom cells count 0 slot j other) f i b)
+    wrote : (i answer : ℕ) (b : i < terms w) → (isRead (termAt w i) ≡ true → answer ≡ valueRead limit w row (λ slot j other. lookFrom cells count 0 slot j other) f i b)
         → numbered w row answer (filled i) i ≡ filled (i + 1)
     wrote i answer b h =
         ap (λ (l : List ℕ). set (filled i) i (numberOf w row l (termAt w i) answer)) (front-is i)
@@ -61,8 +61,8 @@ module _ (w row : List ℕ) (cells : ℕ → Cell) (count n : ℕ) (begin : List
     -- from term i on to the next read
     module _ (i : ℕ) (within : i ≤ n) (room next : List ℕ) (after : Turn) (is : room ≡ filled i)
         (e : next ≡ onward w (numbered w row 0) n room i) (t : after ≡ turnOf w row count n (take (nextRead w n i) next) (nextRead w n i)) where
-      there : Arrived (readingAt w) (numbered w row 0) filled n (λ k b s. wrote k 0 (omega arith) (λ r. never (sym s ∙ r))) i room
-      there = arrived (readingAt w) (numbered w row 0) filled n (λ k b s. wrote k 0 (omega arith) (λ r. never (sym s ∙ r))) i room within is
+      there : Arrived (isReadAt w) (numbered w row 0) filled n (λ k b s. wrote k 0 (omega arith) (λ r. never (sym s ∙ r))) i room
+      there = arrived (isReadAt w) (numbered w row 0) filled n (λ k b s. wrote k 0 (omega arith) (λ r. never (sym s ∙ r))) i room within is
 
       pub arrive : Filling next after
       arrive =
@@ -82,7 +82,7 @@ module _ (w row : List ℕ) (cells : ℕ → Cell) (count n : ℕ) (begin : List
           let b : h .i ≤ n = h .within in
           ap length (h .is) ∙ front-length (numbers w I (h .i)) begin (h .i) (length-numbers w I (h .i)) (omega arith)
 
-      module _ (on : turn .on ≡ true) (answer : ℕ) (answered : answer ≡ lookFrom cells (turn .count) 0 (turn .slot) (turn .index) (turn .other)) where
+      module _ (on : turn .pending ≡ true) (answer : ℕ) (answered : answer ≡ lookFrom cells (turn .count) 0 (turn .slot) (turn .index) (turn .other)) where
         here : h .i < n
         here = inside n filled asking count asks room turn h on
 

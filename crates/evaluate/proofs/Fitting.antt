@@ -24,7 +24,7 @@ use Rattle.table.specs.declared.words.Sort.{Sort}
 use Rattle.table.specs.declared.words.Term.{Term}
 use Rattle.table.specs.Terms.{terms, termAt, sortAt, boolean, vector, scalar, array, vectorOf, sameSort}
 use Rattle.table.specs.Ranks.{applied, rankOf, fieldsOf, slotted}
-use Rattle.table.specs.Faults.{variable, placedAs, typedAs, valuedAs}
+use Rattle.table.specs.Faults.{isVariable, placedAs, typedAs, valuedAs}
 use Rattle.table.specs.WellFormed.{WellFormed}
 use Rattle.table.proofs.SoundTerms.{widths}
 use Rattle.setting.specs.Interpretation.{Value, Interpretation, Fit, FitInputs}

@@ -19,7 +19,7 @@ use Rattle.table.specs.declared.words.Sort.{Sort}
 use Rattle.table.specs.declared.words.Term.{Term}
 use Rattle.table.specs.Terms.{terms, termAt, sortAt, scalar, array, vectorOf, sameSort}
 use Rattle.table.specs.Ranks.{rankOf, fieldsOf, slotted, immediate, reads, writes}
-use Rattle.table.specs.Faults.{fields, rank, storing, reading, placedAs, typedAs, typed}
+use Rattle.table.specs.Faults.{fields, rank, isStore, isRead, placedAs, typedAs, typed}
 use Rattle.table.specs.WellFormed.{Sound, WellFormed}
 use Rattle.table.proofs.SoundTerms.{store-below}
 use Rattle.setting.specs.Interpretation.{Value, Interpretation, interpret}
@@ -64,7 +64,7 @@ module _ (limit : ℕ) (w row : List ℕ) (look : ℕ → ℕ → ℕ → ℕ) (
 
     input-read : opOf (termAt w a .op) ≡ Variable → valueAt w I a .cell j ≡ readAt w (numbers w I k) a j (cellBeneath a j)
     input-read e =
-        let no-store : storing (termAt w a) ≡ false = ap (λ (o : Op). writes o) e in
+        let no-store : isStore (termAt w a) ≡ false = ap (λ (o : Op). writes o) e in
         by-op Variable e
         ∙ variable-cell I (valueIn (values w I a)) (sortAt w (termAt w a .p) .n) (termAt w a) j r
         ∙ ap (λ (slot : ℕ). look slot j (getD row slot 0)) (bottom-end w (store-below limit w f) a (termAt w a) refl no-store)
@@ -73,7 +73,7 @@ module _ (limit : ℕ) (w row : List ℕ) (look : ℕ → ℕ → ℕ → ℕ) (
     store-read : opOf (termAt w a .op) ≡ Store → valueAt w I a .cell j ≡ readAt w (numbers w I k) a j (cellBeneath a j)
     store-read e =
         let x = termAt w a in
-        let stores : storing x ≡ true = ap (λ (o : Op). writes o) e in
+        let stores : isStore x ≡ true = ap (λ (o : Op). writes o) e in
         let place = three-placed a x (placing-as w a (f .sound a d) Store e) in
         let pb : x .p < a = place .0 in
         let qb : x .q < a = place .1 in
@@ -154,7 +154,7 @@ module _ (limit : ℕ) (w row : List ℕ) (look : ℕ → ℕ → ℕ → ℕ) (
       let x = termAt w k in
       readAt w (numbers w (interpret row look) k) (x .p) (getD (numbers w (interpret row look) k) (x .q) 0) asked
 
-  pub number-is : (answer : ℕ) → (reading (termAt w k) ≡ true → answer ≡ valueRead) → numberOf w row (numbers w (interpret row look) k) (termAt w k) answer ≡ valueAt w (interpret row look) k .num
+  pub number-is : (answer : ℕ) → (isRead (termAt w k) ≡ true → answer ≡ valueRead) → numberOf w row (numbers w (interpret row look) k) (termAt w k) answer ≡ valueAt w (interpret row look) k .num
   unfolding numberOf
   number-is answer h =
       number-by w row (numbers w (interpret row look) k) look (valueIn (values w (interpret row look) k)) (termAt w k) answer (number-in w (interpret row look) k) (opOf (termAt w k .op))

@@ -6,7 +6,7 @@ use mathlib.Core.List.{List}
 use Prim.Native.Nat.{ℕ, zero, suc, _+_, _-_, _≤_, _<_}
 use native.Mathlib.Numerals.{add-one}
 use native.Mathlib.Omega.{arith}
-use Rattle.table.specs.Faults.{firstFrom}
+use Rattle.table.specs.Folds.{firstFrom}
 use Rattle.table.proofs.Searches.{first-on, first-here, first-past, from}
 use Rattle.evaluate.specs.Code.Turns.{onFrom}
 

@@ -7,10 +7,10 @@ use Prim.Native.Nat.{ℕ, _-_, _*_}
 use Prim.{tt}
 use native.Mathlib.Omega.{arith}
 use lib.Dec.{ltb}
-use Rattle.table.specs.declared.Admission.{Admission}
-use Rattle.table.specs.declared.Admission.the-variants.{Admitted, Refused}
+use Rattle.table.specs.declared.Acceptance.{Acceptance}
+use Rattle.table.specs.declared.Acceptance.the-variants.{Accepted, Refused}
 use Rattle.table.specs.Terms.{terms}
-use Rattle.table.specs.Admission.{admissionWithin}
+use Rattle.table.specs.Admission.{andThen, admissionWithin}
 use Rattle.table.specs.Refusals.{between, RefusedBy}
 use Rattle.table.proofs.Refusals.{wider, admission-by}
 use Rattle.setting.specs.Check.{check}
@@ -18,13 +18,13 @@ use Rattle.setting.proofs.Refusals.{check-by}
 use Rattle.evaluate.specs.declared.Evaluation.{Evaluation}
 use Rattle.evaluate.specs.declared.Evaluation.the-variants.{Evaluated, NotEvaluated}
 use Rattle.evaluate.specs.Steps.{steps}
-use Rattle.evaluate.specs.Evaluation.{notEvaluated, andThen, afford, readyBy, ready}
+use Rattle.evaluate.specs.Evaluation.{notEvaluated, afford, readyBy, ready}
 use Rattle.evaluate.specs.Laws.{runNumbers, NotEvaluatedBy, EvaluationNumbers}
 
 -- Of any numbers that have 1 to 10, 22 and 23
 module _ (numbers : ℕ → Bool) (ten : (number : ℕ) → between 1 10 number ≡ true → numbers number ≡ true) (short : numbers 22 ≡ true) (poor : numbers 23 ≡ true) where
-  then-by : (a : Admission) (e : Evaluation) → RefusedBy numbers a → NotEvaluatedBy numbers e → NotEvaluatedBy numbers (andThen a e)
-  then-by Admitted e h later = later
+  then-by : (a : Acceptance) (e : Evaluation) → RefusedBy numbers a → NotEvaluatedBy numbers e → NotEvaluatedBy numbers (andThen NotEvaluated a e)
+  then-by Accepted e h later = later
   then-by (Refused r) e h later = h
 
   afford-by : (w : List ℕ) (each allowance room : ℕ) → NotEvaluatedBy numbers (afford w each allowance room)
@@ -40,9 +40,9 @@ module _ (numbers : ℕ → Bool) (ten : (number : ℕ) → between 1 10 number 
       go false false = tt
 
   -- where the setting's check refuses by these numbers, so does all that comes before a run
-  pub ready-by : (limit : ℕ) (w : List ℕ) (checked : Admission) (each allowance room : ℕ) → RefusedBy numbers checked → NotEvaluatedBy numbers (readyBy limit w checked each allowance room)
+  pub ready-by : (limit : ℕ) (w : List ℕ) (checked : Acceptance) (each allowance room : ℕ) → RefusedBy numbers checked → NotEvaluatedBy numbers (readyBy limit w checked each allowance room)
   ready-by limit w checked each allowance room h =
-      then-by (admissionWithin limit w) (andThen checked (afford w each allowance room))
+      then-by (admissionWithin limit w) (andThen NotEvaluated checked (afford w each allowance room))
       (admission-by (RefusedBy numbers) tt (λ number place e. ten number e) limit w)
       (then-by checked (afford w each allowance room) h (afford-by w each allowance room))
 

@@ -9,7 +9,7 @@ use lib.Dec.{ltb}
 use lib.ListN.{getD}
 use borrow.Author.Tests.{ltb-true, ltb-false}
 use Rattle.table.specs.Terms.{terms, termAt}
-use Rattle.table.specs.Faults.{reading}
+use Rattle.table.specs.Faults.{isRead}
 use Rattle.table.specs.WellFormed.{WellFormed}
 use Rattle.setting.specs.declared.cells.Cell.{Cell}
 use Rattle.setting.specs.Cells.{lookFrom}
@@ -24,7 +24,7 @@ use Rattle.evaluate.proofs.Meaning.{valueRead}
 
 -- what a turn at term i of n says of itself, with so many cells
 pub record Turning (n count i : ℕ) (turn : Turn) : Type 0 where
-  pub going : turn .on ≡ ltb i n
+  pub going : turn .pending ≡ ltb i n
   pub place : turn .at ≡ i
   pub most : turn .count ≤ count
 
@@ -45,13 +45,13 @@ module _ (w row front : List ℕ) (count n i : ℕ) where
 
   pub turning : Turning n count i (turnOf w row count n front i)
   unfolding turnOf
-  turning = by (reading (termAt w i))
+  turning = by (isRead (termAt w i))
     where
       by : (b : Bool) → Turning n count i (cond b asksRead (told (ltb i n) i 0))
       by true = turning-by (found .stored) (found .number) row n count i (getD front (termAt w i .q) 0)
       by false = turning-told n count i 0
 
-  asks-is : reading (termAt w i) ≡ true → turnOf w row count n front i ≡ asksRead
+  asks-is : isRead (termAt w i) ≡ true → turnOf w row count n front i ≡ asksRead
   unfolding turnOf
   asks-is r = rw r
 
@@ -71,7 +71,7 @@ looked-by cells false number row on i count index slot h = ap (λ (s : ℕ). loo
 
 -- the answer to a read is its value
 pub answer-is : (limit : ℕ) (w row : List ℕ) (cells : ℕ → Cell) (count n : ℕ) (f : WellFormed limit w) (i : ℕ) (b : i < terms w) (turn : Turn) → turn ≡ turnOf w row count n (numbers w (inCells row cells count) i) i
-    → (answer : ℕ) → answer ≡ looked cells turn → reading (termAt w i) ≡ true → answer ≡ valueRead limit w row (λ slot j other. lookFrom cells count 0 slot j other) f i b
+    → (answer : ℕ) → answer ≡ looked cells turn → isRead (termAt w i) ≡ true → answer ≡ valueRead limit w row (λ slot j other. lookFrom cells count 0 slot j other) f i b
 answer-is limit w row cells count n f i b turn asks answer answered r =
     let front = numbers w (inCells row cells count) i in
     let x = termAt w i in
@@ -99,13 +99,13 @@ module _ (n : ℕ) (roomAt : ℕ → List ℕ) (turnAt : ℕ → Turn) where
     pub count-here : turn .count ≤ count
     count-here = here .most
 
-    pub inside : turn .on ≡ true → h .i < n
+    pub inside : turn .pending ≡ true → h .i < n
     inside on = ltb-true (h .i) n (sym (here .going) ∙ on)
 
-    pub going : turn .on ≡ true → turn .at < n
+    pub going : turn .pending ≡ true → turn .at < n
     going on = omega (arith, at-is, inside on)
 
-    pub ended : turn .on ≡ false → room ≡ roomAt n
+    pub ended : turn .pending ≡ false → room ≡ roomAt n
     ended off =
         let past : n ≤ h .i = ltb-false (h .i) n (sym (here .going) ∙ off) in
         let e : h .i ≡ n = let b : h .i ≤ n = h .within in omega arith in

@@ -8,20 +8,20 @@ use native.Mathlib.Numerals.{add-one}
 use native.Mathlib.Omega.{arith}
 use Rattle.table.specs.declared.words.Term.{Term}
 use Rattle.table.specs.Terms.{termAt}
-use Rattle.table.specs.Faults.{storing, reading, chain, size}
+use Rattle.table.specs.Faults.{isStore, isRead, chain, size}
 use Rattle.evaluate.specs.Steps.{stepsOf, steps}
 
 pub chain-most : (f : ℕ) (w : List ℕ) (k : ℕ) → chain f w k ≤ f
 unfolding chain
 chain-most zero w k = omega arith
-chain-most (suc f) w k = go (storing (termAt w k)) (chain-most f w (termAt w k .p))
+chain-most (suc f) w k = go (isStore (termAt w k)) (chain-most f w (termAt w k .p))
   where
     go : (b : Bool) → chain f w (termAt w k .p) ≤ f → cond b (suc (chain f w (termAt w k .p))) 0 ≤ suc f
     go true h = omega arith
     go false h = omega arith
 
 pub steps-of-most : (w : List ℕ) (x : Term) → stepsOf w x ≤ 17
-steps-of-most w x = go (reading x)
+steps-of-most w x = go (isRead x)
   where
     go : (b : Bool) → cond b (size w (x .p)) 0 ≤ 17
     go true = chain-most 17 w (x .p)

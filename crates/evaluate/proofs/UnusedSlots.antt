@@ -13,14 +13,14 @@ use Rattle.ops.specs.Numbers.{opOf}
 use Rattle.table.specs.declared.words.Term.{Term}
 use Rattle.table.specs.Terms.{terms, termAt, sortAt}
 use Rattle.table.specs.Ranks.{slotted}
-use Rattle.table.specs.Faults.{variable}
+use Rattle.table.specs.Faults.{isVariable}
 use Rattle.table.proofs.FoldLaws.{fold-same}
 use Rattle.setting.specs.Cells.{look}
 use Rattle.setting.specs.Interpretation.{Value, Interpretation, interpret}
 use Rattle.setting.proofs.UnusedSlots.{input-same, unused-unchecked}
 use Rattle.evaluate.specs.declared.Evaluation.{Evaluation}
 use Rattle.evaluate.specs.declared.Evaluation.the-variants.{Evaluated, NotEvaluated}
-use Rattle.evaluate.specs.Values.{scalarValue, arrayValue, valueBy, valueIn, valueOf, values, valueAt, numbers}
+use Rattle.evaluate.specs.Values.{scalarValue, arrayValue, valueBy, valueIn, valueFrom, values, valueAt, numbers}
 use Rattle.evaluate.specs.Evaluation.{readyBy, evaluation, roomIn, roomAfter}
 use Rattle.evaluate.specs.Laws.{UnusedUnevaluated}
 
@@ -37,15 +37,15 @@ module _ (I I′ : Interpretation) (v : ℕ → Value) (width : ℕ) (t : Term) 
   value-by Unknown h = refl
 
 -- two interpretations that are one at every slot that a variable uses
-module _ (w : List ℕ) (I I′ : Interpretation) (one : (k : ℕ) → k < terms w → variable (termAt w k) ≡ true → I (termAt w k .p) ≡ I′ (termAt w k .p)) where
-  value-same : (k : ℕ) → k < terms w → (v : ℕ → Value) → valueOf w I v (termAt w k) ≡ valueOf w I′ v (termAt w k)
+module _ (w : List ℕ) (I I′ : Interpretation) (one : (k : ℕ) → k < terms w → isVariable (termAt w k) ≡ true → I (termAt w k .p) ≡ I′ (termAt w k .p)) where
+  value-same : (k : ℕ) → k < terms w → (v : ℕ → Value) → valueFrom w I v (termAt w k) ≡ valueFrom w I′ v (termAt w k)
   value-same k b v = value-by I I′ v (sortAt w (termAt w k .p) .n) (termAt w k) (opOf (termAt w k .op)) (one k b)
 
   pub values-same : (n : ℕ) → n ≤ terms w → values w I n ≡ values w I′ n
   values-same n b = fold-same _ _ n (λ k c l. value-same k (omega arith) (valueIn l))
 
   pub value-at-same : (k : ℕ) → k < terms w → valueAt w I k ≡ valueAt w I′ k
-  value-at-same k b = value-same k b (valueIn (values w I k)) ∙ ap (λ l. valueOf w I′ (valueIn l) (termAt w k)) (values-same k (omega arith))
+  value-at-same k b = value-same k b (valueIn (values w I k)) ∙ ap (λ l. valueFrom w I′ (valueIn l) (termAt w k)) (values-same k (omega arith))
 
   pub numbers-same : numbers w I (terms w) ≡ numbers w I′ (terms w)
   numbers-same = ap (map (λ v. v .num)) (values-same (terms w) (omega arith))

@@ -6,10 +6,10 @@ use Prim.Native.Nat.{ℕ, _-_, _*_}
 use lib.Dec.{ltb}
 use lib.ListN.{length, drop}
 use Rattle.table.specs.declared.Refusal.{Refusal}
-use Rattle.table.specs.declared.Admission.{Admission}
-use Rattle.table.specs.declared.Admission.the-variants.{Admitted, Refused}
+use Rattle.table.specs.declared.Acceptance.{Acceptance}
+use Rattle.table.specs.declared.Acceptance.the-variants.{Accepted, Refused}
 use Rattle.table.specs.Terms.{terms}
-use Rattle.table.specs.Admission.{admissionWithin}
+use Rattle.table.specs.Admission.{andThen, admissionWithin}
 use Rattle.setting.specs.Cells.{look}
 use Rattle.setting.specs.Check.{check}
 use Rattle.setting.specs.Interpretation.{Interpretation, interpret}
@@ -22,18 +22,9 @@ use Rattle.evaluate.specs.Steps.{steps}
 abbrev pub notEvaluated : ℕ → ℕ → Evaluation
 notEvaluated number place = NotEvaluated (record { number = number; place = place })
 
-abbrev pub admits : Admission → Bool
-admits Admitted = true
-admits (Refused r) = false
-
 abbrev pub evaluates : Evaluation → Bool
 evaluates (Evaluated s) = true
 evaluates (NotEvaluated r) = false
-
--- a refusal stands; else the rest
-abbrev pub andThen : Admission → Evaluation → Evaluation
-andThen Admitted rest = rest
-andThen (Refused r) rest = NotEvaluated r
 
 -- 22 the work room is too short (numbers needed): each numbers a term. 23 the allowance is below the table's steps (steps needed).
 -- Else the steps, and the allowance left
@@ -46,8 +37,8 @@ afford w each allowance room =
     (Evaluated (record { steps = spent; left = allowance - spent })))
 
 -- 1 to 10, by a limit on the terms; then what the check of the setting says, 11 to 15; then 22 and 23
-abbrev pub readyBy : ℕ → List ℕ → Admission → ℕ → ℕ → ℕ → Evaluation
-readyBy limit w checked each allowance room = andThen (admissionWithin limit w) (andThen checked (afford w each allowance room))
+abbrev pub readyBy : ℕ → List ℕ → Acceptance → ℕ → ℕ → ℕ → Evaluation
+readyBy limit w checked each allowance room = andThen NotEvaluated (admissionWithin limit w) (andThen NotEvaluated checked (afford w each allowance room))
 
 abbrev pub ready : ℕ → List ℕ → List ℕ → List ℕ → ℕ → ℕ → ℕ → Evaluation
 ready limit w values cells each allowance room = readyBy limit w (check w values cells) each allowance room

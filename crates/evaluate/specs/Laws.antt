@@ -9,7 +9,7 @@ use Rattle.ops.specs.declared.Op.the-variants.{Apply, Store}
 use Rattle.ops.specs.declared.Function.the-variants.{BvAdd, BvMul}
 use Rattle.ops.specs.Numbers.{opOf}
 use Rattle.ops.specs.Meaning.{apply}
-use Rattle.table.specs.declared.Admission.the-variants.{Admitted}
+use Rattle.table.specs.declared.Acceptance.the-variants.{Accepted}
 use Rattle.table.specs.Terms.{terms, termAt, sortAt}
 use Rattle.table.specs.WellFormed.{WellFormed}
 use Rattle.table.specs.Refusals.{between}
@@ -29,7 +29,7 @@ ValuesFit = (limit : ℕ) (w : List ℕ) (I : Interpretation) → WellFormed lim
 -- So it does in every setting that is not refused.
 abbrev pub CheckedValuesFit : Type 0
 CheckedValuesFit =
-    (limit : ℕ) (w values cells : List ℕ) → WellFormed limit w → check w values cells ≡ Admitted
+    (limit : ℕ) (w values cells : List ℕ) → WellFormed limit w → check w values cells ≡ Accepted
     → (k : ℕ) → k < terms w → Fit (sortAt w k) (valueAt w (interpret values (look cells)) k)
 
 -- Familiar facts: 200 + 100 at width 8 is 44 (P5), 16 × 16 is 0 (P6).

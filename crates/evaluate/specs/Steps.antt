@@ -5,11 +5,11 @@ use mathlib.Core.List.{List}
 use Prim.Native.Nat.{ℕ, zero, suc, _+_}
 use Rattle.table.specs.declared.words.Term.{Term}
 use Rattle.table.specs.Terms.{termAt}
-use Rattle.table.specs.Faults.{reading, chain, size}
+use Rattle.table.specs.Faults.{isRead, chain, size}
 
 -- the steps of a term: none but for a read
 abbrev pub stepsOf : List ℕ → Term → ℕ
-stepsOf w x = cond (reading x) (size w (x .p)) 0
+stepsOf w x = cond (isRead x) (size w (x .p)) 0
 
 -- the sum over the first k terms
 unfoldable pub steps : List ℕ → ℕ → ℕ

@@ -38,16 +38,16 @@ module _ (I : Interpretation) (v : ℕ → Value) (width : ℕ) (t : Term) where
 abbrev pub valueIn : List Value → ℕ → Value
 valueIn vs k = getD vs k (scalarValue 0)
 
-abbrev pub valueOf : List ℕ → Interpretation → (ℕ → Value) → Term → Value
-valueOf w I v t = valueBy I v (sortAt w (t .p) .n) t (opOf (t .op))
+abbrev pub valueFrom : List ℕ → Interpretation → (ℕ → Value) → Term → Value
+valueFrom w I v t = valueBy I v (sortAt w (t .p) .n) t (opOf (t .op))
 
 -- the values of the first k terms: each from those before it
 abbrev pub values : List ℕ → Interpretation → ℕ → List Value
-values w I k = fold (λ vs i. valueOf w I (valueIn vs) (termAt w i)) k
+values w I k = fold (λ vs i. valueFrom w I (valueIn vs) (termAt w i)) k
 
 -- the value of term k
 abbrev pub valueAt : List ℕ → Interpretation → ℕ → Value
-valueAt w I k = valueOf w I (valueIn (values w I k)) (termAt w k)
+valueAt w I k = valueFrom w I (valueIn (values w I k)) (termAt w k)
 
 -- the numbers of the first k terms: one value a term, 0 for an array
 abbrev pub numbers : List ℕ → Interpretation → ℕ → List ℕ

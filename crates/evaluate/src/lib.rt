@@ -8,18 +8,21 @@ pub use reads::Found;
 pub use reads::bottom;
 pub use reads::find;
 pub use spend::afford;
-use table::Admission;
+use table::Acceptance;
 use table::Refusal;
+use table::accepts;
 pub use turns::Turn;
+pub use turns::advance;
 pub use turns::number;
-pub use turns::on;
 pub use turns::step;
 pub use turns::turn_at;
 pub use turns::variable_number;
 ghost use mathlib.Core.Path.{_≡_};
 ghost use Prim.Native.Nat.{_≤_};
 ghost use lib.ListN.{length};
-ghost use Rattle.evaluate.specs.Evaluation.{admits, andThen, evaluates, ready, evaluation, roomAfter};
+ghost use Rattle.evaluate.specs.Evaluation.{evaluates, ready, evaluation, roomAfter};
+ghost use Rattle.table.specs.Admission.{andThen, accepts};
+ghost use Rattle.evaluate.specs.declared.Evaluation.the-variants.{NotEvaluated};
 
 // The steps that were spent, and the allowance that is left.
 pub struct Spent {
@@ -32,23 +35,13 @@ pub enum Evaluation {
     NotEvaluated(Refusal),
 }
 
-// Whether it is no refusal.
-pub fn admits(a: Admission) -> bool
-    ensures { λ r. ⌜ r ≡ admits a ⌝ }
-{
-    match a {
-        Admission::Admitted => true,
-        Admission::Refused(_) => false,
-    }
-}
-
 // A refusal stands; else the rest.
-pub fn and_then(a: Admission, rest: Evaluation) -> Evaluation
-    ensures { λ r. ⌜ r ≡ andThen a rest ⌝ }
+pub fn and_then(a: Acceptance, rest: Evaluation) -> Evaluation
+    ensures { λ r. ⌜ r ≡ andThen NotEvaluated a rest ⌝ }
 {
     match a {
-        Admission::Admitted => rest,
-        Admission::Refused(refusal) => Evaluation::NotEvaluated(refusal),
+        Acceptance::Accepted => rest,
+        Acceptance::Refused(refusal) => Evaluation::NotEvaluated(refusal),
     }
 }
 
@@ -78,11 +71,11 @@ pub fn ready(
 {
     let nothing = Evaluation::Evaluated(Spent { steps: 0, left: 0 });
     let admitted = admission::admit_within(table, limit);
-    if !admits(admitted) {
+    if !accepts(admitted) {
         return and_then(admitted, nothing);
     }
     let checked = setting::check(table, values, cells);
-    if !admits(checked) {
+    if !accepts(checked) {
         return and_then(checked, nothing);
     }
     afford(table, each, allowance, room)

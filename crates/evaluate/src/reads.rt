@@ -2,7 +2,7 @@
 ghost use mathlib.Core.Path.{_≡_};
 ghost use Rattle.table.specs.WellFormed.{WellFormed};
 ghost use Rattle.evaluate.specs.Code.Reads.{foundAt, bottomAt};
-use setting::number_at;
+use table::number_at;
 
 // The value that a store holds, or else the slot of the variable at the chain's end.
 pub struct Found {
@@ -17,7 +17,7 @@ pub fn find(table: &[u32], front: &[u32], a: u32, j: u32) -> Found
     ensures { λ r. ⌜ r ≡ foundAt (now (table .entry)) (now (front .entry)) a j ⌝ }
 {
     let x = table::term_at(table, a);
-    if !table::storing(x) {
+    if !table::is_store(x) {
         return Found {
             stored: false,
             number: x.p,
@@ -40,7 +40,7 @@ pub fn bottom(table: &[u32], a: u32) -> u32
     let mut at = a;
     loop {
         let x = table::term_at(table, at);
-        if !table::storing(x) {
+        if !table::is_store(x) {
             return x.p;
         }
         at = x.p;

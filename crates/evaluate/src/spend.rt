@@ -14,7 +14,7 @@ use table::Term;
 fn steps_of(table: &[u32], x: Term) -> u32
     ensures { λ r. ⌜ r ≡ stepsOf (now (table .entry)) x ⌝ }
 {
-    if table::reading(x) {
+    if table::is_read(x) {
         admission::chain(table, x.p)
     } else {
         0

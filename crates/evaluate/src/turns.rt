@@ -7,12 +7,12 @@ ghost use Rattle.table.specs.WellFormed.{WellFormed};
 ghost use Rattle.evaluate.specs.Code.Turns.{told, turnOf, Next, Behind, variableNumber, operatedNumber};
 ghost use Rattle.evaluate.specs.Code.Turns.{numberOf, nextRead, onward, numbered};
 use crate::reads::find;
-use setting::number_at;
 use table::Term;
+use table::number_at;
 
 // Whether there is a term at, and the cell that it asks for: among count cells, by slot and index, else the other.
 pub struct Turn {
-    pub on: bool,
+    pub pending: bool,
     pub at: u32,
     pub count: usize,
     pub slot: u32,
@@ -21,11 +21,11 @@ pub struct Turn {
 }
 
 // A turn that asks among no cells: the other is the answer.
-fn told(on: bool, at: u32, other: u32) -> Turn
-    ensures { λ r. ⌜ r ≡ told on at other ⌝ }
+fn told(pending: bool, at: u32, other: u32) -> Turn
+    ensures { λ r. ⌜ r ≡ told pending at other ⌝ }
 {
     Turn {
-        on,
+        pending,
         at,
         count: 0,
         slot: 0,
@@ -47,17 +47,17 @@ pub fn turn_at(
     ensures { λ r. ⌜ r ≡ turnOf (now (table .entry)) (now (values .entry)) count terms (now (front .entry)) at ⌝ }
 {
     let x = table::term_at(table, at);
-    let on = at < terms;
-    if !table::reading(x) {
-        return told(on, at, 0);
+    let pending = at < terms;
+    if !table::is_read(x) {
+        return told(pending, at, 0);
     }
     let index = number_at(front, x.q);
     let found = find(table, front, x.p, index);
     if found.stored {
-        return told(on, at, found.number);
+        return told(pending, at, found.number);
     }
     Turn {
-        on,
+        pending,
         at,
         count,
         slot: found.number,
@@ -85,7 +85,7 @@ fn operated_number(table: &[u32], front: &[u32], x: Term) -> u32
     let p = x.p as usize;
     let q = x.q as usize;
     let r = x.r as usize;
-    ops::apply(ops::op_of(x.op), first.n, front[p], front[q], front[r])
+    ops::apply_number(x.op, first.n, front[p], front[q], front[r])
 }
 
 // The value of a term, 0 for an array; that of a read is the answer.
@@ -94,20 +94,20 @@ pub fn number(table: &[u32], values: &[u32], front: &[u32], x: Term, answer: u32
     requires { ⌜ Next (now table) (now front) x ⌝ }
     ensures { λ r. ⌜ r ≡ numberOf (now (table .entry)) (now (values .entry)) (now (front .entry)) x answer ⌝ }
 {
-    if table::reading(x) {
+    if table::is_read(x) {
         return answer;
     }
-    if table::constant(x) {
+    if table::is_constant(x) {
         return x.p;
     }
-    if table::variable(x) {
+    if table::is_variable(x) {
         return variable_number(values, x);
     }
     operated_number(table, front, x)
 }
 
 // Writes the values of the terms from at on, up to the next read, and answers what that asks.
-pub fn on(
+pub fn advance(
     table: &[u32],
     values: &[u32],
     count: usize,
@@ -128,7 +128,7 @@ pub fn on(
     let mut i = at;
     while i < terms {
         let x = table::term_at(table, i);
-        if table::reading(x) {
+        if table::is_read(x) {
             break;
         }
         let k = i as usize;
@@ -164,5 +164,5 @@ pub fn step(
     let at = i as usize;
     let value = number(table, values, &work[..at], table::term_at(table, i), answer);
     work[at] = value;
-    on(table, values, count, terms, work, i + 1)
+    advance(table, values, count, terms, work, i + 1)
 }

@@ -7,7 +7,7 @@ use native.Mathlib.Numerals.{add-one}
 use native.Mathlib.Omega.{arith}
 use lib.ListN.{length}
 use Rattle.table.specs.declared.words.Term.{Term}
-use Rattle.table.specs.Terms.{placed}
+use Rattle.table.specs.Code.Writing.{placed}
 use Rattle.table.proofs.Places.{length-placed}
 use Rattle.examples.specs.Tables.{termOf, stacked}
 

@@ -9,16 +9,16 @@ use crate::rules::rule_g;
 use crate::rules::rule_h;
 use crate::shows::show_refusal;
 use libc::STDOUT_FILENO;
-use table::Admission;
+use table::Acceptance;
 
 // A name, then what was answered.
-fn show(name: &[u8], answer: Admission) {
+fn show(name: &[u8], answer: Acceptance) {
     io::write_all(STDOUT_FILENO, name);
     match answer {
-        Admission::Admitted => {
+        Acceptance::Accepted => {
             io::write_all(STDOUT_FILENO, b": admitted");
         }
-        Admission::Refused(refusal) => {
+        Acceptance::Refused(refusal) => {
             show_refusal(refusal);
         }
     }

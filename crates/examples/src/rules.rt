@@ -1,7 +1,7 @@
 // The tables of the examples.
 ghost use mathlib.Core.Path.{_≡_};
 ghost use Prim.Native.Nat.{_≤_};
-ghost use Rattle.table.specs.Terms.{placed};
+ghost use Rattle.table.specs.Code.Writing.{placed};
 ghost use Rattle.table.specs.Bench.{ruleG, ruleH};
 ghost use Rattle.finish.specs.Bench.{unmarkedRule};
 ghost use Rattle.examples.specs.Tables.{termOf, stores, threeStores, oneBitRead, asFirst, asFourth, between};

@@ -25,7 +25,7 @@ use Rattle.table.specs.declared.words.Sort.{Sort}
 use Rattle.table.specs.declared.words.Term.{Term}
 use Rattle.table.specs.Terms.{terms, termAt, sortAt, boolean, vector, scalar, array, vectorOf, sameSort}
 use Rattle.table.specs.Ranks.{applied, rankOf, slotted, writes}
-use Rattle.table.specs.Faults.{variable, storing, typedAs}
+use Rattle.table.specs.Faults.{isVariable, isStore, typedAs}
 use Rattle.table.specs.WellFormed.{WellFormed}
 use Rattle.setting.specs.Interpretation.{Value, Interpretation}
 use Rattle.evaluate.specs.Values.{valueIn, values, numbers}
@@ -33,7 +33,7 @@ use Rattle.evaluate.proofs.Folds.{value-below, number-in}
 use Rattle.evaluate.proofs.Meaning.{same-array}
 use Rattle.table.proofs.OperandSorts.{isKnown, boolean-scalar, same-scalar, vector-of-scalar, three, four, unary-scalar, binary-scalars, array-op, no-store, op-at, typing, typing-as, placing-as, two-placed, three-placed, rank-below}
 use Rattle.judge.specs.Conditions.{Condition, conditionBy, conditionIn, conditions, conditionAt, truths}
-use Rattle.judge.specs.Code.Readings.{truthIn}
+use Rattle.judge.specs.Code.Labelled.{truthIn}
 use Rattle.judge.proofs.Alike.{condition-below}
 use Rattle.judge.proofs.Meaning.{truth-in}
 use Rattle.explain.specs.declared.answers.Blame.{Blame}
@@ -115,7 +115,7 @@ module _ (limit : ℕ) (w : List ℕ) (marked : Term → Bool) (I : Interpretati
       let d : i < terms w = omega arith in
       ap (λ (v : Value). v .num) (value-below w I k i c) ∙ sym (number-in w I (terms w) i ∙ ap (λ (v : Value). v .num) (value-below w I (terms w) i d))
 
-  plain-at : (i : ℕ) → i < terms w → scalar (sortAt w i) ≡ true → storing (termAt w i) ≡ false
+  plain-at : (i : ℕ) → i < terms w → scalar (sortAt w i) ≡ true → isStore (termAt w i) ≡ false
   plain-at i b s = let t = termAt w i in no-store (opOf (t .op)) (sortAt w i) (sortAt w (t .p)) (sortAt w (t .q)) (sortAt w (t .r)) (typing w i (f .sound i b)) s
 
   beneath : (k i : ℕ) → k < terms w → i < k → scalar (sortAt w i) ≡ true → truthIn ts i ≡ false → Beneath w ts k i
@@ -144,7 +144,7 @@ module _ (limit : ℕ) (w : List ℕ) (marked : Term → Bool) (I : Interpretati
       at-variable : opOf (x .op) ≡ Variable → K a .readFree j true ≡ false → Led a
       unfolding conditionBy
       at-variable e h =
-          let no : storing x ≡ false = ap (λ (o : Op). writes o) e in
+          let no : isStore x ≡ false = ap (λ (o : Op). writes o) e in
           let own : K a .free ≡ not (marked x) = ap (λ (o : Op). conditionBy marked v co (sortAt w (x .p) .n) x o .free) e in
           let at-j : K a .readFree j true ≡ not (marked x) && true = ap (λ (o : Op). conditionBy marked v co (sortAt w (x .p) .n) x o .readFree j true) e in
           led-here a
@@ -327,7 +327,7 @@ module _ (limit : ℕ) (w : List ℕ) (marked : Term → Bool) (I : Interpretati
           second = λ n. absurd (omega (arith, n, nothing));
         }
 
-    goes-by : (op : Op) → opOf (this .op) ≡ op → storing this ≡ false → GoesOn w marked vs ts k
+    goes-by : (op : Op) → opOf (this .op) ≡ op → isStore this ≡ false → GoesOn w marked vs ts k
     unfolding conditionBy settles isKnown
     goes-by Constant e ns = never (sym (shut Constant e))
     goes-by Variable e ns = input e
@@ -344,7 +344,7 @@ module _ (limit : ℕ) (w : List ℕ) (marked : Term → Bool) (I : Interpretati
 
   pub record Way (k : ℕ) : Type 0 where
     pub inside : k < terms w
-    pub plain : storing (termAt w k) ≡ false
+    pub plain : isStore (termAt w k) ≡ false
     pub unfree : truthIn ts k ≡ false
 
   pub goes-from : (k : ℕ) → Way k → GoesOn w marked vs ts k

@@ -10,7 +10,7 @@ use lib.ListN.{getD, set, replicate}
 use borrow.Author.Tests.{not-true}
 use Rattle.ops.specs.Meaning.{holds}
 use Rattle.ops.proofs.Booleans.{never, and-parts}
-use Rattle.judge.specs.Code.Readings.{truthIn}
+use Rattle.judge.specs.Code.Labelled.{truthIn}
 use Rattle.explain.specs.declared.answers.Blame.{Blame}
 use Rattle.explain.specs.Blames.{listed, unfree, suspectsOf, blameAt}
 use Rattle.explain.specs.Ways.{marked, onWay, blamed, lookedAt, wayDown, begun, wayOf}

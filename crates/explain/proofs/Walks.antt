@@ -12,8 +12,8 @@ use borrow.Author.Tests.{ltb-true}
 use Rattle.ops.proofs.Booleans.{and-parts}
 use Rattle.table.specs.declared.words.Term.{Term}
 use Rattle.table.specs.Terms.{termAt}
-use Rattle.table.specs.Faults.{storing}
-use Rattle.judge.specs.Code.Readings.{truthIn}
+use Rattle.table.specs.Faults.{isStore}
+use Rattle.judge.specs.Code.Labelled.{truthIn}
 use Rattle.explain.specs.declared.answers.Culprit.{Culprit}
 use Rattle.explain.specs.declared.answers.Culprit.the-variants.{Index, Stored, Variable}
 use Rattle.explain.specs.Chains.{stacked, passed, culpritHere, culpritWithin, culpritAt}
@@ -44,7 +44,7 @@ module _ (w values truths : List ℕ) (j : ℕ) where
   pub beneath : (a : ℕ) → passed w values truths a j ≡ true → termAt w a .p < a
   beneath a e =
       let x = termAt w a in
-      ltb-true (x .p) a (and-parts (storing x) (ltb (x .p) a) (and-parts (stacked x a) (truthIn truths (x .q)) (and-parts (stacked x a && truthIn truths (x .q)) (not (eqb (getD values (x .q) 0) j)) e .0) .0) .1)
+      ltb-true (x .p) a (and-parts (isStore x) (ltb (x .p) a) (and-parts (stacked x a) (truthIn truths (x .q)) (and-parts (stacked x a && truthIn truths (x .q)) (not (eqb (getD values (x .q) 0) j)) e .0) .0) .1)
 
   by : {A : Type 0} (b : Bool) (x y z : A) → (b ≡ true → x ≡ y) → cond b x z ≡ cond b y z
   by true x y z h = h refl

@@ -14,7 +14,7 @@ use borrow.Author.Tests.{lt-ltb, ltb-true, not-true}
 use Rattle.ops.specs.Meaning.{holds}
 use Rattle.ops.proofs.Booleans.{never, and-parts}
 use Rattle.table.specs.Terms.{terms}
-use Rattle.judge.specs.Code.Readings.{truthIn}
+use Rattle.judge.specs.Code.Labelled.{truthIn}
 use Rattle.explain.specs.declared.answers.Blame.{Blame}
 use Rattle.explain.specs.Blames.{blameAt}
 use Rattle.explain.specs.Ways.{marked, onWay, blamed, lookedAt, wayDown, begun, wayOf}

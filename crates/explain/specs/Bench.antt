@@ -6,7 +6,7 @@ use mathlib.Core.List.{List, [], _∷_}
 use Prim.Native.Nat.{ℕ, zero, suc}
 use Rattle.ops.specs.Meaning.{apply}
 use Rattle.ops.specs.Condition.{settles}
-use Rattle.table.specs.Bench.{term, ruleG, ruleH}
+use Rattle.table.specs.Bench.{term, ruleG, ruleH, choosing, markedIndex}
 use Rattle.table.specs.Folds.{fold}
 use Rattle.table.specs.Terms.{terms}
 use Rattle.setting.specs.Cells.{lookFrom, look}
@@ -27,14 +27,6 @@ pub wayIn : List ℕ → List ℕ → List ℕ → List ℕ
 wayIn w values cells =
     let I = interpret values (look cells) in
     listedBelow (terms w) (wayOf w (numbers w I (terms w)) (truths w ownMarks I (terms w)) (terms w))
-
--- a marked test, unmarked branches of width 8 (slots 0, 1, 2): the choice is 3
-abbrev choosing : List ℕ
-choosing = term 1 0 0 0 1 0 (term 1 0 8 1 0 0 (term 1 0 8 2 0 0 (term 7 0 8 0 1 2 (term 0 0 8 3 0 0 (term 6 0 0 3 4 0 [])))))
-
--- rule H with t unmarked and a marked
-abbrev markedIndex : List ℕ
-markedIndex = term 1 8 8 0 0 0 (term 1 0 8 1 1 0 (term 1 0 8 2 0 0 (term 0 0 8 42 0 0 (term 16 8 8 0 1 3 (term 15 0 8 4 2 0 (term 6 0 0 5 3 0 []))))))
 
 -- P1, whose condition is true. P2: by the sum and the product to x. P8: past the store to the array. P11 with branches 3 and 4: to
 -- the test. A read of a store at a marked index: to that index.

@@ -11,7 +11,7 @@ use Rattle.table.specs.declared.ranks.Rank.the-variants.{Literal, Input, BoolUn
 use Rattle.table.specs.declared.words.Term.{Term}
 use Rattle.table.specs.Terms.{termAt}
 use Rattle.table.specs.Faults.{rank}
-use Rattle.judge.specs.Code.Readings.{truthIn}
+use Rattle.judge.specs.Code.Labelled.{truthIn}
 use Rattle.explain.specs.declared.answers.Blame.{Blame}
 use Rattle.explain.specs.Chains.{culpritAt, termOf}
 

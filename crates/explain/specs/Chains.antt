@@ -8,14 +8,14 @@ use lib.Dec.{eqb, ltb}
 use lib.ListN.{getD}
 use Rattle.table.specs.declared.words.Term.{Term}
 use Rattle.table.specs.Terms.{termAt}
-use Rattle.table.specs.Faults.{storing}
-use Rattle.judge.specs.Code.Readings.{truthIn}
+use Rattle.table.specs.Faults.{isStore}
+use Rattle.judge.specs.Code.Labelled.{truthIn}
 use Rattle.explain.specs.declared.answers.Culprit.{Culprit}
 use Rattle.explain.specs.declared.answers.Culprit.the-variants.{Index, Stored, Variable}
 
 -- a store over an earlier term
 abbrev pub stacked : Term → ℕ → Bool
-stacked x a = storing x && ltb (x .p) a
+stacked x a = isStore x && ltb (x .p) a
 
 -- the read at j goes past term a: a store whose index is free and another
 abbrev pub passed : List ℕ → List ℕ → List ℕ → ℕ → ℕ → Bool

@@ -9,12 +9,12 @@ use Rattle.ops.specs.declared.Op.{Op}
 use Rattle.ops.specs.Condition.{settles}
 use Rattle.table.specs.declared.words.Term.{Term}
 use Rattle.table.specs.Terms.{terms, termAt}
-use Rattle.table.specs.Faults.{variable, storing}
+use Rattle.table.specs.Faults.{isVariable, isStore}
 use Rattle.table.specs.WellFormed.{WellFormed}
 use Rattle.setting.specs.Interpretation.{Interpretation}
 use Rattle.evaluate.specs.Values.{numbers}
 use Rattle.judge.specs.Conditions.{truths}
-use Rattle.judge.specs.Code.Readings.{truthIn}
+use Rattle.judge.specs.Code.Labelled.{truthIn}
 use Rattle.explain.specs.Operands.{wouldSettle}
 use Rattle.explain.specs.Blames.{blameAt}
 use Rattle.explain.specs.Ways.{onWay, wayOf}
@@ -32,12 +32,12 @@ OnlyUnfree = (w values truths : List ℕ) (n k : ℕ) → onWay (wayOf w values 
 -- Term i, which term k blames: an earlier term, no store, and not free.
 pub record Beneath (w truths : List ℕ) (k i : ℕ) : Type 0 where
   pub below : i < k
-  pub no-store : storing (termAt w i) ≡ false
+  pub no-store : isStore (termAt w i) ≡ false
   pub unfree : truthIn truths i ≡ false
 
 -- Term k is a marked variable or blames a term; and what it blames is beneath it.
 pub record GoesOn (w : List ℕ) (marked : Term → Bool) (values truths : List ℕ) (k : ℕ) : Type 0 where
-  pub on : ((variable (termAt w k) ≡ true) × (marked (termAt w k) ≡ true)) ⊎ (0 < blameAt w values truths k .count)
+  pub on : ((isVariable (termAt w k) ≡ true) × (marked (termAt w k) ≡ true)) ⊎ (0 < blameAt w values truths k .count)
   pub first : 0 < blameAt w values truths k .count → Beneath w truths k (blameAt w values truths k .first)
   pub second : 1 < blameAt w values truths k .count → Beneath w truths k (blameAt w values truths k .second)
 

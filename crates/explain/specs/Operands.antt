@@ -9,7 +9,7 @@ use Rattle.ops.specs.Numbers.{opOf}
 use Rattle.ops.specs.Condition.{settles}
 use Rattle.table.specs.declared.words.Term.{Term}
 use Rattle.table.specs.Terms.{sortAt}
-use Rattle.judge.specs.Code.Readings.{truthIn}
+use Rattle.judge.specs.Code.Labelled.{truthIn}
 use Rattle.explain.specs.declared.operands.Operand.{Operand}
 use Rattle.explain.specs.declared.operands.Operand.the-variants.{Settles, Free, Unfree, WouldSettle}
 

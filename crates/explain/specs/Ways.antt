@@ -6,7 +6,7 @@ use Prim.Native.Nat.{ℕ, zero, suc, pred}
 use lib.Dec.{ltb}
 use lib.ListN.{getD, set, replicate}
 use Rattle.ops.specs.Meaning.{holds}
-use Rattle.judge.specs.Code.Readings.{truthIn}
+use Rattle.judge.specs.Code.Labelled.{truthIn}
 use Rattle.explain.specs.declared.answers.Blame.{Blame}
 use Rattle.explain.specs.Blames.{blameAt}
 

@@ -5,9 +5,9 @@ use crate::answers::Blame;
 use crate::chains::culprit;
 use crate::chains::term_of;
 use crate::operands::free_at;
-use setting::number_at;
 use table::Rank;
 use table::Term;
+use table::number_at;
 
 fn none() -> Blame
     ensures { λ r. ⌜ r ≡ none ⌝ }

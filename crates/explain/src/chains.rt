@@ -4,14 +4,14 @@ ghost use Rattle.explain.specs.Chains.{stacked, passed, culpritHere, cul
 use crate::answers::Culprit;
 use crate::answers::Held;
 use crate::operands::free_at;
-use setting::number_at;
 use table::Term;
+use table::number_at;
 
 // Whether term a, x, is a store over an earlier term.
 fn stacked(x: Term, a: u32) -> bool
     ensures { λ r. ⌜ r ≡ stacked x a ⌝ }
 {
-    table::storing(x) & (x.p < a)
+    table::is_store(x) & (x.p < a)
 }
 
 // Whether a read at index j goes past term a to the array beneath: a store whose index is free and another.

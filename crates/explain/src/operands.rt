@@ -1,10 +1,10 @@
 // An operand: whether it is free, and whether its value settles the operator.
 ghost use mathlib.Core.Path.{_≡_};
-ghost use Rattle.judge.specs.Code.Readings.{truthIn};
+ghost use Rattle.judge.specs.Code.Labelled.{truthIn};
 ghost use Rattle.explain.specs.Operands.{wouldSettle, stateOf, operandState};
 use ops::Op;
-use setting::number_at;
 use table::Term;
+use table::number_at;
 
 // Free and settles the operator; free and does not; not free and would not; not free, though its value would.
 pub enum Operand {

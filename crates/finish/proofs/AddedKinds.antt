@@ -14,7 +14,7 @@ use Rattle.ops.proofs.Booleans.{and-parts, or-neither}
 use Rattle.table.specs.declared.words.Term.{Term}
 use Rattle.table.specs.Folds.{fold}
 use Rattle.table.specs.Terms.{terms, termAt}
-use Rattle.table.specs.Faults.{variable, storing}
+use Rattle.table.specs.Faults.{isVariable, isStore}
 use Rattle.table.proofs.FoldLaws.{length-fold}
 use Rattle.judge.specs.Conditions.{ownMarks}
 use Rattle.groups.specs.declared.kinds.GroupKind.{GroupKind}
@@ -29,20 +29,20 @@ use Rattle.groups.proofs.GroupSizes.{plan-below, groups-more}
 -- none of the terms is a variable or a store
 unfoldable quiet : List Term → Bool
 quiet [] = true
-quiet (x ∷ xs) = not (variable x || storing x) && quiet xs
+quiet (x ∷ xs) = not (isVariable x || isStore x) && quiet xs
 
 quiet-append : (xs ys : List Term) → quiet xs ≡ true → quiet ys ≡ true → quiet (xs ++ ys) ≡ true
 unfolding quiet
 quiet-append [] ys p q = q
 quiet-append (x ∷ xs) ys p q =
-    let parts = and-parts (not (variable x || storing x)) (quiet xs) p in
+    let parts = and-parts (not (isVariable x || isStore x)) (quiet xs) p in
     rw (parts .0) (quiet-append xs ys (parts .1) q)
 
-quiet-at : (xs : List Term) (d : Term) → quiet xs ≡ true → (i : ℕ) → i < length xs → (variable (getD xs i d) ≡ false) × (storing (getD xs i d) ≡ false)
+quiet-at : (xs : List Term) (d : Term) → quiet xs ≡ true → (i : ℕ) → i < length xs → (isVariable (getD xs i d) ≡ false) × (isStore (getD xs i d) ≡ false)
 unfolding quiet
 quiet-at [] d h i b = absurd (not-suc-le-zero b)
-quiet-at (x ∷ xs) d h zero b = or-neither (variable x) (storing x) (not-true (variable x || storing x) (and-parts (not (variable x || storing x)) (quiet xs) h .0))
-quiet-at (x ∷ xs) d h (suc i) b = quiet-at xs d (and-parts (not (variable x || storing x)) (quiet xs) h .1) i (le-of-suc-le-suc b)
+quiet-at (x ∷ xs) d h zero b = or-neither (isVariable x) (isStore x) (not-true (isVariable x || isStore x) (and-parts (not (isVariable x || isStore x)) (quiet xs) h .0))
+quiet-at (x ∷ xs) d h (suc i) b = quiet-at xs d (and-parts (not (isVariable x || isStore x)) (quiet xs) h .1) i (le-of-suc-le-suc b)
 
 -- The groups of one term
 
@@ -109,5 +109,5 @@ quiet-added w =
     let rule = pred (terms w) in
     quiet-append (groups (plans w ownMarks (terms w))) (andT rule (conditionNumber w rule) ∷ []) (quiet-groups w ownMarks (terms w)) refl
 
-pub no-inputs : (w : List ℕ) (i : ℕ) → i < length (added w) → (variable (getD (added w) i (constantT 0 0)) ≡ false) × (storing (getD (added w) i (constantT 0 0)) ≡ false)
+pub no-inputs : (w : List ℕ) (i : ℕ) → i < length (added w) → (isVariable (getD (added w) i (constantT 0 0)) ≡ false) × (isStore (getD (added w) i (constantT 0 0)) ≡ false)
 no-inputs w i b = quiet-at (added w) (constantT 0 0) (quiet-added w) i b

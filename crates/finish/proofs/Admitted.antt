@@ -24,9 +24,9 @@ use Rattle.table.specs.declared.ranks.Rank.the-variants.{Literal, Input, BoolUn
 use Rattle.table.specs.declared.words.Sort.{Sort}
 use Rattle.table.specs.declared.words.Term.{Term}
 use Rattle.table.specs.Terms.{terms, termAt, sortAt, boolean, vector, scalar, array, vectorOf, sameSort}
-use Rattle.table.specs.Folds.{fold}
+use Rattle.table.specs.Folds.{fold, anyBelow}
 use Rattle.table.specs.Ranks.{applied, rankOf, fieldsOf}
-use Rattle.table.specs.Faults.{rank, fields, variable, storing, known, sorted, placedAs, typedAs, typed, valuedAs, conflicts, anyBelow, clash, chain}
+use Rattle.table.specs.Faults.{rank, fields, isVariable, isStore, known, sorted, placedAs, typedAs, typed, valuedAs, conflicts, clash, chain}
 use Rattle.table.specs.WellFormed.{Sound, WellFormed}
 use Rattle.table.proofs.FoldLaws.{fold-below}
 use Rattle.table.proofs.SoundTerms.{widths, store-below}
@@ -86,19 +86,19 @@ module _ (limit : ℕ) (w f : List ℕ) (F : WellFormed limit w) (l : Layout w f
   clash-same : (k : ℕ) → k < terms w → clash f k ≡ clash w k
   unfolding clash
   clash-same k b =
-      ap (λ (x : Term). variable x && anyBelow k (λ i. variable (termAt f i) && conflicts (termAt f i) x)) (l .old k b)
-      ∙ ap (λ (z : Bool). variable (termAt w k) && z)
-      (any-same k (λ i. variable (termAt f i) && conflicts (termAt f i) (termAt w k)) (λ i. variable (termAt w i) && conflicts (termAt w i) (termAt w k))
-      (λ i c. ap (λ (x : Term). variable x && conflicts x (termAt w k)) (l .old i (omega arith))))
+      ap (λ (x : Term). isVariable x && anyBelow k (λ i. isVariable (termAt f i) && conflicts (termAt f i) x)) (l .old k b)
+      ∙ ap (λ (z : Bool). isVariable (termAt w k) && z)
+      (any-same k (λ i. isVariable (termAt f i) && conflicts (termAt f i) (termAt w k)) (λ i. isVariable (termAt w i) && conflicts (termAt w i) (termAt w k))
+      (λ i c. ap (λ (x : Term). isVariable x && conflicts x (termAt w k)) (l .old i (omega arith))))
 
   chain-same : (left k : ℕ) → k < terms w → chain left f k ≡ chain left w k
   unfolding chain
   chain-same zero k b = refl
   chain-same (suc left) k b =
-      ap (λ (x : Term). cond (storing x) (suc (chain left f (x .p))) 0) (l .old k b)
-      ∙ go (storing (termAt w k)) refl (λ c. chain-same left (termAt w k .p) c)
+      ap (λ (x : Term). cond (isStore x) (suc (chain left f (x .p))) 0) (l .old k b)
+      ∙ go (isStore (termAt w k)) refl (λ c. chain-same left (termAt w k .p) c)
     where
-      go : (z : Bool) → storing (termAt w k) ≡ z → (termAt w k .p < terms w → chain left f (termAt w k .p) ≡ chain left w (termAt w k .p))
+      go : (z : Bool) → isStore (termAt w k) ≡ z → (termAt w k .p < terms w → chain left f (termAt w k .p) ≡ chain left w (termAt w k .p))
           → cond z (suc (chain left f (termAt w k .p))) 0 ≡ cond z (suc (chain left w (termAt w k .p))) 0
       go true e same = ap suc (same (omega (arith, store-below limit w F k e)))
       go false e same = refl

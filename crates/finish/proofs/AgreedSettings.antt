@@ -9,11 +9,11 @@ use lib.Dec.{ltb}
 use lib.ListN.{length}
 use Rattle.ops.specs.Meaning.{apply}
 use Rattle.ops.specs.Condition.{settles}
-use Rattle.table.specs.declared.Admission.{Admission}
-use Rattle.table.specs.Folds.{fold}
+use Rattle.table.specs.declared.Acceptance.{Acceptance}
+use Rattle.table.specs.Folds.{fold, anyBelow}
 use Rattle.table.specs.Terms.{words, terms}
-use Rattle.table.specs.Faults.{typed, anyBelow, clash, chain, faultIf, fault}
-use Rattle.table.specs.Admission.{scan, admissionWithin}
+use Rattle.table.specs.Faults.{typed, clash, chain, faultIf, fault}
+use Rattle.table.specs.Admission.{andThen, scan, admissionWithin}
 use Rattle.table.specs.WellFormed.{WellFormed}
 use Rattle.table.proofs.Admitted.{admission-sound}
 use Rattle.table.proofs.Refusals.{admission-by}
@@ -31,7 +31,7 @@ use Rattle.groups.specs.Added.{flat}
 use Rattle.groups.specs.Plans.{planBy, groups}
 use Rattle.finish.specs.declared.Finishing.{Finishing}
 use Rattle.finish.specs.declared.Finishing.the-variants.{Finished, NotFinished}
-use Rattle.finish.specs.Finished.{finished, extent, notFinished, andThen}
+use Rattle.finish.specs.Finished.{finished, extent, notFinished}
 use Rattle.finish.specs.Laws.{finishNumbers, NotFinishedBy, FinishingNumbers}
 use Rattle.finish.specs.Settings.{Setting, Agreed, P2, P7, AgreedSettings}
 use Rattle.finish.proofs.Promises.{faithful}
@@ -55,7 +55,7 @@ agreed-settings = (agreed P2 (admission-sound 512 (P2 .table) refl) refl refl, a
 
 pub finishing-numbers : FinishingNumbers
 finishing-numbers w room =
-    admission-by (λ a. NotFinishedBy finishNumbers (andThen a (cond (ltb room (terms (finished w) * words)) (notFinished 21 (terms (finished w))) (Finished (extent w)))))
+    admission-by (λ a. NotFinishedBy finishNumbers (andThen NotFinished a (cond (ltb room (terms (finished w) * words)) (notFinished 21 (terms (finished w))) (Finished (extent w)))))
     (go (ltb room (terms (finished w) * words))) (λ number place e. rw e) 512 w
   where
     go : (b : Bool) → NotFinishedBy finishNumbers (cond b (notFinished 21 (terms (finished w))) (Finished (extent w)))

@@ -23,12 +23,12 @@ use Rattle.table.specs.declared.words.Sort.{Sort}
 use Rattle.table.specs.declared.words.Term.{Term}
 use Rattle.table.specs.Terms.{terms, termAt, sortAt, boolean, vector, scalar, array, vectorOf, sameSort}
 use Rattle.table.specs.Ranks.{applied, rankOf, fieldsOf, writes}
-use Rattle.table.specs.Faults.{fields, storing, placedAs, typedAs}
+use Rattle.table.specs.Faults.{fields, isStore, placedAs, typedAs}
 use Rattle.table.specs.WellFormed.{WellFormed}
 use Rattle.table.proofs.FoldLaws.{fold-below}
 use Rattle.table.proofs.SoundTerms.{past-end}
 use Rattle.setting.specs.Interpretation.{Value, Interpretation}
-use Rattle.evaluate.specs.Values.{scalarValue, arrayValue, operated, valueBy, valueIn, valueOf, values, valueAt}
+use Rattle.evaluate.specs.Values.{scalarValue, arrayValue, operated, valueBy, valueIn, valueFrom, values, valueAt}
 use Rattle.evaluate.proofs.Folds.{value-below}
 use Rattle.table.proofs.OperandSorts.{isKnown, same-sort, boolean-scalar, same-scalar, vector-of-scalar, three, four, unary-scalar, binary-scalars, no-store, op-at, typing, two-placed, three-placed, rank-below}
 use Rattle.judge.specs.Conditions.{Condition, plain, storeFree, conditionBy, conditionIn, conditions, conditionAt, ownMarks}
@@ -82,7 +82,7 @@ placed-at limit f ff k = go (decLt k (terms f))
     go (no b) = let e : terms f ≤ k = omega arith in rw (past-end limit f ff k 0 e, past-end limit f ff k 4 e, past-end limit f ff k 5 e)
 
 -- a term's value is what its operator makes of its operands' values
-value-law : (limit : ℕ) (f : List ℕ) (I : Interpretation) → WellFormed limit f → (k : ℕ) → valueAt f I k ≡ valueOf f I (valueAt f I) (termAt f k)
+value-law : (limit : ℕ) (f : List ℕ) (I : Interpretation) → WellFormed limit f → (k : ℕ) → valueAt f I k ≡ valueFrom f I (valueAt f I) (termAt f k)
 value-law limit f I ff k =
     let t = termAt f k in
     same-value I (valueIn (values f I k)) (valueAt f I) (sortAt f (t .p) .n) (sortAt f (t .p) .n) k t (value-below f I k) (λ _. refl) (opOf (t .op)) (placed-at limit f ff k)
@@ -94,7 +94,7 @@ module _ (w f : List ℕ) (I : Interpretation) (wf : WellFormed 512 w) (l : Layo
   keeps-within zero k b c = absurd (not-suc-le-zero b)
   keeps-within (suc n) k b c =
       let t = termAt w k in
-      ap (λ (x : Term). valueOf f I (valueIn (values f I k)) x) (l .old k c)
+      ap (λ (x : Term). valueFrom f I (valueIn (values f I k)) x) (l .old k c)
       ∙ same-value I (valueIn (values f I k)) (valueIn (values w I k)) (sortAt f (t .p) .n) (sortAt w (t .p) .n) k t
       (λ i m. value-below f I k i m ∙ keeps-within n i (omega arith) (omega arith) ∙ sym (value-below w I k i m))
       (λ m. ap (λ (x : Term). x .sort .n) (l .old (t .p) (omega arith)))
@@ -110,7 +110,7 @@ record Agree (f : List ℕ) (val : ℕ → Value) (stores : Bool) (plan : Plan) 
   own : stores ≡ false → val (plan .condition) .num ≡ bit (c .free)
   read : (s : ℕ) {j cj x : ℕ} {d : Bool} → Known val j cj x d → Has f s (plan .readGroup s j cj) → val (lastOf s (plan .readGroup s j cj)) .num ≡ bit (c .readFree x d)
 
-module _ (f : List ℕ) (I : Interpretation) (val : ℕ → Value) (law : (k : ℕ) → val k ≡ valueOf f I val (termAt f k)) where
+module _ (f : List ℕ) (I : Interpretation) (val : ℕ → Value) (law : (k : ℕ) → val k ≡ valueFrom f I val (termAt f k)) where
   -- no store: a read of it asks for its condition and the index's
   plain-agrees : {stores : Bool} {group : List Term} {n : ℕ} {x : Bool} → val n .num ≡ bit x
       → Agree f val stores (record { group = group; condition = n; readGroup = λ s j cj. variableGroup n cj }) (plain x)
@@ -205,18 +205,18 @@ module _ (f : List ℕ) (I : Interpretation) (val : ℕ → Value) (law : (k : �
 
 module _ (w f : List ℕ) (I : Interpretation) (wf : WellFormed 512 w) (l : Layout w f) (ff : WellFormed 80000 f) where
   abbrev AgreeAt : ℕ → Type 0
-  AgreeAt k = Agree f (valueAt f I) (storing (termAt w k)) (planAt w ownMarks k) (conditionAt w ownMarks I k)
+  AgreeAt k = Agree f (valueAt f I) (isStore (termAt w k)) (planAt w ownMarks k) (conditionAt w ownMarks I k)
 
   -- what the lists of the first k terms say of term i
   abbrev AgreeIn : ℕ → ℕ → Type 0
-  AgreeIn k i = Agree f (valueAt f I) (storing (termAt w i)) (planIn (plans w ownMarks k) i) (conditionIn (conditions w ownMarks I k) i)
+  AgreeIn k i = Agree f (valueAt f I) (isStore (termAt w i)) (planIn (plans w ownMarks k) i) (conditionIn (conditions w ownMarks I k) i)
 
   agree-in : (k i : ℕ) → i < k → AgreeAt i → AgreeIn k i
   agree-in k i b h =
-      subst (λ (p : Plan). Agree f (valueAt f I) (storing (termAt w i)) p (conditionIn (conditions w ownMarks I k) i)) (sym (fold-below (λ ps j. planOf w ownMarks ps (termAt w j)) (taken 0) k i b))
-      (subst (λ (c : Condition). Agree f (valueAt f I) (storing (termAt w i)) (planAt w ownMarks i) c) (sym (condition-below w ownMarks I k i b)) h)
+      subst (λ (p : Plan). Agree f (valueAt f I) (isStore (termAt w i)) p (conditionIn (conditions w ownMarks I k) i)) (sym (fold-below (λ ps j. planOf w ownMarks ps (termAt w j)) (taken 0) k i b))
+      (subst (λ (c : Condition). Agree f (valueAt f I) (isStore (termAt w i)) (planAt w ownMarks i) c) (sym (condition-below w ownMarks I k i b)) h)
 
-  pub scalar-stores : (k : ℕ) → k < terms w → scalar (sortAt w k) ≡ true → storing (termAt w k) ≡ false
+  pub scalar-stores : (k : ℕ) → k < terms w → scalar (sortAt w k) ≡ true → isStore (termAt w k) ≡ false
   scalar-stores k b = let t = termAt w k in no-store (opOf (t .op)) (t .sort) (sortAt w (t .p)) (sortAt w (t .q)) (sortAt w (t .r)) (typing w k (wf .sound k b))
 
   -- one term, those before it being known to agree
@@ -225,7 +225,7 @@ module _ (w f : List ℕ) (I : Interpretation) (wf : WellFormed 512 w) (l : Layo
       let s = wf .sound k b in
       let law = value-law 80000 f I ff in
       agree-by f I (valueAt f I) law (terms w) (terms w + 1) (constant-num f I (valueAt f I) law (true-at w f l)) (constant-num f I (valueAt f I) law (false-at w f l))
-      (valueIn (values w I k)) (conditionIn (conditions w ownMarks I k)) (planIn (plans w ownMarks k)) (λ i. storing (termAt w i)) (sortAt w) k (next w (plans w ownMarks k)) (termAt w k)
+      (valueIn (values w I k)) (conditionIn (conditions w ownMarks I k)) (planIn (plans w ownMarks k)) (λ i. isStore (termAt w i)) (sortAt w) k (next w (plans w ownMarks k)) (termAt w k)
       (λ i m. keeps-values w f I wf l i (omega arith) ∙ sym (value-below w I k i m))
       (λ i m. agree-in k i m (before i m))
       (λ i m. scalar-stores i (omega arith))
@@ -237,7 +237,7 @@ module _ (w f : List ℕ) (I : Interpretation) (wf : WellFormed 512 w) (l : Layo
   agree-within (suc n) k b c = agree-step k c (λ i m. agree-within n i (omega arith) (omega arith))
 
   -- of every term that has a condition, the value at the condition's number is the condition
-  pub conditions-agree : (k : ℕ) → k < terms w → storing (termAt w k) ≡ false → valueAt f I (conditionNumber w k) .num ≡ bit (conditionAt w ownMarks I k .free)
+  pub conditions-agree : (k : ℕ) → k < terms w → isStore (termAt w k) ≡ false → valueAt f I (conditionNumber w k) .num ≡ bit (conditionAt w ownMarks I k .free)
   conditions-agree k b s = agree-within (suc k) k (omega arith) b .own s
 
   -- the last value is the conjunction of rule and condition

@@ -16,7 +16,7 @@ use Rattle.ops.proofs.Booleans.{and-parts}
 use Rattle.table.specs.declared.words.Sort.{Sort}
 use Rattle.table.specs.declared.words.Term.{Term}
 use Rattle.table.specs.Terms.{wordAt, termAt, boolean}
-use Rattle.table.specs.Faults.{fields, variable, storing, known, sorted, placedAs, typed, valuedAs, clash, chain}
+use Rattle.table.specs.Faults.{fields, isVariable, isStore, known, sorted, placedAs, typed, valuedAs, clash, chain}
 use Rattle.table.specs.WellFormed.{Sound}
 use Rattle.table.proofs.OperandSorts.{three}
 use Rattle.groups.specs.Added.{notT, andT, orT, equalT, choiceT, lessT, constantT, readT}
@@ -38,7 +38,7 @@ up {f} {k} i b = later (k + i) (omega arith) b
 
 -- a known op, no variable's and no store's
 abbrev plain : Term → Bool
-plain x = known x && not (variable x) && not (storing x)
+plain x = known x && not (isVariable x) && not (isStore x)
 
 -- what is asked of a term at k, which is no variable and no store
 pub record Good (f : List ℕ) (k : ℕ) (x : Term) : Type 0 where
@@ -52,9 +52,9 @@ pub record Good (f : List ℕ) (k : ℕ) (x : Term) : Type 0 where
 pub good-sound : (f : List ℕ) (k : ℕ) (x : Term) → termAt f k ≡ x → Good f k x → Sound f k
 unfolding clash chain
 good-sound f k x e g =
-    let parts = three (known x) (not (variable x)) (not (storing x)) (g .good-op) in
-    let no-variable : variable (termAt f k) ≡ false = ap variable e ∙ not-true (variable x) (parts .1) in
-    let no-store : storing (termAt f k) ≡ false = ap storing e ∙ not-true (storing x) (parts .2) in
+    let parts = three (known x) (not (isVariable x)) (not (isStore x)) (g .good-op) in
+    let no-variable : isVariable (termAt f k) ≡ false = ap isVariable e ∙ not-true (isVariable x) (parts .1) in
+    let no-store : isStore (termAt f k) ≡ false = ap isStore e ∙ not-true (isStore x) (parts .2) in
     record {
       is-known = ap known e ∙ parts .0;
       is-sorted = ap (λ (y : Term). sorted (y .sort)) e ∙ g .good-sort;

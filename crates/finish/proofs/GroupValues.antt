@@ -13,7 +13,7 @@ use Rattle.ops.specs.Condition.{absorbed, shifted, chosen}
 use Rattle.table.specs.declared.words.Term.{Term}
 use Rattle.table.specs.Terms.{termAt}
 use Rattle.setting.specs.Interpretation.{Value, Interpretation}
-use Rattle.evaluate.specs.Values.{valueBy, valueOf}
+use Rattle.evaluate.specs.Values.{valueBy, valueFrom}
 use Rattle.judge.proofs.Meaning.{holds-bit}
 use Rattle.groups.specs.Added.{notT, andT, orT, equalT, choiceT, lessT, constantT, readT}
 use Rattle.groups.specs.Groups.{strictGroup, andGroup, orGroup, impliesGroup, absorbingGroup, shiftGroup, choiceGroup, storeGroup}
@@ -36,9 +36,9 @@ pub record Known (val : ℕ → Value) (i ci x : ℕ) (d : Bool) : Type 0 where
   pub free : val ci .num ≡ bit d
 
 -- val: the values of a table f
-module _ (f : List ℕ) (I : Interpretation) (val : ℕ → Value) (law : (k : ℕ) → val k ≡ valueOf f I val (termAt f k)) where
-  num-of : (k : ℕ) (t : Term) → termAt f k ≡ t → val k .num ≡ valueOf f I val t .num
-  num-of k t e = ap (λ (x : Value). x .num) (law k) ∙ ap (λ (x : Term). valueOf f I val x .num) e
+module _ (f : List ℕ) (I : Interpretation) (val : ℕ → Value) (law : (k : ℕ) → val k ≡ valueFrom f I val (termAt f k)) where
+  num-of : (k : ℕ) (t : Term) → termAt f k ≡ t → val k .num ≡ valueFrom f I val t .num
+  num-of k t e = ap (λ (x : Value). x .num) (law k) ∙ ap (λ (x : Term). valueFrom f I val x .num) e
 
   -- One term
 

@@ -16,10 +16,9 @@ use Rattle.table.proofs.FoldLaws.{length-map-fold, map-fold-more}
 use Rattle.evaluate.proofs.Fronts.{front-more, front-length}
 use Rattle.judge.specs.Conditions.{ownMarks}
 use Rattle.groups.specs.declared.groups.Written.{Written}
-use Rattle.groups.specs.Added.{laidFrom, laid}
+use Rattle.groups.specs.Code.Writing.{placedFrom, placedAll, conditionNumbers, Numbered, written}
 use Rattle.groups.specs.Plans.{Plan, planOf, groups, next, plans, planAt}
 use Rattle.groups.specs.Sizes.{sizeOf, sizes}
-use Rattle.groups.specs.Code.Writing.{conditionNumbers, Numbered, written}
 use Rattle.groups.proofs.GroupSizes.{groups-more, groups-size, sizes-by-terms}
 use Rattle.groups.proofs.Rooms.{length-laid, laid-append}
 
@@ -87,11 +86,11 @@ pub record Writing (w begin : List ℕ) (n : ℕ) (room conditions : List ℕ) (
   pub size : length conditions ≡ 512
   pub numbers : take i conditions ≡ conditionNumbers w i
   pub next-is : next-one ≡ next w (plans w ownMarks i)
-  pub room-is : room ≡ laid begin (terms w + 2) (groups (plans w ownMarks i))
+  pub room-is : room ≡ placedAll begin (terms w + 2) (groups (plans w ownMarks i))
   pub last-is : 0 < i → condition ≡ planAt w ownMarks (pred i) .condition
 
 pub none-written : (w begin conditions : List ℕ) (n condition next-one : ℕ) → length conditions ≡ 512 → next-one ≡ terms w + 2 → Writing w begin n begin conditions condition next-one 0
-unfolding fold groups laidFrom
+unfolding fold groups placedFrom
 none-written w begin conditions n condition next-one size e =
     record { within = omega arith; size = size; numbers = refl; next-is = omega arith; room-is = refl; last-is = λ b. absurd (omega arith) }
 
@@ -122,7 +121,7 @@ module _ (w begin : List ℕ) (n : ℕ) (room conditions : List ℕ) (condition 
         let size : length (take i conditions) ≡ i = sym front-is in
         record { within = omega arith; is = h .numbers ∙ ap (conditionNumbers w) front-is }
 
-    pub one-written : (done : Written) (after : List ℕ) → done ≡ written w i → after ≡ laid room next-one (planAt w ownMarks i .group)
+    pub one-written : (done : Written) (after : List ℕ) → done ≡ written w i → after ≡ placedAll room next-one (planAt w ownMarks i .group)
         → Writing w begin n after (set conditions i (done .condition)) (done .condition) (done .next) (i + 1)
     one-written done after e wrote =
         let here : done .condition ≡ planAt w ownMarks i .condition = ap (λ (y : Written). y .condition) e in
@@ -138,9 +137,9 @@ module _ (w begin : List ℕ) (n : ℕ) (room conditions : List ℕ) (condition 
           next-is = ap (λ (y : Written). y .next) e ∙ ap (λ (k : ℕ). next w (plans w ownMarks k)) up;
           room-is =
               wrote
-              ∙ ap₂ (λ (l : List ℕ) (k : ℕ). laid l k (planAt w ownMarks i .group)) (h .room-is) (h .next-is)
+              ∙ ap₂ (λ (l : List ℕ) (k : ℕ). placedAll l k (planAt w ownMarks i .group)) (h .room-is) (h .next-is)
               ∙ sym (laid-append (groups (plans w ownMarks i)) (planAt w ownMarks i .group) begin (terms w + 2))
-              ∙ ap (laid begin (terms w + 2)) (sym (groups-more w ownMarks i) ∙ ap (λ (k : ℕ). groups (plans w ownMarks k)) up);
+              ∙ ap (placedAll begin (terms w + 2)) (sym (groups-more w ownMarks i) ∙ ap (λ (k : ℕ). groups (plans w ownMarks k)) up);
           last-is = λ b. here ∙ ap (λ (k : ℕ). planAt w ownMarks k .condition) (ap pred up);
         }
 
@@ -156,5 +155,5 @@ module _ (w begin : List ℕ) (n : ℕ) (room conditions : List ℕ) (condition 
         let m : next-one ≡ next w (plans w ownMarks (suc (pred (terms w)))) = h .next-is ∙ ap (λ (k : ℕ). next w (plans w ownMarks k)) (at-end ∙ last-one) in
         λ k. record { condition = c k; next = m k }
 
-    pub room-written : room ≡ laid begin (terms w + 2) (groups (plans w ownMarks (terms w)))
-    room-written = h .room-is ∙ ap (λ (k : ℕ). laid begin (terms w + 2) (groups (plans w ownMarks k))) at-end
+    pub room-written : room ≡ placedAll begin (terms w + 2) (groups (plans w ownMarks (terms w)))
+    room-written = h .room-is ∙ ap (λ (k : ℕ). placedAll begin (terms w + 2) (groups (plans w ownMarks k))) at-end

@@ -15,11 +15,11 @@ use Rattle.ops.specs.Meaning.{bit, holds}
 use Rattle.ops.specs.Fits.{fits}
 use Rattle.ops.proofs.Booleans.{and-parts}
 use Rattle.table.specs.declared.words.Term.{Term}
-use Rattle.table.specs.declared.Admission.{Admission}
-use Rattle.table.specs.declared.Admission.the-variants.{Admitted}
+use Rattle.table.specs.declared.Acceptance.{Acceptance}
+use Rattle.table.specs.declared.Acceptance.the-variants.{Accepted}
 use Rattle.table.specs.Terms.{words, terms, termAt, sortAt}
-use Rattle.table.specs.Faults.{fields, storing, placedAs}
-use Rattle.table.specs.Admission.{admissionWithin, admission}
+use Rattle.table.specs.Faults.{fields, isStore, placedAs}
+use Rattle.table.specs.Admission.{andThen, admissionWithin, admission}
 use Rattle.table.specs.WellFormed.{WellFormed}
 use Rattle.table.proofs.Admitted.{admission-sound, admission-complete}
 use Rattle.setting.specs.Cells.{look}
@@ -28,7 +28,7 @@ use Rattle.setting.specs.Interpretation.{Value, Interpretation, interpret}
 use Rattle.evaluate.specs.declared.Evaluation.{Evaluation}
 use Rattle.evaluate.specs.declared.Evaluation.the-variants.{Evaluated, NotEvaluated}
 use Rattle.evaluate.specs.Values.{valueAt, numbers}
-use Rattle.evaluate.specs.Evaluation.{evaluates, andThen, afford, ready}
+use Rattle.evaluate.specs.Evaluation.{evaluates, afford, ready}
 use Rattle.evaluate.proofs.Answers.{passed}
 use Rattle.evaluate.proofs.Fitting.{checked-values-fit}
 use Rattle.evaluate.proofs.Folds.{length-numbers, number-in, value-below}
@@ -42,7 +42,7 @@ use Rattle.finish.specs.declared.Finishing.the-variants.{Finished}
 use Rattle.groups.specs.Added.{andT}
 use Rattle.groups.specs.Plans.{next, plans}
 use Rattle.finish.specs.Finished.{conditionNumber, added, finished, extent, roomAfter}
-use Rattle.finish.specs.Laws.{FinishedAdmitted, KeepsValues, ConditionsAgree, LastIsConjunction, SettingsAgree, SameAnswers, Faithful, Promise}
+use Rattle.finish.specs.Laws.{FinishedAdmitted, KeepsValues, ConditionsAgree, LastIsConjunction, SettingsAgree, SameAnswers, Faithful, FinishingPromise}
 use Rattle.finish.proofs.Layouts.{Layout, count-is, last-at, finished-layout}
 use Rattle.finish.proofs.AddedSizes.{added-few}
 use Rattle.finish.proofs.Settings.{check-same}
@@ -127,7 +127,7 @@ module _ (w : List ℕ) (F : WellFormed 512 w) where
       (subst (λ (x : Term). placedAs (fields x) (pred (terms f)) x ≡ true) (ap (termAt f) last-is ∙ last-at w f layout)
       (finished-admitted w F .sound (pred (terms f)) last-in .is-placed))
 
-  module _ (values cells : List ℕ) (checked : check w values cells ≡ Admitted) where
+  module _ (values cells : List ℕ) (checked : check w values cells ≡ Accepted) where
     abbrev I : Interpretation
     I = interpret values (look cells)
 
@@ -143,7 +143,7 @@ module _ (w : List ℕ) (F : WellFormed 512 w) where
     same-answers rest v r c =
         let inside = last-in in
         let below = below-last in
-        let no-store : storing (termAt w rule) ≡ false = scalar-stores w f I F layout (finished-admitted w F) rule rule-in (boolean-scalar (sortAt w rule) (F .rule)) in
+        let no-store : isStore (termAt w rule) ≡ false = scalar-stores w f I F layout (finished-admitted w F) rule rule-in (boolean-scalar (sortAt w rule) (F .rule)) in
         record {
           rule = number-read f I rest rule (omega (arith, inside, below .0)) ∙ ap (λ (x : Value). x .num) (values-kept w I F rule rule-in) ∙ rule-bit ∙ ap bit (sym r);
           condition = number-read f I rest (conditionNumber w rule) (omega (arith, inside, below .1)) ∙ conditions-are w I F rule rule-in no-store ∙ ap bit (sym c);
@@ -156,12 +156,12 @@ module _ (w : List ℕ) (F : WellFormed 512 w) where
 pub faithful : (w : List ℕ) → WellFormed 512 w → Faithful w (finished w) (extent w)
 faithful w F =
     let f = finished w in
-    let admitted : admissionWithin 80000 f ≡ Admitted = admission-complete 80000 f (finished-admitted w F) in
+    let admitted : admissionWithin 80000 f ≡ Accepted = admission-complete 80000 f (finished-admitted w F) in
     record {
       few = added-few w F;
       count = finished-layout w F .count;
       admitted = admitted;
-      evaluated = λ values cells allowance room. ap₂ (λ (a b : Admission). andThen a (andThen b (afford f 1 allowance room))) admitted (settings-agree w values cells F);
+      evaluated = λ values cells allowance room. ap₂ (λ (a b : Acceptance). andThen NotEvaluated a (andThen NotEvaluated b (afford f 1 allowance room))) admitted (settings-agree w values cells F);
       agrees = λ values cells allowance room v h allowance′ work s _.
           let I = interpret values (look cells) in
           let told = subst (Says (ready 512 w values cells 2 allowance room) (ruleIn w I) (ruleCondition w ownMarks I)) h (says (ready 512 w values cells 2 allowance room) (ruleIn w I) (ruleCondition w ownMarks I)) in
@@ -169,7 +169,7 @@ faithful w F =
     }
 
 -- for the code: of what finishing left in its room
-pub promise : (w room : List ℕ) → admission w ≡ Admitted → Promise w (roomAfter (Finished (extent w)) w room) (Finished (extent w))
+pub promise : (w room : List ℕ) → admission w ≡ Accepted → FinishingPromise w (roomAfter (Finished (extent w)) w room) (Finished (extent w))
 promise w room h =
     let F = admission-sound 512 w h in
     let f = finished w in

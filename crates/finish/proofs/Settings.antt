@@ -11,10 +11,10 @@ use lib.ListN.{length}
 use Rattle.ops.specs.Fits.{fits}
 use Rattle.table.specs.declared.words.Sort.{Sort}
 use Rattle.table.specs.declared.words.Term.{Term}
-use Rattle.table.specs.declared.Admission.{Admission}
-use Rattle.table.specs.declared.Admission.the-variants.{Admitted}
+use Rattle.table.specs.declared.Acceptance.{Acceptance}
+use Rattle.table.specs.declared.Acceptance.the-variants.{Accepted}
 use Rattle.table.specs.Terms.{terms, termAt, array}
-use Rattle.table.specs.Faults.{variable, refuse}
+use Rattle.table.specs.Faults.{isVariable, refuseUnless}
 use Rattle.table.specs.Admission.{refused, refusedBy, scan}
 use Rattle.table.specs.WellFormed.{WellFormed}
 use Rattle.setting.specs.declared.cells.Cell.{Cell}
@@ -27,7 +27,7 @@ use Rattle.finish.proofs.AddedKinds.{no-inputs}
 
 -- A scan that finds no fault past the first n is that of the first n
 
-module _ (faults faults′ : ℕ → ℕ) (rest : Admission) where
+module _ (faults faults′ : ℕ → ℕ) (rest : Acceptance) where
   scan-none : (left at : ℕ) → ((k : ℕ) → at ≤ k → k < at + left → faults k ≡ 0) → scan faults left at rest ≡ rest
   unfolding scan
   scan-none zero at h = refl
@@ -43,7 +43,7 @@ module _ (faults faults′ : ℕ → ℕ) (rest : Admission) where
 
 -- What is no variable is refused nothing and has no slot
 
-no-variable-fault : (values : List ℕ) (x : Term) → variable x ≡ false → variableFault values x ≡ 0
+no-variable-fault : (values : List ℕ) (x : Term) → isVariable x ≡ false → variableFault values x ≡ 0
 no-variable-fault values x v = rw v
 
 entry-within : (w : List ℕ) (slot k : ℕ) → arrayEntry w k slot ≤ k
@@ -56,14 +56,14 @@ entry-within w slot (suc k) = go (arrayVariable (termAt w k) && eqb (termAt w k 
     go false before = omega arith
 
 module _ (w f : List ℕ) (l : Layout w f) where
-  added-no-variable : (k : ℕ) → terms w ≤ k → k < terms f → variable (termAt f k) ≡ false
+  added-no-variable : (k : ℕ) → terms w ≤ k → k < terms f → isVariable (termAt f k) ≡ false
   added-no-variable k b c =
       let here : k ≡ terms w + (k - terms w) = omega arith in
       let count : terms f ≡ terms w + length (added w) = l .count in
       let inside : k - terms w < length (added w) = omega arith in
-      ap (λ (i : ℕ). variable (termAt f i)) here ∙ ap variable (l .has (k - terms w) inside) ∙ no-inputs w (k - terms w) inside .0
+      ap (λ (i : ℕ). isVariable (termAt f i)) here ∙ ap isVariable (l .has (k - terms w) inside) ∙ no-inputs w (k - terms w) inside .0
 
-  variables-same : (values : List ℕ) (rest : Admission) → scan (λ k. variableFault values (termAt f k)) (terms f) 0 rest ≡ scan (λ k. variableFault values (termAt w k)) (terms w) 0 rest
+  variables-same : (values : List ℕ) (rest : Acceptance) → scan (λ k. variableFault values (termAt f k)) (terms f) 0 rest ≡ scan (λ k. variableFault values (termAt w k)) (terms w) 0 rest
   variables-same values rest =
       let faults : ℕ → ℕ = λ k. variableFault values (termAt f k) in
       let count : terms f ≡ terms w + length (added w) = l .count in
@@ -98,12 +98,12 @@ module _ (w f : List ℕ) (l : Layout w f) where
       ∙ sort-same (arrayEntry w (terms w) slot) (entry-within w slot (terms w))
 
   cells-same : (c : Cell) → cellFault f c ≡ cellFault w c
-  cells-same c = ap (λ (s : Sort). refuse 14 (array s) (refuse 15 (fits (s .m) (c .index) && fits (s .n) (c .value)) 0)) (slot-same (c .slot))
+  cells-same c = ap (λ (s : Sort). refuseUnless 14 (array s) (refuseUnless 15 (fits (s .m) (c .index) && fits (s .n) (c .value)) 0)) (slot-same (c .slot))
 
 -- variables as those of the table, cells by the sorts of its slots
 pub check-same : (w f values cells : List ℕ) → WellFormed 512 w → Layout w f → check f values cells ≡ check w values cells
 unfolding check
 check-same w f values cells wf l =
     ap (cond (not (eqb (length cells % 3) 0)) (refused 11 0))
-    (variables-same w f l values (scan (λ k. cellFault f (cellAt cells k)) (cellCount cells) 0 Admitted)
-    ∙ λ i. scan (λ k. variableFault values (termAt w k)) (terms w) 0 (scan (λ k. cells-same w f l (cellAt cells k) i) (cellCount cells) 0 Admitted))
+    (variables-same w f l values (scan (λ k. cellFault f (cellAt cells k)) (cellCount cells) 0 Accepted)
+    ∙ λ i. scan (λ k. variableFault values (termAt w k)) (terms w) 0 (scan (λ k. cells-same w f l (cellAt cells k) i) (cellCount cells) 0 Accepted))

@@ -6,12 +6,11 @@ use mathlib.Core.List.{List, [], _∷_}
 use Prim.Native.Nat.{ℕ, pred}
 use lib.Dec.{eqb}
 use lib.ListN.{getD}
-use Rattle.table.specs.Bench.{term, ruleG, ruleH, every}
-use Rattle.table.specs.Folds.{fold}
+use Rattle.table.specs.Bench.{term, ruleG, ruleH}
+use Rattle.table.specs.Folds.{every, fold, anyBelow}
 use Rattle.table.specs.Terms.{terms, wordAt}
-use Rattle.table.specs.Faults.{typed, anyBelow, clash, chain, faultIf, fault}
-use Rattle.table.specs.Admission.{scan, admissionWithin, admission}
-use Rattle.evaluate.specs.Evaluation.{admits}
+use Rattle.table.specs.Faults.{typed, clash, chain, faultIf, fault}
+use Rattle.table.specs.Admission.{scan, admissionWithin, admission, accepts}
 use Rattle.groups.specs.Added.{flat}
 use Rattle.groups.specs.Plans.{planBy, groups}
 use Rattle.finish.specs.Finished.{finished, extent}
@@ -30,7 +29,7 @@ ends x j = eqb (wordAt (finished (x .table)) (pred (x .count)) j) (getD (x .last
 -- a row is right: its table is admitted, and finished it is as the row says
 pub right : Row → Bool
 right x =
-    admits (admission (x .table))
+    accepts (admission (x .table))
     && eqb (terms (finished (x .table))) (x .count)
     && eqb (extent (x .table) .condition) (x .condition)
     && ends x 0 && ends x 1 && ends x 2 && ends x 3 && ends x 4 && ends x 5

@@ -6,10 +6,10 @@ use Prim.Native.Nat.{ℕ, pred, _*_}
 use lib.Dec.{ltb}
 use lib.ListN.{length, drop}
 use Rattle.table.specs.declared.words.Term.{Term}
-use Rattle.table.specs.declared.Admission.{Admission}
-use Rattle.table.specs.declared.Admission.the-variants.{Admitted, Refused}
+use Rattle.table.specs.declared.Acceptance.{Acceptance}
+use Rattle.table.specs.declared.Acceptance.the-variants.{Accepted, Refused}
 use Rattle.table.specs.Terms.{words, terms}
-use Rattle.table.specs.Admission.{admission}
+use Rattle.table.specs.Admission.{andThen, admission}
 use Rattle.judge.specs.Conditions.{ownMarks}
 use Rattle.finish.specs.declared.Extent.{Extent}
 use Rattle.finish.specs.declared.Finishing.{Finishing}
@@ -34,11 +34,6 @@ finished w = w ++ flat (added w)
 abbrev pub notFinished : ℕ → ℕ → Finishing
 notFinished number place = NotFinished (record { number = number; place = place })
 
--- a refusal stands; else the rest
-abbrev pub andThen : Admission → Finishing → Finishing
-andThen Admitted rest = rest
-andThen (Refused r) rest = NotFinished r
-
 -- the count of terms, the number of C(rule), the number of the last term
 abbrev pub extent : List ℕ → Extent
 extent w = record { terms = terms (finished w); condition = conditionNumber w (pred (terms w)); last = pred (terms (finished w)) }
@@ -46,7 +41,7 @@ extent w = record { terms = terms (finished w); condition = conditionNumber w (p
 -- 1 to 10; then 21 the finished room holds under six numbers a term (place: terms needed)
 abbrev pub finishing : List ℕ → ℕ → Finishing
 finishing w room =
-    andThen (admission w)
+    andThen NotFinished (admission w)
     (cond (ltb room (terms (finished w) * words)) (notFinished 21 (terms (finished w)))
     (Finished (extent w)))
 

@@ -7,16 +7,16 @@ use Prim.Native.Nat.{ℕ, pred, _+_, _*_, _≤_, _<_}
 use lib.Dec.{eqb}
 use lib.ListN.{length, getD, take}
 use Rattle.ops.specs.Meaning.{bit}
-use Rattle.table.specs.declared.Admission.the-variants.{Admitted}
+use Rattle.table.specs.declared.Acceptance.the-variants.{Accepted}
 use Rattle.table.specs.Terms.{words, terms, termAt}
-use Rattle.table.specs.Faults.{storing}
-use Rattle.table.specs.Admission.{admissionWithin}
+use Rattle.table.specs.Faults.{isStore}
+use Rattle.table.specs.Admission.{andThen, admissionWithin}
 use Rattle.table.specs.Refusals.{between}
 use Rattle.table.specs.WellFormed.{WellFormed}
 use Rattle.setting.specs.Check.{check}
 use Rattle.setting.specs.Interpretation.{Interpretation}
 use Rattle.evaluate.specs.declared.Spent.{Spent}
-use Rattle.evaluate.specs.declared.Evaluation.the-variants.{Evaluated}
+use Rattle.evaluate.specs.declared.Evaluation.the-variants.{Evaluated, NotEvaluated}
 use Rattle.evaluate.specs.Steps.{steps}
 use Rattle.evaluate.specs.Values.{valueAt}
 use Rattle.evaluate.specs.Evaluation as evaluating
@@ -48,7 +48,7 @@ KeepsValues = (w : List ℕ) (I : Interpretation) → WellFormed 512 w → (k : 
 
 abbrev pub ConditionsAgree : Type 0
 ConditionsAgree =
-    (w : List ℕ) (I : Interpretation) → WellFormed 512 w → (k : ℕ) → k < terms w → storing (termAt w k) ≡ false
+    (w : List ℕ) (I : Interpretation) → WellFormed 512 w → (k : ℕ) → k < terms w → isStore (termAt w k) ≡ false
     → valueAt (finished w) I (conditionNumber w k) .num ≡ bit (conditionAt w ownMarks I k .free)
 
 abbrev pub LastIsConjunction : Type 0
@@ -71,18 +71,18 @@ pub record SameAnswers (w : List ℕ) (e : Extent) (v : Verdict) (room : List �
 pub record Faithful (w f : List ℕ) (e : Extent) : Type 0 where
   pub few : Few w (length (added w))
   pub count : e .terms ≡ terms w + length (added w)
-  pub admitted : admissionWithin 80000 f ≡ Admitted
+  pub admitted : admissionWithin 80000 f ≡ Accepted
   -- none but the refusals of the setting, 22 and 23
   pub evaluated : (values cells : List ℕ) (allowance room : ℕ)
-      → evaluating.evaluation f values cells allowance room ≡ evaluating.andThen (check w values cells) (evaluating.afford f 1 allowance room)
+      → evaluating.evaluation f values cells allowance room ≡ andThen NotEvaluated (check w values cells) (evaluating.afford f 1 allowance room)
   pub agrees : (values cells : List ℕ) (allowance room : ℕ) (v : Verdict) → judgement w values cells allowance room ≡ Judged v
       → (allowance′ : ℕ) (work : List ℕ) (s : Spent) → evaluating.evaluation f values cells allowance′ (length work) ≡ Evaluated s
       → SameAnswers w e v (evaluating.roomAfter (Evaluated s) f values cells work)
 
 -- what finishing promises besides its answer: nothing for a refusal. room is what it left
-abbrev pub Promise : List ℕ → List ℕ → Finishing → Type 0
-Promise w room (Finished e) = Faithful w (take (e .terms * words) room) e
-Promise w room (NotFinished r) = Unit {0}
+abbrev pub FinishingPromise : List ℕ → List ℕ → Finishing → Type 0
+FinishingPromise w room (Finished e) = Faithful w (take (e .terms * words) room) e
+FinishingPromise w room (NotFinished r) = Unit {0}
 
 -- Finish knows 1 to 10 and 21: none is given on other grounds. Of a finished table nothing is said.
 abbrev pub finishNumbers : ℕ → Bool

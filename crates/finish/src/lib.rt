@@ -2,13 +2,15 @@
 mod room; // writing the finished table
 mod sizes; // how many terms it has
 
-use table::Admission;
+use table::Acceptance;
 use table::Refusal;
 use table::WORDS;
 ghost use mathlib.Core.Path.{_≡_};
 ghost use lib.ListN.{length};
-ghost use Rattle.finish.specs.Finished.{andThen, finishing, roomAfter};
-ghost use Rattle.finish.specs.Laws.{Promise};
+ghost use Rattle.table.specs.Admission.{andThen};
+ghost use Rattle.finish.specs.declared.Finishing.the-variants.{NotFinished};
+ghost use Rattle.finish.specs.Finished.{finishing, roomAfter};
+ghost use Rattle.finish.specs.Laws.{FinishingPromise};
 
 // The count of terms, the number of C(rule), the number of the last term.
 pub struct Extent {
@@ -23,12 +25,12 @@ pub enum Finishing {
 }
 
 // A refusal stands; else the rest.
-fn and_then(a: Admission, rest: Finishing) -> Finishing
-    ensures { λ r. ⌜ r ≡ andThen a rest ⌝ }
+fn and_then(a: Acceptance, rest: Finishing) -> Finishing
+    ensures { λ r. ⌜ r ≡ andThen NotFinished a rest ⌝ }
 {
     match a {
-        Admission::Admitted => rest,
-        Admission::Refused(refusal) => Finishing::NotFinished(refusal),
+        Acceptance::Accepted => rest,
+        Acceptance::Refused(refusal) => Finishing::NotFinished(refusal),
     }
 }
 
@@ -40,7 +42,7 @@ fn and_then(a: Admission, rest: Finishing) -> Finishing
 pub fn finish(table: &[u32], room: &mut [u32]) -> Finishing
     ensures { λ r. ⌜ r ≡ finishing (now (table .entry)) (length (now (room .entry))) ⌝ }
     ensures { λ r. ⌜ now (room .exit) ≡ roomAfter r (now (table .entry)) (now (room .entry)) ⌝ }
-    ensures { λ r. ⌜ Promise (now (table .entry)) (now (room .exit)) r ⌝ }
+    ensures { λ r. ⌜ FinishingPromise (now (table .entry)) (now (room .exit)) r ⌝ }
 {
     let nothing = Finishing::Finished(Extent {
         terms: 0,
@@ -48,7 +50,7 @@ pub fn finish(table: &[u32], room: &mut [u32]) -> Finishing
         last: 0,
     });
     let admitted = admission::admit(table);
-    if !evaluate::admits(admitted) {
+    if !table::accepts(admitted) {
         return and_then(admitted, nothing);
     }
     let terms = sizes::needed(table);

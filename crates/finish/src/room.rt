@@ -6,9 +6,8 @@ ghost use lib.ListN.{length, drop};
 ghost use Rattle.table.specs.Terms.{words, terms};
 ghost use Rattle.table.specs.WellFormed.{WellFormed};
 ghost use Rattle.judge.specs.Conditions.{ownMarks};
-ghost use Rattle.groups.specs.Added.{laid};
+ghost use Rattle.groups.specs.Code.Writing.{placedAll, written};
 ghost use Rattle.groups.specs.Plans.{groups, plans};
-ghost use Rattle.groups.specs.Code.Writing.{written};
 ghost use Rattle.finish.specs.Finished.{conditionNumber, finished};
 use groups::Written;
 use groups::put_and;
@@ -30,7 +29,7 @@ fn write_groups(table: &[u32], room: &mut [u32]) -> Written
     requires { ⌜ WellFormed 512 (now table) ⌝ }
     ensures { λ r. ⌜ r ≡ written (now (table .entry)) (pred (terms (now (table .entry)))) ⌝ }
     ensures { λ r. ⌜ now (room .exit)
-        ≡ laid (now (room .entry)) (terms (now (table .entry)) + 2)
+        ≡ placedAll (now (room .entry)) (terms (now (table .entry)) + 2)
         (groups (plans (now (table .entry)) ownMarks (terms (now (table .entry))))) ⌝ }
 {
     let terms = table::count(table);

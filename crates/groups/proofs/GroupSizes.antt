@@ -18,7 +18,7 @@ use Rattle.table.specs.declared.words.Term.{Term}
 use Rattle.table.specs.Folds.{fold}
 use Rattle.table.specs.Terms.{terms, termAt}
 use Rattle.table.specs.Ranks.{rankOf, fieldsOf, reads, writes}
-use Rattle.table.specs.Faults.{storing, reading, placedAs, chain, size}
+use Rattle.table.specs.Faults.{isStore, isRead, placedAs, chain, size}
 use Rattle.table.specs.WellFormed.{WellFormed}
 use Rattle.table.proofs.FoldLaws.{fold-below}
 use Rattle.table.proofs.SoundTerms.{past-end}
@@ -34,39 +34,39 @@ use Rattle.groups.specs.Sizes.{sizeBy, sizeOf, sizes}
 -- The stores of a chain
 
 module _ (w : List ℕ) where
-  chain-on : (left k : ℕ) → storing (termAt w k) ≡ true → chain (suc left) w k ≡ suc (chain left w (termAt w k .p))
+  chain-on : (left k : ℕ) → isStore (termAt w k) ≡ true → chain (suc left) w k ≡ suc (chain left w (termAt w k .p))
   unfolding chain
   chain-on left k s = rw s
 
-  chain-stop : (left k : ℕ) → storing (termAt w k) ≡ false → chain (suc left) w k ≡ 0
+  chain-stop : (left k : ℕ) → isStore (termAt w k) ≡ false → chain (suc left) w k ≡ 0
   unfolding chain
   chain-stop left k s = rw s
 
   -- a count below its fuel is the same with one more
   chain-enough : (left k : ℕ) → chain left w k < left → chain (suc left) w k ≡ chain left w k
   chain-enough zero k b = absurd (not-suc-le-zero b)
-  chain-enough (suc left) k b = go (storing (termAt w k)) refl (chain-enough left (termAt w k .p))
+  chain-enough (suc left) k b = go (isStore (termAt w k)) refl (chain-enough left (termAt w k .p))
     where
-      go : (z : Bool) → storing (termAt w k) ≡ z → (chain left w (termAt w k .p) < left → chain (suc left) w (termAt w k .p) ≡ chain left w (termAt w k .p))
+      go : (z : Bool) → isStore (termAt w k) ≡ z → (chain left w (termAt w k .p) < left → chain (suc left) w (termAt w k .p) ≡ chain left w (termAt w k .p))
           → chain (suc (suc left)) w k ≡ chain (suc left) w k
       go true s before = chain-on (suc left) k s ∙ ap suc (before (omega (arith, chain-on left k s))) ∙ sym (chain-on left k s)
       go false s before = chain-stop (suc left) k s ∙ sym (chain-stop left k s)
 
 -- a store's count is one more than that of the array beneath
-pub chain-store : (w : List ℕ) (limit : ℕ) → WellFormed limit w → (k : ℕ) → k < terms w → storing (termAt w k) ≡ true → size w k ≡ suc (size w (termAt w k .p))
+pub chain-store : (w : List ℕ) (limit : ℕ) → WellFormed limit w → (k : ℕ) → k < terms w → isStore (termAt w k) ≡ true → size w k ≡ suc (size w (termAt w k .p))
 chain-store w limit f k b s =
     let short : size w k ≤ 16 = f .sound k b .short in
     chain-on w 16 k s ∙ ap suc (sym (chain-enough w 16 (termAt w k .p) (omega (arith, chain-on w 16 k s))))
 
 -- any other term's is 0
-pub chain-end : (w : List ℕ) (k : ℕ) → storing (termAt w k) ≡ false → size w k ≡ 0
+pub chain-end : (w : List ℕ) (k : ℕ) → isStore (termAt w k) ≡ false → size w k ≡ 0
 chain-end w k s = chain-stop w 16 k s
 
 module _ (w : List ℕ) (limit : ℕ) (f : WellFormed limit w) (k : ℕ) where
-  chain-is : k < terms w → size w k ≡ cond (storing (termAt w k)) (suc (size w (termAt w k .p))) 0
-  chain-is b = go (storing (termAt w k)) refl
+  chain-is : k < terms w → size w k ≡ cond (isStore (termAt w k)) (suc (size w (termAt w k .p))) 0
+  chain-is b = go (isStore (termAt w k)) refl
     where
-      go : (z : Bool) → storing (termAt w k) ≡ z → size w k ≡ cond z (suc (size w (termAt w k .p))) 0
+      go : (z : Bool) → isStore (termAt w k) ≡ z → size w k ≡ cond z (suc (size w (termAt w k .p))) 0
       go true s = chain-store w limit f k b s
       go false s = chain-end w k s
 
@@ -207,7 +207,7 @@ sizes-by-steps w f (suc k) b =
     let x = termAt w k in
     let c = size w (x .p) in
     let before : sizes w k ≤ 8 * k + 9 * steps w k = sizes-by-steps w f k (omega arith) in
-    let here : sizeOf w x ≤ 8 + 9 * stepsOf w x = le-trans (size-most (opOf (x .op)) c) (most-by-steps (reading x) c) in
+    let here : sizeOf w x ≤ 8 + 9 * stepsOf w x = le-trans (size-most (opOf (x .op)) c) (most-by-steps (isRead x) c) in
     omega arith
 
 pub sizes-by-terms : (w : List ℕ) → WellFormed 512 w → (k : ℕ) → k ≤ terms w → sizes w k ≤ 145 * k
@@ -217,5 +217,5 @@ sizes-by-terms w f (suc k) b =
     let x = termAt w k in
     let c = size w (x .p) in
     let before : sizes w k ≤ 145 * k = sizes-by-terms w f k (omega arith) in
-    let here : sizeOf w x ≤ 145 = le-trans (size-most (opOf (x .op)) c) (most-by-terms (reading x) c (chain-most w 512 f (x .p))) in
+    let here : sizeOf w x ≤ 145 = le-trans (size-most (opOf (x .op)) c) (most-by-terms (isRead x) c (chain-most w 512 f (x .p))) in
     omega arith

@@ -15,18 +15,17 @@ use Rattle.ops.proofs.Booleans.{never}
 use Rattle.table.specs.declared.words.Term.{Term}
 use Rattle.table.specs.Terms.{terms, termAt}
 use Rattle.table.specs.Ranks.{rankOf, fieldsOf, writes}
-use Rattle.table.specs.Faults.{storing, placedAs}
+use Rattle.table.specs.Faults.{isStore, placedAs}
 use Rattle.table.specs.WellFormed.{WellFormed}
 use Rattle.table.proofs.FoldLaws.{map-fold-in}
 use Rattle.table.proofs.OperandSorts.{isKnown, op-at, three-placed}
 use Rattle.judge.specs.Conditions.{ownMarks}
 use Rattle.groups.specs.declared.groups.Written.{Written}
-use Rattle.groups.specs.Added.{laid}
+use Rattle.groups.specs.Code.Writing.{placedAll, conditionNumbers, Numbered, after}
 use Rattle.groups.specs.FunctionGroups.{FunctionGroup, functionGroup, groupKind, kindOf}
 use Rattle.groups.specs.FunctionGroups.FunctionGroup.{unary, strict, conjunction, disjunction, implication, byZero, byOnes, shift}
 use Rattle.groups.specs.Groups.{variableGroup, storeGroup}
 use Rattle.groups.specs.Plans.{Plan, lastOf, taken, planBy, planIn, planOf, next, plans, planAt}
-use Rattle.groups.specs.Code.Writing.{conditionNumbers, Numbered, after}
 use Rattle.groups.proofs.GroupSizes.{plan-below, read-most}
 use Rattle.groups.proofs.Rooms.{laid-append}
 
@@ -96,15 +95,15 @@ module _ (w conditions : List ℕ) (f : WellFormed 512 w) (h : Numbered w condit
   in-table = let within : length conditions ≤ terms w = h .within in omega arith
 
   -- a variable
-  pub ends : storing x ≡ false → variableGroup (getD conditions a 0) cj ≡ group a
+  pub ends : isStore x ≡ false → variableGroup (getD conditions a 0) cj ≡ group a
   ends s =
       ap (λ (c : ℕ). variableGroup c cj) (number-is w conditions h a inside)
       ∙ end-by ownMarks (terms w) (terms w + 1) (planIn (plans w ownMarks a)) (next w (plans w ownMarks a)) (termAt w a) b j cj (opOf (termAt w a .op))
-      (op-at w a (f .sound a in-table)) (ap storing (sym here) ∙ s)
+      (op-at w a (f .sound a in-table)) (ap isStore (sym here) ∙ s)
 
-  module _ (s : storing x ≡ true) where
+  module _ (s : isStore x ≡ true) where
     op-is : opOf (termAt w a .op) ≡ Store
-    op-is = store-op (opOf (termAt w a .op)) (ap storing (sym here) ∙ s)
+    op-is = store-op (opOf (termAt w a .op)) (ap isStore (sym here) ∙ s)
 
     placing : (termAt w a .p < a) × (termAt w a .q < a) × (termAt w a .r < a)
     placing = three-placed a (termAt w a) (subst (λ (o : Op). placedAs (fieldsOf (rankOf o)) a (termAt w a) ≡ true) op-is (f .sound a in-table .is-placed))
@@ -140,10 +139,10 @@ module _ (w conditions : List ℕ) (f : WellFormed 512 w) (h : Numbered w condit
             ∙ ap₂ (λ (m n : ℕ). after b (group (x .p) ++ nine (after b (group (x .p))) m n)) ci-is ce-is
             ∙ sym (ap (after b) grows)
 
-        pub room-more : (room first last : List ℕ) → first ≡ laid room b (group (x .p)) → last ≡ laid first (below .next) (nine below ci ce) → last ≡ laid room b (group a)
+        pub room-more : (room first last : List ℕ) → first ≡ placedAll room b (group (x .p)) → last ≡ placedAll first (below .next) (nine below ci ce) → last ≡ placedAll room b (group a)
         room-more room first last e g =
             g
-            ∙ ap₂ (λ (l : List ℕ) (y : Written). laid l (y .next) (nine y ci ce)) e known
+            ∙ ap₂ (λ (l : List ℕ) (y : Written). placedAll l (y .next) (nine y ci ce)) e known
             ∙ sym (laid-append (group (x .p)) (nine (after b (group (x .p))) ci ce) room b)
-            ∙ ap₂ (λ (m n : ℕ). laid room b (group (x .p) ++ nine (after b (group (x .p))) m n)) ci-is ce-is
-            ∙ sym (ap (laid room b) grows)
+            ∙ ap₂ (λ (m n : ℕ). placedAll room b (group (x .p) ++ nine (after b (group (x .p))) m n)) ci-is ce-is
+            ∙ sym (ap (placedAll room b) grows)

@@ -8,34 +8,36 @@ use native.Mathlib.Omega.{arith}
 use lib.ListN.{length, drop, set, length-append}
 use borrow.Author.Tests.{le-leb}
 use Rattle.table.specs.declared.words.Term.{Term}
-use Rattle.table.specs.Terms.{words, placed}
+use Rattle.table.specs.Terms.{words}
+use Rattle.table.specs.Code.Writing.{placed}
 use Rattle.table.proofs.Places.{length-placed}
 use Rattle.evaluate.proofs.Fronts.{front-more, front-length}
-use Rattle.groups.specs.Added.{wordsOf, flat, laidFrom, laid}
+use Rattle.groups.specs.Added.{wordsOf, flat}
+use Rattle.groups.specs.Code.Writing.{placedFrom, placedAll}
 
-pub length-laid : (xs : List Term) (room : List ℕ) (b i : ℕ) → length (laidFrom room b i xs) ≡ length room
-unfolding laidFrom
+pub length-laid : (xs : List Term) (room : List ℕ) (b i : ℕ) → length (placedFrom room b i xs) ≡ length room
+unfolding placedFrom
 length-laid [] room b i = refl
 length-laid (x ∷ xs) room b i = length-laid xs (placed room (b + i) x) b (suc i) ∙ length-placed room (b + i) x
 
 -- the same places, counted from another number
-laid-from : (xs : List Term) (room : List ℕ) (b i b′ i′ : ℕ) → b + i ≡ b′ + i′ → laidFrom room b i xs ≡ laidFrom room b′ i′ xs
-unfolding laidFrom
+laid-from : (xs : List Term) (room : List ℕ) (b i b′ i′ : ℕ) → b + i ≡ b′ + i′ → placedFrom room b i xs ≡ placedFrom room b′ i′ xs
+unfolding placedFrom
 laid-from [] room b i b′ i′ e = refl
 laid-from (x ∷ xs) room b i b′ i′ e =
-    ap (λ (k : ℕ). laidFrom (placed room k x) b (suc i) xs) e ∙ laid-from xs (placed room (b′ + i′) x) b (suc i) b′ (suc i′) (omega arith)
+    ap (λ (k : ℕ). placedFrom (placed room k x) b (suc i) xs) e ∙ laid-from xs (placed room (b′ + i′) x) b (suc i) b′ (suc i′) (omega arith)
 
-laid-then : (xs ys : List Term) (room : List ℕ) (b i : ℕ) → laidFrom room b i (xs ++ ys) ≡ laidFrom (laidFrom room b i xs) b (i + length xs) ys
-unfolding laidFrom
-laid-then [] ys room b i = ap (λ (k : ℕ). laidFrom room b k ys) (sym (add-zero i))
+laid-then : (xs ys : List Term) (room : List ℕ) (b i : ℕ) → placedFrom room b i (xs ++ ys) ≡ placedFrom (placedFrom room b i xs) b (i + length xs) ys
+unfolding placedFrom
+laid-then [] ys room b i = ap (λ (k : ℕ). placedFrom room b k ys) (sym (add-zero i))
 laid-then (x ∷ xs) ys room b i =
     let e : suc i + length xs ≡ i + suc (length xs) = omega arith in
-    laid-then xs ys (placed room (b + i) x) b (suc i) ∙ ap (λ (k : ℕ). laidFrom (laidFrom (placed room (b + i) x) b (suc i) xs) b k ys) e
+    laid-then xs ys (placed room (b + i) x) b (suc i) ∙ ap (λ (k : ℕ). placedFrom (placedFrom (placed room (b + i) x) b (suc i) xs) b k ys) e
 
 -- one row of terms and then another
-pub laid-append : (xs ys : List Term) (room : List ℕ) (b : ℕ) → laid room b (xs ++ ys) ≡ laid (laid room b xs) (b + length xs) ys
+pub laid-append : (xs ys : List Term) (room : List ℕ) (b : ℕ) → placedAll room b (xs ++ ys) ≡ placedAll (placedAll room b xs) (b + length xs) ys
 laid-append xs ys room b =
-    laid-then xs ys room b 0 ∙ laid-from ys (laidFrom room b 0 xs) b (0 + length xs) (b + length xs) 0 (omega arith)
+    laid-then xs ys room b 0 ∙ laid-from ys (placedFrom room b 0 xs) b (0 + length xs) (b + length xs) 0 (omega arith)
 
 -- The front of a room
 
@@ -86,14 +88,14 @@ module _ (front begin : List ℕ) (k : ℕ) (x : Term) (full : length front ≡ 
 
 -- terms more
 pub laid-front : (xs : List Term) (front begin : List ℕ) (b i : ℕ) → length front ≡ (b + i) * words → (b + i + length xs) * words ≤ length begin
-    → laidFrom (front ++ drop ((b + i) * words) begin) b i xs ≡ (front ++ flat xs) ++ drop ((b + i + length xs) * words) begin
-unfolding laidFrom flat
+    → placedFrom (front ++ drop ((b + i) * words) begin) b i xs ≡ (front ++ flat xs) ++ drop ((b + i + length xs) * words) begin
+unfolding placedFrom flat
 laid-front [] front begin b i full enough = rw (append-nil front, add-zero (b + i))
 laid-front (x ∷ xs) front begin b i full enough =
     let up : b + i + 1 ≡ b + suc i = omega arith in
     let all : b + suc i + length xs ≡ b + i + suc (length xs) = omega arith in
     let more : length (front ++ wordsOf x) ≡ (b + suc i) * words = rw length-append (omega arith) in
-    ap (λ (l : List ℕ). laidFrom l b (suc i) xs)
+    ap (λ (l : List ℕ). placedFrom l b (suc i) xs)
     (placed-front front begin (b + i) x full (omega arith) ∙ ap (λ (n : ℕ). (front ++ wordsOf x) ++ drop (n * words) begin) up)
     ∙ laid-front xs (front ++ wordsOf x) begin b (suc i) more (omega arith)
     ∙ ap (λ (n : ℕ). (front ++ wordsOf x) ++ flat xs ++ drop (n * words) begin) all

@@ -26,9 +26,8 @@ use Rattle.groups.specs.declared.kinds.GroupKind.{GroupKind}
 use Rattle.groups.specs.declared.kinds.GroupKind.the-variants.{Literal, Input, Unary, Strict, Conjunction, Disjunction, Implication, Zero, Ones, Shift, Choice, Read, Write}
 use Rattle.groups.specs.FunctionGroups.{FunctionGroup, functionGroup, groupKind, kindOf}
 use Rattle.groups.specs.FunctionGroups.FunctionGroup.{unary, strict, conjunction, disjunction, implication, byZero, byOnes, shift}
-use Rattle.groups.specs.Added.{laid, laidFrom}
+use Rattle.groups.specs.Code.Writing.{placedAll, placedFrom, Numbered, after, written}
 use Rattle.groups.specs.Plans.{Plan, lastOf, planBy, planIn, next, plans, planAt}
-use Rattle.groups.specs.Code.Writing.{Numbered, after, written}
 use Rattle.groups.proofs.GroupSizes.{plan-below, next-more}
 use Rattle.groups.proofs.ReadGroups.{recorded}
 
@@ -95,19 +94,19 @@ module _ (w conditions : List ℕ) (f : WellFormed 512 w) (h : Numbered w condit
 
   -- a group g, whose last is the condition
   pub grows : (l : GroupKind) → kind ≡ l → (g : List Term) → g ≡ planned l .group → planned l .condition ≡ lastOf b (planned l .group) → (r : Written) (room last : List ℕ)
-      → (r ≡ after b g) × (last ≡ laid room b g) → (r ≡ written w i) × (last ≡ laid room b (planAt w ownMarks i .group))
+      → (r ≡ after b g) × (last ≡ placedAll room b g) → (r ≡ written w i) × (last ≡ placedAll room b (planAt w ownMarks i .group))
   grows l e g same c r room last (answer, wrote) = (
     written-is l e r (ap (λ (y : Written). y .condition) answer ∙ ap (lastOf b) same ∙ sym c) (ap (λ (y : Written). y .next) answer ∙ ap (λ (y : List Term). b + length y) same),
-    wrote ∙ ap (laid room b) (same ∙ ap (λ (y : Plan). y .group) (plan-is l e)),
+    wrote ∙ ap (placedAll room b) (same ∙ ap (λ (y : Plan). y .group) (plan-is l e)),
   )
 
   -- nothing added
   pub stays : (l : GroupKind) → kind ≡ l → planned l .group ≡ [] → (c : ℕ) → c ≡ planned l .condition → (r : Written) (room : List ℕ)
-      → r ≡ record { condition = c; next = b } → (r ≡ written w i) × (room ≡ laid room b (planAt w ownMarks i .group))
-  unfolding laidFrom
+      → r ≡ record { condition = c; next = b } → (r ≡ written w i) × (room ≡ placedAll room b (planAt w ownMarks i .group))
+  unfolding placedFrom
   stays l e none c is r room answer = (
     written-is l e r (ap (λ (y : Written). y .condition) answer ∙ is) (ap (λ (y : Written). y .next) answer ∙ sym (add-zero b) ∙ sym (ap (λ (y : List Term). b + length y) none)),
-    sym (ap (laid room b) (sym (ap (λ (y : Plan). y .group) (plan-is l e)) ∙ none)),
+    sym (ap (placedAll room b) (sym (ap (λ (y : Plan). y .group) (plan-is l e)) ∙ none)),
   )
 
   -- a read's array is an earlier term

@@ -1,10 +1,8 @@
 -- The kinds of terms that finishing adds, by their numbers in paper 01's table of operators; and terms as a table's numbers.
 -- Assumes nothing.
-use mathlib.Core.Bool.{Bool, cond}
 use mathlib.Core.List.{List, [], _∷_, _++_}
-use Prim.Native.Nat.{ℕ, suc, _+_}
+use Prim.Native.Nat.{ℕ}
 use Rattle.table.specs.declared.words.Term.{Term}
-use Rattle.table.specs.Terms.{placed}
 
 -- a Boolean term
 abbrev pub boolTerm : ℕ → ℕ → ℕ → ℕ → Term
@@ -47,11 +45,3 @@ wordsOf x = x .op ∷ x .sort .m ∷ x .sort .n ∷ x .p ∷ x .q ∷ x .r ∷ [
 unfoldable pub flat : List Term → List ℕ
 flat [] = []
 flat (x ∷ xs) = wordsOf x ++ flat xs
-
--- terms written into a room one after the other, as terms b + i, b + i + 1, ..
-unfoldable pub laidFrom : List ℕ → ℕ → ℕ → List Term → List ℕ
-laidFrom room b i [] = room
-laidFrom room b i (x ∷ xs) = laidFrom (placed room (b + i) x) b (suc i) xs
-
-abbrev pub laid : List ℕ → ℕ → List Term → List ℕ
-laid room b xs = laidFrom room b 0 xs

@@ -1,6 +1,6 @@
 // The kinds of terms that finishing adds.
 ghost use mathlib.Core.Path.{_≡_};
-ghost use Rattle.table.specs.Terms.{placed};
+ghost use Rattle.table.specs.Code.Writing.{placed};
 ghost use Rattle.groups.specs.Added.{boolTerm, vectorTerm, notT, andT, orT, equalT, choiceT, lessT, constantT};
 ghost use Rattle.groups.specs.Added.{readT};
 use table::Sort;

@@ -2,8 +2,7 @@
 ghost use mathlib.Core.Path.{_≡_};
 ghost use mathlib.Core.List.{[], _∷_};
 ghost use Prim.Native.Nat.{pred, _+_, _≤_, _<_};
-ghost use Rattle.groups.specs.Added.{laidFrom, laid};
-ghost use Rattle.groups.specs.Code.Writing.{after};
+ghost use Rattle.groups.specs.Code.Writing.{placedFrom, placedAll, after};
 ghost use Rattle.groups.specs.Groups.{strictGroup, andGroup, orGroup, impliesGroup, absorbingGroup, shiftGroup};
 ghost use Rattle.groups.specs.Groups.{choiceGroup, storeGroup};
 use crate::added::and_term;
@@ -38,7 +37,7 @@ fn grown(b: u32, size: u32) -> Written
 // Two terms of a group that starts at b: its terms i and i + 1.
 fn lay_two(room: &mut [u32], b: u32, i: u32, x: Term, y: Term)
     requires { ⌜ (b ≤ 80000) × (i ≤ 9) ⌝ }
-    ensures { λ _. ⌜ now (room .exit) ≡ laidFrom (now (room .entry)) b i (x ∷ y ∷ []) ⌝ }
+    ensures { λ _. ⌜ now (room .exit) ≡ placedFrom (now (room .entry)) b i (x ∷ y ∷ []) ⌝ }
 {
     put(room, b + i, x);
     put(room, b + (i + 1), y);
@@ -47,7 +46,7 @@ fn lay_two(room: &mut [u32], b: u32, i: u32, x: Term, y: Term)
 // Three terms: i, i + 1 and i + 2.
 fn lay_three(room: &mut [u32], b: u32, i: u32, x: Term, y: Term, z: Term)
     requires { ⌜ (b ≤ 80000) × (i ≤ 8) ⌝ }
-    ensures { λ _. ⌜ now (room .exit) ≡ laidFrom (now (room .entry)) b i (x ∷ y ∷ z ∷ []) ⌝ }
+    ensures { λ _. ⌜ now (room .exit) ≡ placedFrom (now (room .entry)) b i (x ∷ y ∷ z ∷ []) ⌝ }
 {
     put(room, b + i, x);
     lay_two(room, b, i + 1, y, z);
@@ -57,7 +56,7 @@ fn lay_three(room: &mut [u32], b: u32, i: u32, x: Term, y: Term, z: Term)
 pub fn strict(room: &mut [u32], b: u32, cp: u32, cq: u32) -> Written
     requires { ⌜ b ≤ 80000 ⌝ }
     ensures { λ r. ⌜ r ≡ after b (strictGroup cp cq) ⌝ }
-    ensures { λ r. ⌜ now (room .exit) ≡ laid (now (room .entry)) b (strictGroup cp cq) ⌝ }
+    ensures { λ r. ⌜ now (room .exit) ≡ placedAll (now (room .entry)) b (strictGroup cp cq) ⌝ }
 {
     put_and(room, b, cp, cq);
     grown(b, 1)
@@ -66,7 +65,7 @@ pub fn strict(room: &mut [u32], b: u32, cp: u32, cq: u32) -> Written
 pub fn conjunction(room: &mut [u32], b: u32, p: u32, q: u32, cp: u32, cq: u32) -> Written
     requires { ⌜ b ≤ 80000 ⌝ }
     ensures { λ r. ⌜ r ≡ after b (andGroup b p q cp cq) ⌝ }
-    ensures { λ r. ⌜ now (room .exit) ≡ laid (now (room .entry)) b (andGroup b p q cp cq) ⌝ }
+    ensures { λ r. ⌜ now (room .exit) ≡ placedAll (now (room .entry)) b (andGroup b p q cp cq) ⌝ }
 {
     lay_three(room, b, 0, not_term(p), and_term(cp, b), not_term(q));
     lay_two(room, b, 3, and_term(cq, b + 2), or_term(b + 1, b + 3));
@@ -77,7 +76,7 @@ pub fn conjunction(room: &mut [u32], b: u32, p: u32, q: u32, cp: u32, cq: u32) -
 pub fn disjunction(room: &mut [u32], b: u32, p: u32, q: u32, cp: u32, cq: u32) -> Written
     requires { ⌜ b ≤ 80000 ⌝ }
     ensures { λ r. ⌜ r ≡ after b (orGroup b p q cp cq) ⌝ }
-    ensures { λ r. ⌜ now (room .exit) ≡ laid (now (room .entry)) b (orGroup b p q cp cq) ⌝ }
+    ensures { λ r. ⌜ now (room .exit) ≡ placedAll (now (room .entry)) b (orGroup b p q cp cq) ⌝ }
 {
     lay_three(
         room,
@@ -94,7 +93,7 @@ pub fn disjunction(room: &mut [u32], b: u32, p: u32, q: u32, cp: u32, cq: u32) -
 pub fn implication(room: &mut [u32], b: u32, p: u32, q: u32, cp: u32, cq: u32) -> Written
     requires { ⌜ b ≤ 80000 ⌝ }
     ensures { λ r. ⌜ r ≡ after b (impliesGroup b p q cp cq) ⌝ }
-    ensures { λ r. ⌜ now (room .exit) ≡ laid (now (room .entry)) b (impliesGroup b p q cp cq) ⌝ }
+    ensures { λ r. ⌜ now (room .exit) ≡ placedAll (now (room .entry)) b (impliesGroup b p q cp cq) ⌝ }
 {
     lay_three(room, b, 0, not_term(p), and_term(cp, b), and_term(cq, q));
     lay_three(
@@ -121,7 +120,7 @@ pub fn absorbing(
 ) -> Written
     requires { ⌜ b ≤ 80000 ⌝ }
     ensures { λ r. ⌜ r ≡ after b (absorbingGroup b n value p q cp cq) ⌝ }
-    ensures { λ r. ⌜ now (room .exit) ≡ laid (now (room .entry)) b (absorbingGroup b n value p q cp cq) ⌝ }
+    ensures { λ r. ⌜ now (room .exit) ≡ placedAll (now (room .entry)) b (absorbingGroup b n value p q cp cq) ⌝ }
 {
     lay_three(
         room,
@@ -146,7 +145,7 @@ pub fn absorbing(
 pub fn shift(room: &mut [u32], b: u32, n: u32, q: u32, cp: u32, cq: u32) -> Written
     requires { ⌜ b ≤ 80000 ⌝ }
     ensures { λ r. ⌜ r ≡ after b (shiftGroup b n q cp cq) ⌝ }
-    ensures { λ r. ⌜ now (room .exit) ≡ laid (now (room .entry)) b (shiftGroup b n q cp cq) ⌝ }
+    ensures { λ r. ⌜ now (room .exit) ≡ placedAll (now (room .entry)) b (shiftGroup b n q cp cq) ⌝ }
 {
     lay_three(
         room,
@@ -179,7 +178,7 @@ pub fn choice(
 ) -> Written
     requires { ⌜ b ≤ 80000 ⌝ }
     ensures { λ t. ⌜ t ≡ after b (choiceGroup b p q r cp cq cr) ⌝ }
-    ensures { λ t. ⌜ now (room .exit) ≡ laid (now (room .entry)) b (choiceGroup b p q r cp cq cr) ⌝ }
+    ensures { λ t. ⌜ now (room .exit) ≡ placedAll (now (room .entry)) b (choiceGroup b p q r cp cq cr) ⌝ }
 {
     lay_three(
         room,
@@ -216,7 +215,7 @@ pub fn store(
 ) -> Written
     requires { ⌜ b ≤ 80000 ⌝ }
     ensures { λ r. ⌜ r ≡ after b (storeGroup b n a i e j ci ce cj d) ⌝ }
-    ensures { λ r. ⌜ now (room .exit) ≡ laid (now (room .entry)) b (storeGroup b n a i e j ci ce cj d) ⌝ }
+    ensures { λ r. ⌜ now (room .exit) ≡ placedAll (now (room .entry)) b (storeGroup b n a i e j ci ce cj d) ⌝ }
 {
     lay_three(
         room,

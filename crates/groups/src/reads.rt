@@ -4,13 +4,12 @@ ghost use Prim.Native.Nat.{_≤_, _<_};
 ghost use lib.ListN.{length};
 ghost use Rattle.table.specs.WellFormed.{WellFormed};
 ghost use Rattle.judge.specs.Conditions.{ownMarks};
-ghost use Rattle.groups.specs.Added.{laid};
+ghost use Rattle.groups.specs.Code.Writing.{placedAll, Numbered, after};
 ghost use Rattle.groups.specs.Plans.{planAt};
-ghost use Rattle.groups.specs.Code.Writing.{Numbered, after};
 use crate::groups::Written;
 use crate::groups::store;
 use crate::groups::strict;
-use setting::number_at;
+use table::number_at;
 
 // The group of a read of array a at index j, whose condition is cj, from number b on.
 pub fn read_group(
@@ -27,10 +26,10 @@ pub fn read_group(
     requires { ⌜ (a < length (now conditions)) × (b ≤ 79000) ⌝ }
     ensures { λ r. ⌜ r ≡ after b (planAt (now (table .entry)) ownMarks a .readGroup b j cj) ⌝ }
     ensures { λ r. ⌜ now (room .exit)
-        ≡ laid (now (room .entry)) b (planAt (now (table .entry)) ownMarks a .readGroup b j cj) ⌝ }
+        ≡ placedAll (now (room .entry)) b (planAt (now (table .entry)) ownMarks a .readGroup b j cj) ⌝ }
 {
     let x = table::term_at(table, a);
-    if !table::storing(x) {
+    if !table::is_store(x) {
         return strict(room, b, number_at(conditions, a), cj);
     }
     let below = read_group(table, conditions, room, b, x.p, j, cj);

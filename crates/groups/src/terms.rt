@@ -6,9 +6,8 @@ ghost use lib.ListN.{length};
 ghost use Rattle.table.specs.Terms.{terms};
 ghost use Rattle.table.specs.WellFormed.{WellFormed};
 ghost use Rattle.judge.specs.Conditions.{ownMarks};
-ghost use Rattle.groups.specs.Added.{laid};
+ghost use Rattle.groups.specs.Code.Writing.{placedAll, Numbered, written};
 ghost use Rattle.groups.specs.Plans.{next, plans, planAt};
-ghost use Rattle.groups.specs.Code.Writing.{Numbered, written};
 use crate::groups::Written;
 use crate::groups::absorbing;
 use crate::groups::choice;
@@ -20,8 +19,8 @@ use crate::groups::strict;
 use crate::kinds::GroupKind;
 use crate::kinds::kind_of;
 use crate::reads::read_group;
-use setting::number_at;
 use table::Term;
+use table::number_at;
 
 // Nothing added before number b: C(t) is the term of this number.
 fn taken(c: u32, b: u32) -> Written
@@ -55,7 +54,7 @@ pub fn write_group(
     requires { ⌜ (i ≡ length (now conditions)) × ((i < terms (now table)) × (yes ≡ terms (now table))) ⌝ }
     requires { ⌜ (b ≡ next (now table) (plans (now table) ownMarks i)) × (b ≤ 79000) ⌝ }
     ensures { λ r. ⌜ r ≡ written (now (table .entry)) i ⌝ }
-    ensures { λ r. ⌜ now (room .exit) ≡ laid (now (room .entry)) b (planAt (now (table .entry)) ownMarks i .group) ⌝ }
+    ensures { λ r. ⌜ now (room .exit) ≡ placedAll (now (room .entry)) b (planAt (now (table .entry)) ownMarks i .group) ⌝ }
 {
     let x = table::term_at(table, i);
     let cp = number_at(conditions, x.p);

@@ -5,8 +5,8 @@ use mathlib.Core.Bool.{Bool, true, false, _||_}
 use Prim.Native.Nat.{ℕ}
 use Rattle.ops.proofs.Booleans.{never, or-open}
 use lib.Dec.{eqb}
-use Rattle.table.specs.declared.Admission.{Admission}
-use Rattle.table.specs.declared.Admission.the-variants.{Admitted, Refused}
+use Rattle.table.specs.declared.Acceptance.{Acceptance}
+use Rattle.table.specs.declared.Acceptance.the-variants.{Accepted, Refused}
 use Rattle.table.specs.Admission.{admission}
 use Rattle.table.specs.Refusals.{between, RefusedBy}
 use Rattle.table.proofs.Refusals.{admission-numbers}
@@ -28,7 +28,7 @@ use Rattle.finish.proofs.AgreedSettings.{finishing-numbers}
 use Rattle.records.specs.Answers as recorded
 use Rattle.records.specs.Laws.{recordNumbers}
 use Rattle.records.proofs.Numbers as record-numbers
-use Rattle.hiranthok.specs.Replies.{admitted, finished, evaluated, judged}
+use Rattle.hiranthok.specs.Replies.{admissionReply, finishingReply, evaluationReply, judgementReply}
 use Rattle.hiranthok.specs.Laws.{orZero, KnownNumbers, NeverEleven}
 
 -- a reply has the refusal's number, or 0
@@ -36,19 +36,19 @@ module _ (numbers : ℕ → Bool) where
   refusal : (number : ℕ) → numbers number ≡ true → orZero numbers number ≡ true
   refusal number e = rw e (or-open (eqb number 0))
 
-  of-admission : (a : Admission) → RefusedBy numbers a → orZero numbers (admitted a .number) ≡ true
-  of-admission Admitted h = refl
+  of-admission : (a : Acceptance) → RefusedBy numbers a → orZero numbers (admissionReply a .number) ≡ true
+  of-admission Accepted h = refl
   of-admission (Refused r) h = refusal (r .number) h
 
-  of-finishing : (a : Finishing) → NotFinishedBy numbers a → orZero numbers (finished a .number) ≡ true
+  of-finishing : (a : Finishing) → NotFinishedBy numbers a → orZero numbers (finishingReply a .number) ≡ true
   of-finishing (Finished e) h = refl
   of-finishing (NotFinished r) h = refusal (r .number) h
 
-  of-evaluation : (a : Evaluation) → NotEvaluatedBy numbers a → orZero numbers (evaluated a .number) ≡ true
+  of-evaluation : (a : Evaluation) → NotEvaluatedBy numbers a → orZero numbers (evaluationReply a .number) ≡ true
   of-evaluation (Evaluated s) h = refl
   of-evaluation (NotEvaluated r) h = refusal (r .number) h
 
-  of-judgement : (a : Judgement) → NotJudgedBy numbers a → orZero numbers (judged a .number) ≡ true
+  of-judgement : (a : Judgement) → NotJudgedBy numbers a → orZero numbers (judgementReply a .number) ≡ true
   of-judgement (Judged v) h = refl
   of-judgement (NotJudged r) h = refusal (r .number) h
 
@@ -71,6 +71,6 @@ no-eleven number h e = never (sym (ap (orZero recordNumbers) e) ∙ h)
 pub never-eleven : NeverEleven
 never-eleven =
     record {
-      evaluate-records = λ w values cells allowance room. no-eleven (evaluated (recorded.evaluation w values cells allowance room) .number) (known-numbers .evaluate-records w values cells allowance room);
-      judge-records = λ w values cells allowance room. no-eleven (judged (recorded.judgement w values cells allowance room) .number) (known-numbers .judge-records w values cells allowance room);
+      evaluate-records = λ w values cells allowance room. no-eleven (evaluationReply (recorded.evaluation w values cells allowance room) .number) (known-numbers .evaluate-records w values cells allowance room);
+      judge-records = λ w values cells allowance room. no-eleven (judgementReply (recorded.judgement w values cells allowance room) .number) (known-numbers .judge-records w values cells allowance room);
     }

@@ -8,11 +8,11 @@ use Prim.Native.Nat.{ℕ, _*_}
 use lib.Dec.{eqb}
 use lib.ListN.{length, take}
 use Rattle.table.specs.Terms.{words}
-use Rattle.table.specs.Admission.{admission}
+use Rattle.table.specs.Admission.{andThen, admission}
 use Rattle.table.specs.Refusals.{between}
 use Rattle.setting.specs.declared.cells.Cell.{Cell}
 use Rattle.evaluate.specs.declared.Spent.{Spent}
-use Rattle.evaluate.specs.declared.Evaluation.the-variants.{Evaluated}
+use Rattle.evaluate.specs.declared.Evaluation.the-variants.{Evaluated, NotEvaluated}
 use Rattle.evaluate.specs.Evaluation as evaluates
 use Rattle.evaluate.specs.Laws.{runNumbers}
 use Rattle.judge.specs.declared.Verdict.{Verdict}
@@ -26,39 +26,39 @@ use Rattle.finish.specs.Laws.{SameAnswers, finishNumbers}
 use Rattle.finish.specs.Laws as finishes
 use Rattle.records.specs.Answers as recorded
 use Rattle.records.specs.Laws.{recordNumbers}
-use Rattle.hiranthok.specs.Replies.{admitted, finished, evaluated, judged}
+use Rattle.hiranthok.specs.Replies.{admissionReply, finishingReply, evaluationReply, judgementReply}
 
 -- Of a finished table f, evaluated through the record entrance: it is refused as the table's setting is, and by 22 and 23; in the setting
 -- of a judgement that is not refused it leaves rule, condition and their conjunction in its room.
 pub record RecordFaithful (w f : List ℕ) (e : Extent) : Type 0 where
   pub evaluated : (values : List ℕ) (cells : List Cell) (allowance room : ℕ)
-      → recorded.evaluation f values cells allowance room ≡ evaluates.andThen (recorded.check w values cells) (evaluates.afford f 1 allowance room)
+      → recorded.evaluation f values cells allowance room ≡ andThen NotEvaluated (recorded.check w values cells) (evaluates.afford f 1 allowance room)
   pub agrees : (values : List ℕ) (cells : List Cell) (allowance room : ℕ) (v : Verdict) → recorded.judgement w values cells allowance room ≡ Judged v
       → (allowance′ : ℕ) (work : List ℕ) (s : Spent) → recorded.evaluation f values cells allowance′ (length work) ≡ Evaluated s
-      → SameAnswers w e v (recorded.evaluated (Evaluated s) f values cells work)
+      → SameAnswers w e v (recorded.evaluationRoom (Evaluated s) f values cells work)
 
 -- what finishing promises of the record entrance: nothing for a refusal. room is what it left
-abbrev pub RecordPromise : List ℕ → List ℕ → Finishing → Type 0
-RecordPromise w room (Finished e) = RecordFaithful w (take (e .terms * words) room) e
-RecordPromise w room (NotFinished r) = Unit {0}
+abbrev pub FinishingRecordPromise : List ℕ → List ℕ → Finishing → Type 0
+FinishingRecordPromise w room (Finished e) = RecordFaithful w (take (e .terms * words) room) e
+FinishingRecordPromise w room (NotFinished r) = Unit {0}
 
 -- It follows from the promise of finishing.
 abbrev pub FinishedForRecords : Type 0
-FinishedForRecords = (w room : List ℕ) (a : Finishing) → finishes.Promise w room a → RecordPromise w room a
+FinishedForRecords = (w room : List ℕ) (a : Finishing) → finishes.FinishingPromise w room a → FinishingRecordPromise w room a
 
 -- Each function answers 0 or a number that its routine knows.
 abbrev pub orZero : (ℕ → Bool) → ℕ → Bool
 orZero numbers number = eqb number 0 || numbers number
 
 pub record KnownNumbers : Type 0 where
-  pub admit : (w : List ℕ) → orZero (between 1 10) (admitted (admission w) .number) ≡ true
-  pub finish : (w : List ℕ) (room : ℕ) → orZero finishNumbers (finished (finishing w room) .number) ≡ true
-  pub evaluate : (w values cells : List ℕ) (allowance room : ℕ) → orZero runNumbers (evaluated (evaluates.evaluation w values cells allowance room) .number) ≡ true
-  pub judge : (w values cells : List ℕ) (allowance room : ℕ) → orZero runNumbers (judged (judges.judgement w values cells allowance room) .number) ≡ true
-  pub evaluate-records : (w values : List ℕ) (cells : List Cell) (allowance room : ℕ) → orZero recordNumbers (evaluated (recorded.evaluation w values cells allowance room) .number) ≡ true
-  pub judge-records : (w values : List ℕ) (cells : List Cell) (allowance room : ℕ) → orZero recordNumbers (judged (recorded.judgement w values cells allowance room) .number) ≡ true
+  pub admit : (w : List ℕ) → orZero (between 1 10) (admissionReply (admission w) .number) ≡ true
+  pub finish : (w : List ℕ) (room : ℕ) → orZero finishNumbers (finishingReply (finishing w room) .number) ≡ true
+  pub evaluate : (w values cells : List ℕ) (allowance room : ℕ) → orZero runNumbers (evaluationReply (evaluates.evaluation w values cells allowance room) .number) ≡ true
+  pub judge : (w values cells : List ℕ) (allowance room : ℕ) → orZero runNumbers (judgementReply (judges.judgement w values cells allowance room) .number) ≡ true
+  pub evaluate-records : (w values : List ℕ) (cells : List Cell) (allowance room : ℕ) → orZero recordNumbers (evaluationReply (recorded.evaluation w values cells allowance room) .number) ≡ true
+  pub judge-records : (w values : List ℕ) (cells : List Cell) (allowance room : ℕ) → orZero recordNumbers (judgementReply (recorded.judgement w values cells allowance room) .number) ≡ true
 
 -- 11 cannot occur over records.
 pub record NeverEleven : Type 0 where
-  pub evaluate-records : (w values : List ℕ) (cells : List Cell) (allowance room : ℕ) → evaluated (recorded.evaluation w values cells allowance room) .number ≡ 11 → ⊥
-  pub judge-records : (w values : List ℕ) (cells : List Cell) (allowance room : ℕ) → judged (recorded.judgement w values cells allowance room) .number ≡ 11 → ⊥
+  pub evaluate-records : (w values : List ℕ) (cells : List Cell) (allowance room : ℕ) → evaluationReply (recorded.evaluation w values cells allowance room) .number ≡ 11 → ⊥
+  pub judge-records : (w values : List ℕ) (cells : List Cell) (allowance room : ℕ) → judgementReply (recorded.judgement w values cells allowance room) .number ≡ 11 → ⊥

@@ -4,8 +4,8 @@ use mathlib.Core.List.{List, [], _∷_}
 use Prim.Native.Nat.{ℕ}
 use Rattle.ops.specs.Meaning.{bit}
 use Rattle.table.specs.declared.Refusal.{Refusal}
-use Rattle.table.specs.declared.Admission.{Admission}
-use Rattle.table.specs.declared.Admission.the-variants.{Admitted, Refused}
+use Rattle.table.specs.declared.Acceptance.{Acceptance}
+use Rattle.table.specs.declared.Acceptance.the-variants.{Accepted, Refused}
 use Rattle.evaluate.specs.declared.Evaluation.{Evaluation}
 use Rattle.evaluate.specs.declared.Evaluation.the-variants.{Evaluated, NotEvaluated}
 use Rattle.judge.specs.declared.Judgement.{Judgement}
@@ -24,21 +24,21 @@ refusal r = record { number = r .number; first = r .place; second = 0; third = 0
 abbrev pub row : Reply → List ℕ
 row r = r .first ∷ r .second ∷ r .third ∷ r .fourth ∷ []
 
-abbrev pub admitted : Admission → Reply
-admitted Admitted = results 0 0 0 0
-admitted (Refused r) = refusal r
+abbrev pub admissionReply : Acceptance → Reply
+admissionReply Accepted = results 0 0 0 0
+admissionReply (Refused r) = refusal r
 
 -- terms, number of C(rule), last
-abbrev pub finished : Finishing → Reply
-finished (Finished e) = results (e .terms) (e .condition) (e .last) 0
-finished (NotFinished r) = refusal r
+abbrev pub finishingReply : Finishing → Reply
+finishingReply (Finished e) = results (e .terms) (e .condition) (e .last) 0
+finishingReply (NotFinished r) = refusal r
 
 -- steps, left
-abbrev pub evaluated : Evaluation → Reply
-evaluated (Evaluated s) = results (s .steps) (s .left) 0 0
-evaluated (NotEvaluated r) = refusal r
+abbrev pub evaluationReply : Evaluation → Reply
+evaluationReply (Evaluated s) = results (s .steps) (s .left) 0 0
+evaluationReply (NotEvaluated r) = refusal r
 
 -- rule, condition, steps, left
-abbrev pub judged : Judgement → Reply
-judged (Judged v) = results (bit (v .rule)) (bit (v .condition)) (v .steps) (v .left)
-judged (NotJudged r) = refusal r
+abbrev pub judgementReply : Judgement → Reply
+judgementReply (Judged v) = results (bit (v .rule)) (bit (v .condition)) (v .steps) (v .left)
+judgementReply (NotJudged r) = refusal r

@@ -19,32 +19,35 @@ ghost use Rattle.judge.specs.Judgement as judges;
 ghost use Rattle.judge.specs.Demand3 as judges-laws;
 ghost use Rattle.records.specs.Answers as recorded;
 ghost use Rattle.records.specs.Laws as recorded-laws;
-ghost use Rattle.hiranthok.specs.Laws.{RecordPromise};
-ghost use Rattle.hiranthok.specs.Replies.{row, admitted, finished, evaluated, judged};
+ghost use Rattle.hiranthok.specs.Laws.{FinishingRecordPromise};
+ghost use Rattle.hiranthok.specs.Replies.{row, admissionReply, finishingReply, evaluationReply, judgementReply};
 
 #[no_mangle]
 pub extern "C" fn hiranthok_admit(table: &[u32], answer: &mut [u64; 4]) -> u32
-    ensures { λ r. ⌜ r ≡ admitted (admission (now (table .entry))) .number ⌝ }
-    ensures { λ r. ⌜ now (answer .exit) ≡ row (admitted (admission (now (table .entry)))) ⌝ }
+    ensures { λ r. ⌜ r ≡ admissionReply (admission (now (table .entry))) .number ⌝ }
+    ensures { λ r. ⌜ now (answer .exit) ≡ row (admissionReply (admission (now (table .entry)))) ⌝ }
 {
-    deliver(replies::admitted(admission::admit(table)), answer)
+    deliver(replies::admission_reply(admission::admit(table)), answer)
 }
 
 // terms, number of C(rule), last
 #[no_mangle]
 pub extern "C" fn hiranthok_finish(table: &[u32], room: &mut [u32], answer: &mut [u64; 4]) -> u32
-    ensures { λ r. ⌜ r ≡ finished (finishing (now (table .entry)) (length (now (room .entry)))) .number ⌝ }
+    ensures { λ r. ⌜ r ≡ finishingReply (finishing (now (table .entry)) (length (now (room .entry)))) .number ⌝ }
     ensures { λ r. ⌜ now (answer .exit)
-        ≡ row (finished (finishing (now (table .entry)) (length (now (room .entry))))) ⌝ }
+        ≡ row (finishingReply (finishing (now (table .entry)) (length (now (room .entry))))) ⌝ }
     ensures { λ r. ⌜ now (room .exit)
         ≡ finishes.roomAfter (finishing (now (table .entry)) (length (now (room .entry)))) (now (table .entry))
         (now (room .entry)) ⌝ }
-    ensures { λ r. ⌜ finishes-laws.Promise (now (table .entry)) (now (room .exit))
+    ensures { λ r. ⌜ finishes-laws.FinishingPromise (now (table .entry)) (now (room .exit))
         (finishing (now (table .entry)) (length (now (room .entry)))) ⌝ }
-    ensures { λ r. ⌜ RecordPromise (now (table .entry)) (now (room .exit))
+    ensures { λ r. ⌜ FinishingRecordPromise (now (table .entry)) (now (room .exit))
         (finishing (now (table .entry)) (length (now (room .entry)))) ⌝ }
 {
-    deliver(replies::finished(finish::finish(table, room)), answer)
+    deliver(
+        replies::finishing_reply(finish::finish(table, room)),
+        answer,
+    )
 }
 
 // steps, left
@@ -57,10 +60,10 @@ pub extern "C" fn hiranthok_evaluate(
     work: &mut [u32],
     answer: &mut [u64; 4],
 ) -> u32
-    ensures { λ r. ⌜ r ≡ evaluated (evaluation (now (table .entry)) (now (values .entry)) (now (cells .entry))
+    ensures { λ r. ⌜ r ≡ evaluationReply (evaluation (now (table .entry)) (now (values .entry)) (now (cells .entry))
         allowance (length (now (work .entry)))) .number ⌝ }
     ensures { λ r. ⌜ now (answer .exit)
-        ≡ row (evaluated (evaluation (now (table .entry)) (now (values .entry)) (now (cells .entry)) allowance
+        ≡ row (evaluationReply (evaluation (now (table .entry)) (now (values .entry)) (now (cells .entry)) allowance
         (length (now (work .entry))))) ⌝ }
     ensures { λ r. ⌜ now (work .exit)
         ≡ evaluates.roomAfter (evaluation (now (table .entry)) (now (values .entry)) (now (cells .entry)) allowance
@@ -83,18 +86,18 @@ pub extern "C" fn hiranthok_judge(
     work: &mut [u32],
     answer: &mut [u64; 4],
 ) -> u32
-    ensures { λ r. ⌜ r ≡ judged (judgement (now (table .entry)) (now (values .entry)) (now (cells .entry)) allowance
+    ensures { λ r. ⌜ r ≡ judgementReply (judgement (now (table .entry)) (now (values .entry)) (now (cells .entry)) allowance
         (length (now (work .entry)))) .number ⌝ }
     ensures { λ r. ⌜ now (answer .exit)
-        ≡ row (judged (judgement (now (table .entry)) (now (values .entry)) (now (cells .entry)) allowance
+        ≡ row (judgementReply (judgement (now (table .entry)) (now (values .entry)) (now (cells .entry)) allowance
         (length (now (work .entry))))) ⌝ }
     ensures { λ r. ⌜ now (work .exit)
         ≡ judges.roomAfter (judgement (now (table .entry)) (now (values .entry)) (now (cells .entry)) allowance
         (length (now (work .entry)))) (now (table .entry)) (now (values .entry)) (now (cells .entry))
         (now (work .entry)) ⌝ }
-    ensures { λ r. ⌜ judges-laws.Promise (now (table .entry)) (now (values .entry)) (now (cells .entry)) (judgement
+    ensures { λ r. ⌜ judges-laws.JudgementPromise (now (table .entry)) (now (values .entry)) (now (cells .entry)) (judgement
         (now (table .entry)) (now (values .entry)) (now (cells .entry)) allowance (length (now (work .entry)))) ⌝ }
-    ensures { λ r. ⌜ recorded-laws.FlatPromise (now (table .entry)) (now (values .entry)) (now (cells .entry))
+    ensures { λ r. ⌜ recorded-laws.FlatJudgementPromise (now (table .entry)) (now (values .entry)) (now (cells .entry))
         (judgement (now (table .entry)) (now (values .entry)) (now (cells .entry)) allowance
         (length (now (work .entry)))) ⌝ }
 {
@@ -111,13 +114,13 @@ pub extern "C" fn hiranthok_evaluate_records(
     work: &mut [u32],
     answer: &mut [u64; 4],
 ) -> u32
-    ensures { λ r. ⌜ r ≡ evaluated (recorded.evaluation (now (table .entry)) (now (values .entry))
+    ensures { λ r. ⌜ r ≡ evaluationReply (recorded.evaluation (now (table .entry)) (now (values .entry))
         (now (cells .entry)) allowance (length (now (work .entry)))) .number ⌝ }
     ensures { λ r. ⌜ now (answer .exit)
-        ≡ row (evaluated (recorded.evaluation (now (table .entry)) (now (values .entry)) (now (cells .entry))
+        ≡ row (evaluationReply (recorded.evaluation (now (table .entry)) (now (values .entry)) (now (cells .entry))
         allowance (length (now (work .entry))))) ⌝ }
     ensures { λ r. ⌜ now (work .exit)
-        ≡ recorded.evaluated (recorded.evaluation (now (table .entry)) (now (values .entry)) (now (cells .entry))
+        ≡ recorded.evaluationRoom (recorded.evaluation (now (table .entry)) (now (values .entry)) (now (cells .entry))
         allowance (length (now (work .entry)))) (now (table .entry)) (now (values .entry)) (now (cells .entry))
         (now (work .entry)) ⌝ }
 {
@@ -135,16 +138,16 @@ pub extern "C" fn hiranthok_judge_records(
     work: &mut [u32],
     answer: &mut [u64; 4],
 ) -> u32
-    ensures { λ r. ⌜ r ≡ judged (recorded.judgement (now (table .entry)) (now (values .entry)) (now (cells .entry))
+    ensures { λ r. ⌜ r ≡ judgementReply (recorded.judgement (now (table .entry)) (now (values .entry)) (now (cells .entry))
         allowance (length (now (work .entry)))) .number ⌝ }
     ensures { λ r. ⌜ now (answer .exit)
-        ≡ row (judged (recorded.judgement (now (table .entry)) (now (values .entry)) (now (cells .entry)) allowance
+        ≡ row (judgementReply (recorded.judgement (now (table .entry)) (now (values .entry)) (now (cells .entry)) allowance
         (length (now (work .entry))))) ⌝ }
     ensures { λ r. ⌜ now (work .exit)
-        ≡ recorded.judged (recorded.judgement (now (table .entry)) (now (values .entry)) (now (cells .entry))
+        ≡ recorded.judgementRoom (recorded.judgement (now (table .entry)) (now (values .entry)) (now (cells .entry))
         allowance (length (now (work .entry)))) (now (table .entry)) (now (values .entry)) (now (cells .entry))
         (now (work .entry)) ⌝ }
-    ensures { λ r. ⌜ recorded-laws.Promise (now (table .entry)) (now (values .entry)) (now (cells .entry))
+    ensures { λ r. ⌜ recorded-laws.RecordJudgementPromise (now (table .entry)) (now (values .entry)) (now (cells .entry))
         (recorded.judgement (now (table .entry)) (now (values .entry)) (now (cells .entry)) allowance
         (length (now (work .entry)))) ⌝ }
 {

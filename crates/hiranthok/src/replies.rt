@@ -1,10 +1,10 @@
 // The library's answers as C's: a number, and four numbers.
 ghost use mathlib.Core.Path.{_≡_};
-ghost use Rattle.hiranthok.specs.Replies.{results, refusal, row, admitted, finished, evaluated, judged};
+ghost use Rattle.hiranthok.specs.Replies.{results, refusal, row, admissionReply, finishingReply, evaluationReply, judgementReply};
 use evaluate::Evaluation;
 use finish::Finishing;
 use judge::Judgement;
-use table::Admission;
+use table::Acceptance;
 use table::Refusal;
 
 // 0 or the refusal's number; then what stands in the caller's four numbers.
@@ -40,17 +40,17 @@ fn refusal(refused: Refusal) -> Reply
     }
 }
 
-pub fn admitted(answer: Admission) -> Reply
-    ensures { λ r. ⌜ r ≡ admitted answer ⌝ }
+pub fn admission_reply(answer: Acceptance) -> Reply
+    ensures { λ r. ⌜ r ≡ admissionReply answer ⌝ }
 {
     match answer {
-        Admission::Admitted => results(0, 0, 0, 0),
-        Admission::Refused(refused) => refusal(refused),
+        Acceptance::Accepted => results(0, 0, 0, 0),
+        Acceptance::Refused(refused) => refusal(refused),
     }
 }
 
-pub fn finished(answer: Finishing) -> Reply
-    ensures { λ r. ⌜ r ≡ finished answer ⌝ }
+pub fn finishing_reply(answer: Finishing) -> Reply
+    ensures { λ r. ⌜ r ≡ finishingReply answer ⌝ }
 {
     match answer {
         Finishing::Finished(extent) => results(
@@ -63,8 +63,8 @@ pub fn finished(answer: Finishing) -> Reply
     }
 }
 
-pub fn evaluated(answer: Evaluation) -> Reply
-    ensures { λ r. ⌜ r ≡ evaluated answer ⌝ }
+pub fn evaluation_reply(answer: Evaluation) -> Reply
+    ensures { λ r. ⌜ r ≡ evaluationReply answer ⌝ }
 {
     match answer {
         Evaluation::Evaluated(spent) => results(spent.steps, spent.left, 0, 0),
@@ -72,8 +72,8 @@ pub fn evaluated(answer: Evaluation) -> Reply
     }
 }
 
-pub fn judged(answer: Judgement) -> Reply
-    ensures { λ r. ⌜ r ≡ judged answer ⌝ }
+pub fn judgement_reply(answer: Judgement) -> Reply
+    ensures { λ r. ⌜ r ≡ judgementReply answer ⌝ }
 {
     match answer {
         Judgement::Judged(v) => results(
@@ -96,15 +96,15 @@ pub fn deliver(reply: Reply, answer: &mut [u64; 4]) -> u32
 }
 
 pub fn answer_evaluated(evaluation: Evaluation, answer: &mut [u64; 4]) -> u32
-    ensures { λ r. ⌜ r ≡ evaluated evaluation .number ⌝ }
-    ensures { λ r. ⌜ now (answer .exit) ≡ row (evaluated evaluation) ⌝ }
+    ensures { λ r. ⌜ r ≡ evaluationReply evaluation .number ⌝ }
+    ensures { λ r. ⌜ now (answer .exit) ≡ row (evaluationReply evaluation) ⌝ }
 {
-    deliver(evaluated(evaluation), answer)
+    deliver(evaluation_reply(evaluation), answer)
 }
 
 pub fn answer_judged(judgement: Judgement, answer: &mut [u64; 4]) -> u32
-    ensures { λ r. ⌜ r ≡ judged judgement .number ⌝ }
-    ensures { λ r. ⌜ now (answer .exit) ≡ row (judged judgement) ⌝ }
+    ensures { λ r. ⌜ r ≡ judgementReply judgement .number ⌝ }
+    ensures { λ r. ⌜ now (answer .exit) ≡ row (judgementReply judgement) ⌝ }
 {
-    deliver(judged(judgement), answer)
+    deliver(judgement_reply(judgement), answer)
 }

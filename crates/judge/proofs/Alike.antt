@@ -29,11 +29,11 @@ use Rattle.table.specs.WellFormed.{WellFormed}
 use Rattle.table.proofs.FoldLaws.{fold-below, length-fold}
 use Rattle.setting.specs.Interpretation.{Value, Interpretation, Fit, FitInputs, Same, AgreeUnmarked}
 use Rattle.setting.proofs.Checked.{below-of-fits}
-use Rattle.evaluate.specs.Values.{scalarValue, arrayValue, operated, valueBy, valueIn, valueOf, values, valueAt}
+use Rattle.evaluate.specs.Values.{scalarValue, arrayValue, operated, valueBy, valueIn, valueFrom, values, valueAt}
 use Rattle.evaluate.proofs.Folds.{value-below}
 use Rattle.evaluate.proofs.Fitting.{values-fit}
 use Rattle.table.proofs.OperandSorts.{same-sort, three, four, typing, two-placed}
-use Rattle.judge.specs.Conditions.{Condition, plain, settling, storeFree, conditionBy, conditionIn, conditionOf, conditions, conditionAt}
+use Rattle.judge.specs.Conditions.{Condition, plain, settling, storeFree, conditionBy, conditionIn, conditionFrom, conditions, conditionAt}
 use Rattle.judge.specs.Demand3.{Independence}
 
 -- at one term, whose indexes are below bound where it is an array: one condition, and where it is true one value; so too of each read,
@@ -161,15 +161,15 @@ fold-past : {A : Type 0} (step : List A → ℕ → A) (d : A) (k i : ℕ) → (
 fold-past step d k i b = List·getD-eq-default (fold step k) d (rw (length-fold step k) (omega arith))
 
 value-past : (w : List ℕ) (I : Interpretation) (k i : ℕ) → (i < k → ⊥) → valueIn (values w I k) i ≡ scalarValue 0
-value-past w I k i b = fold-past (λ vs j. valueOf w I (valueIn vs) (termAt w j)) (scalarValue 0) k i b
+value-past w I k i b = fold-past (λ vs j. valueFrom w I (valueIn vs) (termAt w j)) (scalarValue 0) k i b
 
 module _ (w : List ℕ) (marked : Term → Bool) (I : Interpretation) where
   -- of a term that is passed the list has its condition
   pub condition-below : (k i : ℕ) → i < k → conditionIn (conditions w marked I k) i ≡ conditionAt w marked I i
-  condition-below k i b = fold-below (λ cs j. conditionOf w marked (valueIn (values w I j)) (conditionIn cs) (termAt w j)) (plain false) k i b
+  condition-below k i b = fold-below (λ cs j. conditionFrom w marked (valueIn (values w I j)) (conditionIn cs) (termAt w j)) (plain false) k i b
 
   condition-past : (k i : ℕ) → (i < k → ⊥) → conditionIn (conditions w marked I k) i ≡ plain false
-  condition-past k i b = fold-past (λ cs j. conditionOf w marked (valueIn (values w I j)) (conditionIn cs) (termAt w j)) (plain false) k i b
+  condition-past k i b = fold-past (λ cs j. conditionFrom w marked (valueIn (values w I j)) (conditionIn cs) (termAt w j)) (plain false) k i b
 
 -- The table, term by term
 

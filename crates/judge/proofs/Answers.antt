@@ -12,7 +12,7 @@ use Rattle.ops.specs.Meaning.{bit, holds, apply}
 use Rattle.ops.specs.Condition.{settles}
 use Rattle.table.specs.Folds.{fold}
 use Rattle.table.specs.Terms.{terms, termAt}
-use Rattle.table.specs.Faults.{variable}
+use Rattle.table.specs.Faults.{isVariable}
 use Rattle.table.proofs.Admitted.{admission-sound}
 use Rattle.table.proofs.FoldLaws.{fold-same}
 use Rattle.setting.specs.Cells.{look}
@@ -29,7 +29,7 @@ use Rattle.evaluate.proofs.Refusals.{ready-numbers}
 use Rattle.evaluate.proofs.UnusedSlots.{values-same, value-at-same, numbers-same}
 use Rattle.judge.specs.declared.Judgement.{Judgement}
 use Rattle.judge.specs.declared.Judgement.the-variants.{Judged, NotJudged}
-use Rattle.judge.specs.Conditions.{Condition, conditionBy, conditionIn, conditionOf, conditions, conditionAt, truths, ownMarks}
+use Rattle.judge.specs.Conditions.{Condition, conditionBy, conditionIn, conditionFrom, conditions, conditionAt, truths, ownMarks}
 use Rattle.judge.specs.Judgement.{ruleIn, ruleCondition, verdictBy, verdict, judgement, roomAfter}
 use Rattle.judge.specs.Bench.{either}
 use Rattle.judge.specs.Laws.{NotJudgedBy, JudgementNumbers, UnusedUnjudged, AlwaysDependent}
@@ -47,13 +47,13 @@ judgement-numbers w values cells allowance room =
 
 -- Two interpretations that are one at every slot that a variable uses
 
-module _ (w : List ℕ) (I I′ : Interpretation) (one : (k : ℕ) → k < terms w → variable (termAt w k) ≡ true → I (termAt w k .p) ≡ I′ (termAt w k .p)) where
+module _ (w : List ℕ) (I I′ : Interpretation) (one : (k : ℕ) → k < terms w → isVariable (termAt w k) ≡ true → I (termAt w k .p) ≡ I′ (termAt w k .p)) where
   conditions-same : (n : ℕ) → n ≤ terms w → conditions w ownMarks I n ≡ conditions w ownMarks I′ n
-  conditions-same n b = fold-same _ _ n (λ k c l. ap (λ (vs : List Value). conditionOf w ownMarks (valueIn vs) (conditionIn l) (termAt w k)) (values-same w I I′ one k (omega arith)))
+  conditions-same n b = fold-same _ _ n (λ k c l. ap (λ (vs : List Value). conditionFrom w ownMarks (valueIn vs) (conditionIn l) (termAt w k)) (values-same w I I′ one k (omega arith)))
 
   condition-at-same : (k : ℕ) → k < terms w → conditionAt w ownMarks I k ≡ conditionAt w ownMarks I′ k
   condition-at-same k b =
-      ap₂ (λ (vs : List Value) (cs : List Condition). conditionOf w ownMarks (valueIn vs) (conditionIn cs) (termAt w k)) (values-same w I I′ one k (omega arith)) (conditions-same k (omega arith))
+      ap₂ (λ (vs : List Value) (cs : List Condition). conditionFrom w ownMarks (valueIn vs) (conditionIn cs) (termAt w k)) (values-same w I I′ one k (omega arith)) (conditions-same k (omega arith))
 
   runs-same : (rest : List ℕ) → numbers w I (terms w) ++ truths w ownMarks I (terms w) ++ rest ≡ numbers w I′ (terms w) ++ truths w ownMarks I′ (terms w) ++ rest
   runs-same rest = ap₂ (λ a (cs : List Condition). a ++ map (λ c. bit (c .free)) cs ++ rest) (numbers-same w I I′ one) (conditions-same (terms w) (omega arith))
@@ -65,7 +65,7 @@ module _ (w values values′ cells : List ℕ) (allowance room : ℕ) (one : One
   abbrev I′ : Interpretation
   I′ = interpret values′ (look cells)
 
-  inputs : (k : ℕ) → k < terms w → variable (termAt w k) ≡ true → I (termAt w k .p) ≡ I′ (termAt w k .p)
+  inputs : (k : ℕ) → k < terms w → isVariable (termAt w k) ≡ true → I (termAt w k .p) ≡ I′ (termAt w k .p)
   inputs = input-same w values values′ one (look cells)
 
   -- a table that is judged has a rule

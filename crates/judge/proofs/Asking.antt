@@ -10,7 +10,7 @@ use lib.ListN.{getD}
 use Rattle.ops.proofs.Booleans.{and-shut}
 use Rattle.table.specs.declared.words.Term.{Term}
 use Rattle.table.specs.Terms.{terms, termAt}
-use Rattle.table.specs.Faults.{reading}
+use Rattle.table.specs.Faults.{isRead}
 use Rattle.table.specs.WellFormed.{WellFormed}
 use Rattle.setting.specs.declared.cells.Cell.{Cell}
 use Rattle.setting.specs.Cells.{lookFrom}
@@ -21,7 +21,7 @@ use Rattle.evaluate.specs.Code.Turns as evaluating
 use Rattle.evaluate.proofs.Runs as runs
 use Rattle.evaluate.proofs.Runs.{inCells, looked, Turning}
 use Rattle.judge.specs.Conditions.{truths}
-use Rattle.judge.specs.Code.Readings.{truthIn}
+use Rattle.judge.specs.Code.Labelled.{truthIn}
 use Rattle.judge.specs.Code.Turns.{turnOf}
 use Rattle.judge.proofs.Meaning.{answerTo}
 
@@ -32,13 +32,13 @@ module _ (w row front ts : List ℕ) (count n i : ℕ) where
 
   pub turning : Turning n count i (turnOf w row count n front ts i)
   unfolding turnOf
-  turning = by (reading (termAt w i) && truthIn ts (termAt w i .q))
+  turning = by (isRead (termAt w i) && truthIn ts (termAt w i .q))
     where
       by : (b : Bool) → Turning n count i (cond b asksCell (evaluating.turnOf w row count n front i))
       by true = record { going = refl; place = refl; most = omega arith }
       by false = runs.turning w row front count n i
 
-  free-asks : reading (termAt w i) ≡ true → truthIn ts (termAt w i .q) ≡ true → turnOf w row count n front ts i ≡ asksCell
+  free-asks : isRead (termAt w i) ≡ true → truthIn ts (termAt w i .q) ≡ true → turnOf w row count n front ts i ≡ asksCell
   unfolding turnOf
   free-asks r e = rw (r, e)
 
@@ -49,7 +49,7 @@ module _ (w row front ts : List ℕ) (count n i : ℕ) where
 -- the answer to a read
 pub answer-is : (limit : ℕ) (w : List ℕ) (marked : Term → Bool) (row : List ℕ) (cells : ℕ → Cell) (count n : ℕ) (f : WellFormed limit w) (i : ℕ) (b : i < terms w) (turn : Turn)
     → turn ≡ turnOf w row count n (numbers w (inCells row cells count) i) (truths w marked (inCells row cells count) i) i
-    → (answer : ℕ) → answer ≡ looked cells turn → reading (termAt w i) ≡ true → answer ≡ answerTo limit w marked row (λ slot j other. lookFrom cells count 0 slot j other) f i b (truthIn (truths w marked (inCells row cells count) i) (termAt w i .q))
+    → (answer : ℕ) → answer ≡ looked cells turn → isRead (termAt w i) ≡ true → answer ≡ answerTo limit w marked row (λ slot j other. lookFrom cells count 0 slot j other) f i b (truthIn (truths w marked (inCells row cells count) i) (termAt w i .q))
 answer-is limit w marked row cells count n f i b turn asks answer answered r = by (truthIn (truths w marked (inCells row cells count) i) (termAt w i .q)) refl
   where
     by : (z : Bool) → truthIn (truths w marked (inCells row cells count) i) (termAt w i .q) ≡ z → answer ≡ answerTo limit w marked row (λ slot j other. lookFrom cells count 0 slot j other) f i b z

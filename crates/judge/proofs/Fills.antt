@@ -11,7 +11,7 @@ use Rattle.ops.proofs.Booleans.{never}
 use Rattle.table.specs.Folds.{fold}
 use Rattle.table.specs.declared.words.Term.{Term}
 use Rattle.table.specs.Terms.{terms, termAt}
-use Rattle.table.specs.Faults.{reading}
+use Rattle.table.specs.Faults.{isRead}
 use Rattle.table.specs.WellFormed.{WellFormed}
 use Rattle.table.proofs.FoldLaws.{map-fold-more}
 use Rattle.setting.specs.declared.cells.Cell.{Cell}
@@ -20,20 +20,20 @@ use Rattle.setting.specs.Interpretation.{Interpretation}
 use Rattle.evaluate.specs.declared.turns.Turn.{Turn}
 use Rattle.evaluate.specs.Values.{valueIn, values, valueAt, numbers}
 use Rattle.evaluate.specs.Code.Turns as evaluating
-use Rattle.evaluate.specs.Code.Turns.{readingAt, nextRead, onward}
+use Rattle.evaluate.specs.Code.Turns.{isReadAt, nextRead, onward}
 use Rattle.evaluate.proofs.Folds.{length-numbers, numbers-more}
 use Rattle.evaluate.proofs.Onward.{Arrived, arrived}
 use Rattle.evaluate.proofs.Runs.{inCells, Running, Turning, at-is, inside}
-use Rattle.judge.specs.declared.reads.Reading.{Reading}
-use Rattle.judge.specs.Conditions.{plain, conditionIn, conditionOf, conditions, conditionAt, truths}
-use Rattle.judge.specs.Code.Readings.{truthIn, readingOf, written, noted}
+use Rattle.judge.specs.declared.reads.Labelled.{Labelled}
+use Rattle.judge.specs.Conditions.{plain, conditionIn, conditionFrom, conditions, conditionAt, truths}
+use Rattle.judge.specs.Code.Labelled.{truthIn, labelledOf, entered, noted}
 use Rattle.judge.specs.Code.Turns.{turnOf, turnHere}
-use Rattle.judge.proofs.Meaning.{length-truths, answerTo, reading-is}
+use Rattle.judge.proofs.Meaning.{length-truths, answerTo, labelled-is}
 use Rattle.judge.proofs.Asking.{turning, plain-asks, answer-is}
-use Rattle.judge.proofs.Rooms.{laid, laid-length, laid-front, laid-truths, laid-more, laid-none}
+use Rattle.judge.proofs.Rooms.{runs, laid-length, laid-front, laid-truths, laid-more, laid-none}
 
 truths-more : (w : List ℕ) (marked : Term → Bool) (I : Interpretation) (k : ℕ) → truths w marked I (k + 1) ≡ truths w marked I k ++ (bit (conditionAt w marked I k .free) ∷ [])
-truths-more w marked I k = map-fold-more (λ cs i. conditionOf w marked (valueIn (values w I i)) (conditionIn cs) (termAt w i)) (λ c. bit (c .free)) k
+truths-more w marked I k = map-fold-more (λ cs i. conditionFrom w marked (valueIn (values w I i)) (conditionIn cs) (termAt w i)) (λ c. bit (c .free)) k
 
 module _ (w : List ℕ) (marked : Term → Bool) (row : List ℕ) (cells : ℕ → Cell) (count n : ℕ) (begin : List ℕ) where
   abbrev I : Interpretation
@@ -41,7 +41,7 @@ module _ (w : List ℕ) (marked : Term → Bool) (row : List ℕ) (cells : ℕ �
 
   -- the room before term i of n, which began as begin, and what the term asks
   abbrev pub filled : ℕ → List ℕ
-  filled i = laid (numbers w I i) (truths w marked I i) n i begin
+  filled i = runs (numbers w I i) (truths w marked I i) n i begin
 
   abbrev pub asking : ℕ → Turn
   asking i = turnOf w row count n (numbers w I i) (truths w marked I i) i
@@ -69,21 +69,21 @@ module _ (w : List ℕ) (marked : Term → Bool) (row : List ℕ) (cells : ℕ �
       long = laid-length (numbers w I i) (truths w marked I i) n i begin enough within (length-numbers w I i) (length-truths w marked I i)
 
     -- a term notes its value and its truth
-    wrote : (i answer : ℕ) (b : i < terms w) → (reading (termAt w i) ≡ true → answer ≡ answerTo limit w marked row (λ slot j other. lookFrom cells count 0 slot j other) f i b (truthIn (truths w marked I i) (termAt w i .q)))
+    wrote : (i answer : ℕ) (b : i < terms w) → (isRead (termAt w i) ≡ true → answer ≡ answerTo limit w marked row (λ slot j other. lookFrom cells count 0 slot j other) f i b (truthIn (truths w marked I i) (termAt w i .q)))
         → noted w marked row n answer (filled i) i ≡ filled (i + 1)
     wrote i answer b h =
-        let meant : Reading = record { value = valueAt w I i .num; free = conditionAt w marked I i .free } in
-        ap (λ (r : Reading). written r n (filled i) i)
-        (ap₂ (λ (l m : List ℕ). readingOf w marked row l m (termAt w i) answer) (front-is i (omega arith)) (truths-are i (omega arith))
-        ∙ reading-is limit w marked row (λ slot j other. lookFrom cells count 0 slot j other) f i b answer h)
+        let meant : Labelled = record { value = valueAt w I i .num; free = conditionAt w marked I i .free } in
+        ap (λ (r : Labelled). entered r n (filled i) i)
+        (ap₂ (λ (l m : List ℕ). labelledOf w marked row l m (termAt w i) answer) (front-is i (omega arith)) (truths-are i (omega arith))
+        ∙ labelled-is limit w marked row (λ slot j other. lookFrom cells count 0 slot j other) f i b answer h)
         ∙ laid-more (numbers w I i) (truths w marked I i) n i begin enough (omega arith) (length-numbers w I i) (length-truths w marked I i) (omega arith) (meant .value) (bit (meant .free))
-        ∙ sym (ap₂ (λ (l m : List ℕ). laid l m n (i + 1) begin) (numbers-more w I i) (truths-more w marked I i))
+        ∙ sym (ap₂ (λ (l m : List ℕ). runs l m n (i + 1) begin) (numbers-more w I i) (truths-more w marked I i))
 
     -- from term i on to the next read
     module _ (i : ℕ) (within : i ≤ n) (room next : List ℕ) (after : Turn) (is : room ≡ filled i)
         (e : next ≡ onward w (noted w marked row n 0) n room i) (t : after ≡ turnHere w row count n next (nextRead w n i)) where
-      there : Arrived (readingAt w) (noted w marked row n 0) filled n (λ k b s. wrote k 0 (omega arith) (λ r. never (sym s ∙ r))) i room
-      there = arrived (readingAt w) (noted w marked row n 0) filled n (λ k b s. wrote k 0 (omega arith) (λ r. never (sym s ∙ r))) i room within is
+      there : Arrived (isReadAt w) (noted w marked row n 0) filled n (λ k b s. wrote k 0 (omega arith) (λ r. never (sym s ∙ r))) i room
+      there = arrived (isReadAt w) (noted w marked row n 0) filled n (λ k b s. wrote k 0 (omega arith) (λ r. never (sym s ∙ r))) i room within is
 
       arrive : Filling next after
       arrive =
@@ -103,7 +103,7 @@ module _ (w : List ℕ) (marked : Term → Bool) (row : List ℕ) (cells : ℕ �
       pub same-length : length room ≡ length begin
       same-length = ap length (h .is) ∙ long (h .i) (h .within)
 
-      module _ (on : turn .on ≡ true) (answer : ℕ) (answered : answer ≡ lookFrom cells (turn .count) 0 (turn .slot) (turn .index) (turn .other)) where
+      module _ (on : turn .pending ≡ true) (answer : ℕ) (answered : answer ≡ lookFrom cells (turn .count) 0 (turn .slot) (turn .index) (turn .other)) where
         here : h .i < n
         here = inside n filled asking count asks room turn h on
 

@@ -18,7 +18,7 @@ use Rattle.ops.proofs.Booleans.{never}
 use Rattle.table.specs.declared.words.Term.{Term}
 use Rattle.table.specs.Terms.{terms, termAt, sortAt, array, vectorOf, sameSort}
 use Rattle.table.specs.Ranks.{rankOf, fieldsOf, slotted, immediate, reads, writes}
-use Rattle.table.specs.Faults.{storing, reading}
+use Rattle.table.specs.Faults.{isStore, isRead}
 use Rattle.table.specs.WellFormed.{WellFormed}
 use Rattle.table.proofs.FoldLaws.{length-map-fold, map-fold-in, map-fold-more}
 use Rattle.table.proofs.SoundTerms.{store-below}
@@ -30,11 +30,11 @@ use Rattle.evaluate.proofs.Chains.{bottom-end, bottom-on}
 use Rattle.evaluate.proofs.Folds.{value-below, number-in}
 use Rattle.evaluate.proofs.Meaning.{variable-cell, same-array, reads-select, number-below, cellBeneath, asked, valueRead, number-is}
 use Rattle.table.proofs.OperandSorts.{array-op, three, four, op-at, typing, typing-as, placing-as, two-placed, three-placed}
-use Rattle.judge.specs.declared.reads.Reading.{Reading}
-use Rattle.judge.specs.Conditions.{Condition, plain, storeFree, conditionBy, conditionIn, conditionOf, conditions, conditionAt, truths}
-use Rattle.judge.specs.Code.Readings.{truthIn, overlaid, readingAt, readingBy, settledBy, truthOf, readingOf}
+use Rattle.judge.specs.declared.reads.Labelled.{Labelled}
+use Rattle.judge.specs.Conditions.{Condition, plain, storeFree, conditionBy, conditionIn, conditionFrom, conditions, conditionAt, truths}
+use Rattle.judge.specs.Code.Labelled.{truthIn, overlaid, labelledAt, labelledBy, settledBy, truthOf, labelledOf}
 use Rattle.judge.proofs.Alike.{condition-below}
-use Rattle.judge.proofs.Chains.{reading-end, reading-store, reading-value, reading-unfree}
+use Rattle.judge.proofs.Chains.{labelled-end, labelled-store, labelled-value, labelled-unfree}
 
 pub holds-bit : (b : Bool) → holds (bit b) ≡ b
 holds-bit true = refl
@@ -44,11 +44,11 @@ holds-bit false = refl
 
 module _ (w : List ℕ) (marked : Term → Bool) (I : Interpretation) where
   pub length-truths : (k : ℕ) → length (truths w marked I k) ≡ k
-  length-truths k = length-map-fold (λ cs i. conditionOf w marked (valueIn (values w I i)) (conditionIn cs) (termAt w i)) (λ c. bit (c .free)) k
+  length-truths k = length-map-fold (λ cs i. conditionFrom w marked (valueIn (values w I i)) (conditionIn cs) (termAt w i)) (λ c. bit (c .free)) k
 
   pub truth-in : (k i : ℕ) → truthIn (truths w marked I k) i ≡ conditionIn (conditions w marked I k) i .free
   truth-in k i =
-      ap holds (map-fold-in (λ cs i. conditionOf w marked (valueIn (values w I i)) (conditionIn cs) (termAt w i)) (λ c. bit (c .free)) (plain false) k i)
+      ap holds (map-fold-in (λ cs i. conditionFrom w marked (valueIn (values w I i)) (conditionIn cs) (termAt w i)) (λ c. bit (c .free)) (plain false) k i)
       ∙ holds-bit (conditionIn (conditions w marked I k) i .free)
 
 -- One array term
@@ -68,12 +68,12 @@ module _ (limit : ℕ) (w : List ℕ) (marked : Term → Bool) (row : List ℕ) 
   truth-below k i b = truth-in w marked I k i ∙ ap (λ (c : Condition). c .free) (condition-below w marked I k i b)
 
   -- what a read of array a at j is, by the meanings
-  abbrev meant : ℕ → ℕ → Bool → Reading
+  abbrev meant : ℕ → ℕ → Bool → Labelled
   meant a j cj = record { value = W a .cell j; free = K a .readFree j cj }
 
   module _ (k a : ℕ) (c : a < k) (d : a < terms w) (r : array (sortAt w a) ≡ true) (j : ℕ) (cj : Bool)
       (beneath : termAt w a .p < a → array (sortAt w (termAt w a .p)) ≡ true
-      → readingAt w (numbers w I k) (truths w marked I k) (termAt w a .p) j cj (cellBeneath limit w row look f (termAt w a .p) j) ≡ meant (termAt w a .p) j cj) where
+      → labelledAt w (numbers w I k) (truths w marked I k) (termAt w a .p) j cj (cellBeneath limit w row look f (termAt w a .p) j) ≡ meant (termAt w a .p) j cj) where
     abbrev x : Term
     x = termAt w a
 
@@ -96,23 +96,23 @@ module _ (limit : ℕ) (w : List ℕ) (marked : Term → Bool) (row : List ℕ) 
     unfolding conditionBy
     input-free e = ap (λ (b : Bool). b && cj) (truth-below k a c ∙ own-by Variable e) ∙ sym (free-by Variable e)
 
-    input-cell : opOf (x .op) ≡ Variable → storing x ≡ false → cellBeneath limit w row look f a j ≡ W a .cell j
+    input-cell : opOf (x .op) ≡ Variable → isStore x ≡ false → cellBeneath limit w row look f a j ≡ W a .cell j
     input-cell e no-store =
         sym (cell-by Variable e
         ∙ variable-cell I v (sortAt w (x .p) .n) x j r
         ∙ ap (λ (slot : ℕ). look slot j (getD row slot 0)) (bottom-end w (store-below limit w f) a x refl no-store))
 
-    input-reading : opOf (x .op) ≡ Variable → readingAt w (numbers w I k) (truths w marked I k) a j cj (cellBeneath limit w row look f a j) ≡ meant a j cj
-    input-reading e =
-        let no-store : storing x ≡ false = ap (λ (o : Op). writes o) e in
+    input-labelled : opOf (x .op) ≡ Variable → labelledAt w (numbers w I k) (truths w marked I k) a j cj (cellBeneath limit w row look f a j) ≡ meant a j cj
+    input-labelled e =
+        let no-store : isStore x ≡ false = ap (λ (o : Op). writes o) e in
         let vs = input-cell e no-store in
         let fs = input-free e in
-        sym (reading-end w (numbers w I k) (truths w marked I k) (store-below limit w f) j cj (cellBeneath limit w row look f a j) a no-store)
+        sym (labelled-end w (numbers w I k) (truths w marked I k) (store-below limit w f) j cj (cellBeneath limit w row look f a j) a no-store)
         ∙ (λ i. record { value = vs i; free = fs i })
 
     -- a store, whose operands are below
     module _ (e : opOf (x .op) ≡ Store) (pb : x .p < a) (qb : x .q < a) (rb : x .r < a) (arr : array (sortAt w (x .p)) ≡ true) where
-      stores : storing x ≡ true
+      stores : isStore x ≡ true
       stores = ap (λ (o : Op). writes o) e
 
       -- what the front of the room holds
@@ -128,20 +128,20 @@ module _ (limit : ℕ) (w : List ℕ) (marked : Term → Bool) (row : List ℕ) 
       tr : truthIn (truths w marked I k) (x .r) ≡ K (x .r) .free
       tr = truth-below k (x .r) (omega arith)
 
-      below : readingAt w (numbers w I k) (truths w marked I k) (x .p) j cj (cellBeneath limit w row look f a j) ≡ meant (x .p) j cj
+      below : labelledAt w (numbers w I k) (truths w marked I k) (x .p) j cj (cellBeneath limit w row look f a j) ≡ meant (x .p) j cj
       below =
-          ap (λ (slot : ℕ). readingAt w (numbers w I k) (truths w marked I k) (x .p) j cj (look slot j (getD row slot 0))) (bottom-on w (store-below limit w f) a x refl stores)
+          ap (λ (slot : ℕ). labelledAt w (numbers w I k) (truths w marked I k) (x .p) j cj (look slot j (getD row slot 0))) (bottom-on w (store-below limit w f) a x refl stores)
           ∙ beneath pb arr
 
       -- the store by the meanings of its operands
-      abbrev laid : Reading
-      laid =
+      abbrev runs : Labelled
+      runs =
           record {
             value = cond (eqb (W (x .q) .num) j) (W (x .r) .num) (W (x .p) .cell j);
             free = chosen (K (x .q) .free && cj) (eqb (W (x .q) .num) j) (K (x .r) .free) (K (x .p) .readFree j cj) (eqb (W (x .r) .num) (W (x .p) .cell j));
           }
 
-      from-code : overlaid (numbers w I k) (truths w marked I k) x j cj (readingAt w (numbers w I k) (truths w marked I k) (x .p) j cj (cellBeneath limit w row look f a j)) ≡ laid
+      from-code : overlaid (numbers w I k) (truths w marked I k) x j cj (labelledAt w (numbers w I k) (truths w marked I k) (x .p) j cj (cellBeneath limit w row look f a j)) ≡ runs
       from-code =
           λ i.
           record {
@@ -167,37 +167,37 @@ module _ (limit : ℕ) (w : List ℕ) (marked : Term → Bool) (row : List ℕ) 
       cr : co (x .r) ≡ K (x .r)
       cr = condition-below w marked I a (x .r) rb
 
-      cell-is : W a .cell j ≡ laid .value
+      cell-is : W a .cell j ≡ runs .value
       unfolding valueBy
       cell-is = cell-by Store e ∙ (λ i. cond (eqb (vq i .num) j) (vr i .num) (vp i .cell j))
 
-      free-is : K a .readFree j cj ≡ laid .free
+      free-is : K a .readFree j cj ≡ runs .free
       unfolding conditionBy
       free-is =
           free-by Store e
           ∙ (λ i. chosen (cq i .free && cj) (eqb (vq i .num) j) (cr i .free) (cp i .readFree j cj) (eqb (vr i .num) (vp i .cell j)))
 
-      store-here : readingAt w (numbers w I k) (truths w marked I k) a j cj (cellBeneath limit w row look f a j) ≡ meant a j cj
+      store-here : labelledAt w (numbers w I k) (truths w marked I k) a j cj (cellBeneath limit w row look f a j) ≡ meant a j cj
       store-here =
-          sym (reading-store w (numbers w I k) (truths w marked I k) (store-below limit w f) j cj (cellBeneath limit w row look f a j) a stores)
+          sym (labelled-store w (numbers w I k) (truths w marked I k) (store-below limit w f) j cj (cellBeneath limit w row look f a j) a stores)
           ∙ from-code
           ∙ sym (λ i. record { value = cell-is i; free = free-is i })
 
-    store-reading : opOf (x .op) ≡ Store → readingAt w (numbers w I k) (truths w marked I k) a j cj (cellBeneath limit w row look f a j) ≡ meant a j cj
-    store-reading e =
+    store-labelled : opOf (x .op) ≡ Store → labelledAt w (numbers w I k) (truths w marked I k) a j cj (cellBeneath limit w row look f a j) ≡ meant a j cj
+    store-labelled e =
         let place = three-placed a x (placing-as w a (f .sound a d) Store e) in
         let sorts = four (array (sortAt w a)) (sameSort (sortAt w (x .p)) (sortAt w a)) (vectorOf (sortAt w a .m) (sortAt w (x .q))) (vectorOf (sortAt w a .n) (sortAt w (x .r))) (typing-as w a (f .sound a d) Store e) in
         store-here e (place .0) (place .1) (place .2) (same-array (sortAt w (x .p)) (sortAt w a) (sorts .1) r)
 
-    reading-step : readingAt w (numbers w I k) (truths w marked I k) a j cj (cellBeneath limit w row look f a j) ≡ meant a j cj
-    reading-step =
-        ⊎-elim input-reading store-reading
+    labelled-step : labelledAt w (numbers w I k) (truths w marked I k) a j cj (cellBeneath limit w row look f a j) ≡ meant a j cj
+    labelled-step =
+        ⊎-elim input-labelled store-labelled
         (array-op (opOf (x .op)) (sortAt w a) (sortAt w (x .p)) (sortAt w (x .q)) (sortAt w (x .r)) (op-at w a (f .sound a d)) (typing w a (f .sound a d)) r)
 
-  reading-within : (n k a : ℕ) → a < n → a < k → a < terms w → array (sortAt w a) ≡ true → (j : ℕ) (cj : Bool)
-      → readingAt w (numbers w I k) (truths w marked I k) a j cj (cellBeneath limit w row look f a j) ≡ meant a j cj
-  reading-within zero k a b c d r j cj = absurd (not-suc-le-zero b)
-  reading-within (suc n) k a b c d r j cj = reading-step k a c d r j cj (λ pb arr. reading-within n k (termAt w a .p) (omega arith) (omega arith) (omega arith) arr j cj)
+  labelled-within : (n k a : ℕ) → a < n → a < k → a < terms w → array (sortAt w a) ≡ true → (j : ℕ) (cj : Bool)
+      → labelledAt w (numbers w I k) (truths w marked I k) a j cj (cellBeneath limit w row look f a j) ≡ meant a j cj
+  labelled-within zero k a b c d r j cj = absurd (not-suc-le-zero b)
+  labelled-within (suc n) k a b c d r j cj = labelled-step k a c d r j cj (λ pb arr. labelled-within n k (termAt w a .p) (omega arith) (omega arith) (omega arith) arr j cj)
 
 -- A term that is no read: its truth by its operator
 
@@ -246,15 +246,15 @@ module _ (limit : ℕ) (w : List ℕ) (marked : Term → Bool) (row : List ℕ) 
   answerTo cj = cond cj (asked limit w row look f k b) (valueRead limit w row look f k b)
 
   -- either way it is the reading along the chain over the variable's cell
-  answered : (cj : Bool) (answer : ℕ) → answer ≡ answerTo cj → readingBy cj w N T here answer ≡ readingAt w N T (here .p) (getD N (here .q) 0) cj (asked limit w row look f k b)
-  answered true answer h = ap (readingAt w N T (here .p) (getD N (here .q) 0) true) h
+  answered : (cj : Bool) (answer : ℕ) → answer ≡ answerTo cj → labelledBy cj w N T here answer ≡ labelledAt w N T (here .p) (getD N (here .q) 0) cj (asked limit w row look f k b)
+  answered true answer h = ap (labelledAt w N T (here .p) (getD N (here .q) 0) true) h
   answered false answer h =
-      let vs = h ∙ sym (reading-value w N T (store-below limit w f) (getD N (here .q) 0) false (asked limit w row look f k b) (here .p)) in
-      let fs = sym (reading-unfree w N T (here .p) (getD N (here .q) 0) (asked limit w row look f k b)) in
+      let vs = h ∙ sym (labelled-value w N T (store-below limit w f) (getD N (here .q) 0) false (asked limit w row look f k b) (here .p)) in
+      let fs = sym (labelled-unfree w N T (here .p) (getD N (here .q) 0) (asked limit w row look f k b)) in
       λ i. record { value = vs i; free = fs i }
 
   read-here : (answer : ℕ) → answer ≡ answerTo (truthIn T (here .q)) → opOf (here .op) ≡ Select
-      → _≡_ {A = Reading} (readingBy (truthIn T (here .q)) w N T here answer) (record { value = valueAt w In k .num; free = conditionAt w marked In k .free })
+      → _≡_ {A = Labelled} (labelledBy (truthIn T (here .q)) w N T here answer) (record { value = valueAt w In k .num; free = conditionAt w marked In k .free })
   unfolding valueBy conditionBy
   read-here answer h e =
       let place = two-placed k here (placing-as w k (f .sound k b) Select e) in
@@ -265,18 +265,18 @@ module _ (limit : ℕ) (w : List ℕ) (marked : Term → Bool) (row : List ℕ) 
       let vp = value-below w In k (here .p) pb in
       let cp = condition-below w marked In k (here .p) pb in
       answered (truthIn T (here .q)) answer h
-      ∙ reading-within limit w marked row look f (suc (here .p)) k (here .p) (omega arith) pb (omega arith) (sorts .0) (getD N (here .q) 0) (truthIn T (here .q))
+      ∙ labelled-within limit w marked row look f (suc (here .p)) k (here .p) (omega arith) pb (omega arith) (sorts .0) (getD N (here .q) 0) (truthIn T (here .q))
       ∙ (λ i. record { value = valueAt w In (here .p) .cell (nq i); free = conditionAt w marked In (here .p) .readFree (nq i) (tq i) })
       ∙ sym (λ i. record { value = vp i .cell (valueIn (values w In k) (here .q) .num); free = cp i .readFree (valueIn (values w In k) (here .q) .num) (conditionIn (conditions w marked In k) (here .q) .free) })
       ∙ sym (ap (λ (o : Op). record { value = valueBy In (valueIn (values w In k)) (sortAt w (here .p) .n) here o .num; free = conditionBy marked (valueIn (values w In k)) (conditionIn (conditions w marked In k)) (sortAt w (here .p) .n) here o .free }) e)
 
-  pub reading-is : (answer : ℕ) → (reading here ≡ true → answer ≡ answerTo (truthIn T (here .q)))
-      → readingOf w marked row N T here answer ≡ record { value = valueAt w In k .num; free = conditionAt w marked In k .free }
-  unfolding readingOf
-  reading-is answer h = go (reading here) refl
+  pub labelled-is : (answer : ℕ) → (isRead here ≡ true → answer ≡ answerTo (truthIn T (here .q)))
+      → labelledOf w marked row N T here answer ≡ record { value = valueAt w In k .num; free = conditionAt w marked In k .free }
+  unfolding labelledOf
+  labelled-is answer h = go (isRead here) refl
     where
-      go : (z : Bool) → reading here ≡ z
-          → cond z (readingBy (truthIn T (here .q)) w N T here answer) (record { value = numberOf w row N here answer; free = truthOf w marked N T here })
+      go : (z : Bool) → isRead here ≡ z
+          → cond z (labelledBy (truthIn T (here .q)) w N T here answer) (record { value = numberOf w row N here answer; free = truthOf w marked N T here })
           ≡ record { value = valueAt w In k .num; free = conditionAt w marked In k .free }
       go true e = read-here answer (h e) (reads-select (opOf (here .op)) e)
       go false e =

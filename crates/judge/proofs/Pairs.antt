@@ -7,10 +7,10 @@ use Prim.Native.Nat.{ℕ, _<_}
 use borrow.Author.Tests.{lt-ltb}
 use Rattle.ops.specs.Meaning.{apply}
 use Rattle.ops.specs.Condition.{settles}
-use Rattle.table.specs.declared.Admission.the-variants.{Admitted}
+use Rattle.table.specs.declared.Acceptance.the-variants.{Accepted}
 use Rattle.table.specs.Bench.{ruleG}
-use Rattle.table.specs.Folds.{fold}
-use Rattle.table.specs.Faults.{typed, anyBelow, clash, chain, faultIf, fault}
+use Rattle.table.specs.Folds.{fold, anyBelow}
+use Rattle.table.specs.Faults.{typed, clash, chain, faultIf, fault}
 use Rattle.table.specs.Admission.{scan, admissionWithin}
 use Rattle.table.proofs.Admitted.{admission-sound}
 use Rattle.setting.specs.Cells.{lookFrom, look}
@@ -26,7 +26,7 @@ use Rattle.evaluate.specs.Values.{valueBy}
 use Rattle.judge.specs.declared.Judgement.the-variants.{Judged}
 use Rattle.judge.specs.Conditions.{conditionBy, ownMarks}
 use Rattle.judge.specs.Judgement.{judgement}
-use Rattle.judge.specs.Demand3.{Promise}
+use Rattle.judge.specs.Demand3.{JudgementPromise}
 use Rattle.judge.specs.Pairs.{Pair, Compared, otherVector, otherListing, otherArray, ComparedPairs, SureOfG}
 use Rattle.judge.proofs.Promises.{demand3}
 
@@ -39,7 +39,7 @@ compared x first second same =
       first = first;
       second = second;
       agree = agree;
-      same = subst (Promise (x .table) (x .values) (x .cells)) first (demand3 ownMarks (x .table) (x .values) (x .cells) 9 99) .same (x .values′) (x .cells′) 9 99 (x .verdict′) second agree;
+      same = subst (JudgementPromise (x .table) (x .values) (x .cells)) first (demand3 ownMarks (x .table) (x .values) (x .cells) 9 99) .same (x .values′) (x .cells′) 9 99 (x .verdict′) second agree;
     }
 
 -- by computation
@@ -50,7 +50,7 @@ compared-pairs = (compared otherVector refl refl refl, compared otherListing ref
 pub sure-of-G : SureOfG
 unfolding admissionWithin scan fault faultIf typed anyBelow clash chain steps fold valueBy conditionBy apply settles lookFrom check slotSort arrayEntry afford
 sure-of-G x b =
-    let checked : check ruleG (0 ∷ x ∷ 1 ∷ []) [] ≡ Admitted = rw (lt-ltb x 256 b) in
+    let checked : check ruleG (0 ∷ x ∷ 1 ∷ []) [] ≡ Accepted = rw (lt-ltb x 256 b) in
     let fit = checked-fits 512 ruleG (0 ∷ x ∷ 1 ∷ []) [] (admission-sound 512 ruleG refl) checked in
     let agree = agreement-computed ruleG ownMarks (0 ∷ 5 ∷ 1 ∷ []) (look []) (0 ∷ x ∷ 1 ∷ []) (look []) refl in
-    subst (Promise ruleG (0 ∷ 5 ∷ 1 ∷ []) []) (compared-pairs .0 .first) (demand3 ownMarks ruleG (0 ∷ 5 ∷ 1 ∷ []) [] 9 99) .sure refl (interpret (0 ∷ x ∷ 1 ∷ []) (look [])) fit agree
+    subst (JudgementPromise ruleG (0 ∷ 5 ∷ 1 ∷ []) []) (compared-pairs .0 .first) (demand3 ownMarks ruleG (0 ∷ 5 ∷ 1 ∷ []) [] 9 99) .sure refl (interpret (0 ∷ x ∷ 1 ∷ []) (look [])) fit agree

@@ -7,11 +7,11 @@ use Prim.Native.Nat.{ℕ, _-_, _*_}
 use Prim.{tt}
 use lib.Dec.{ltb}
 use Rattle.ops.proofs.Booleans.{and-parts}
-use Rattle.table.specs.declared.Admission.{Admission}
-use Rattle.table.specs.declared.Admission.the-variants.{Admitted, Refused}
+use Rattle.table.specs.declared.Acceptance.{Acceptance}
+use Rattle.table.specs.declared.Acceptance.the-variants.{Accepted, Refused}
 use Rattle.table.specs.declared.words.Term.{Term}
 use Rattle.table.specs.Terms.{terms}
-use Rattle.table.specs.Admission.{admissionWithin}
+use Rattle.table.specs.Admission.{andThen, admissionWithin}
 use Rattle.table.specs.WellFormed.{WellFormed}
 use Rattle.table.proofs.Admitted.{admission-sound}
 use Rattle.setting.specs.Cells.{look}
@@ -21,13 +21,13 @@ use Rattle.setting.proofs.Checked.{checked-fits}
 use Rattle.evaluate.specs.declared.Evaluation.{Evaluation}
 use Rattle.evaluate.specs.declared.Evaluation.the-variants.{Evaluated, NotEvaluated}
 use Rattle.evaluate.specs.Steps.{steps}
-use Rattle.evaluate.specs.Evaluation.{notEvaluated, evaluates, andThen, afford, ready}
+use Rattle.evaluate.specs.Evaluation.{notEvaluated, evaluates, afford, ready}
 use Rattle.evaluate.proofs.Answers.{passed}
 use Rattle.judge.specs.declared.Verdict.{Verdict}
 use Rattle.judge.specs.declared.Judgement.{Judgement}
 use Rattle.judge.specs.declared.Judgement.the-variants.{Judged, NotJudged}
 use Rattle.judge.specs.Judgement.{ruleIn, ruleCondition, verdict, judgementUnder, passes}
-use Rattle.judge.specs.Demand3.{SameVerdict, PromiseUnder, Demand3}
+use Rattle.judge.specs.Demand3.{SameVerdict, JudgementPromiseUnder, Demand3}
 use Rattle.judge.proofs.Alike.{independence}
 
 -- The steps that an evaluation spent
@@ -38,8 +38,8 @@ Spends n (Evaluated s) = s .steps ≡ n
 Spends n (NotEvaluated r) = Unit {0}
 
 -- a refusal before it, or none, changes nothing of that
-spends-then : (n : ℕ) (a : Admission) (e : Evaluation) → Spends n e → Spends n (andThen a e)
-spends-then n Admitted e h = h
+spends-then : (n : ℕ) (a : Acceptance) (e : Evaluation) → Spends n e → Spends n (andThen NotEvaluated a e)
+spends-then n Accepted e h = h
 spends-then n (Refused r) e h = tt
 
 spends-unless : (n : ℕ) (b : Bool) (number place : ℕ) (e : Evaluation) → Spends n e → Spends n (cond b (notEvaluated number place) e)
@@ -57,7 +57,7 @@ afford-spends w each allowance room =
 
 ready-spends : (limit : ℕ) (w values cells : List ℕ) (each allowance room : ℕ) → Spends (steps w (terms w)) (ready limit w values cells each allowance room)
 ready-spends limit w values cells each allowance room =
-    spends-then (steps w (terms w)) (admissionWithin limit w) (andThen (check w values cells) (afford w each allowance room))
+    spends-then (steps w (terms w)) (admissionWithin limit w) (andThen NotEvaluated (check w values cells) (afford w each allowance room))
     (spends-then (steps w (terms w)) (check w values cells) (afford w each allowance room) (afford-spends w each allowance room))
 
 -- What is known of a verdict
@@ -105,7 +105,7 @@ module _ (marked : Term → Bool) where
       sym (independence 512 w marked (interpret values (look cells)) I (k .formed) (k .fit) fit agree .rule (sym (k .condition) ∙ both .1)) ∙ sym (k .rule) ∙ both .0
 
   -- both, of every judgement
-  promised : (w values cells : List ℕ) (j : Judgement) → KnownOf w values cells j → PromiseUnder marked w values cells j
+  promised : (w values cells : List ℕ) (j : Judgement) → KnownOf w values cells j → JudgementPromiseUnder marked w values cells j
   promised w values cells (Judged v) k =
       record {
         same = λ values′ cells′ allowance′ room′ v′ e agree.

@@ -14,8 +14,8 @@ set-right [] ys i a = ap (λ (k : ℕ). set ys k a) (zero-add i)
 set-right (x ∷ xs) ys i a = ap (λ (k : ℕ). set (x ∷ (xs ++ ys)) k a) (suc-add (length xs) i) ∙ ap (λ (l : List ℕ). x ∷ l) (set-right xs ys i a)
 
 -- ns and ts, of i elements each, in the fronts of the two parts of a room
-abbrev pub laid : List ℕ → List ℕ → ℕ → ℕ → List ℕ → List ℕ
-laid ns ts n i room = (ns ++ drop i (take n room)) ++ (ts ++ drop i (drop n room))
+abbrev pub runs : List ℕ → List ℕ → ℕ → ℕ → List ℕ → List ℕ
+runs ns ts n i room = (ns ++ drop i (take n room)) ++ (ts ++ drop i (drop n room))
 
 module _ (ns ts : List ℕ) (n i : ℕ) (room : List ℕ) (enough : n + n ≤ length room) (within : i ≤ n) (nl : length ns ≡ i) (tl : length ts ≡ i) where
   low : length (take n room) ≡ n
@@ -24,22 +24,22 @@ module _ (ns ts : List ℕ) (n i : ℕ) (room : List ℕ) (enough : n + n ≤ le
   half : length (ns ++ drop i (take n room)) ≡ n
   half = front-length ns (take n room) i nl (rw low within) ∙ low
 
-  pub laid-length : length (laid ns ts n i room) ≡ length room
+  pub laid-length : length (runs ns ts n i room) ≡ length room
   laid-length =
       rw (length-append, half, front-length ts (drop n room) i tl (rw length-drop (omega arith)), length-drop) (omega arith)
 
-  pub laid-front : take i (laid ns ts n i room) ≡ ns
+  pub laid-front : take i (runs ns ts n i room) ≡ ns
   laid-front =
       take-append-le i (ns ++ drop i (take n room)) (ts ++ drop i (drop n room)) (rw half within)
       ∙ take-at ns (drop i (take n room)) i nl
 
-  pub laid-truths : take i (drop n (laid ns ts n i room)) ≡ ts
+  pub laid-truths : take i (drop n (runs ns ts n i room)) ≡ ts
   laid-truths =
       ap (take i) (drop-at (ns ++ drop i (take n room)) (ts ++ drop i (drop n room)) n half)
       ∙ take-at ts (drop i (drop n room)) i tl
 
   -- one number and one truth more
-  pub laid-more : i < n → (v t : ℕ) → set (set (laid ns ts n i room) i v) (n + i) t ≡ laid (ns ++ (v ∷ [])) (ts ++ (t ∷ [])) n (i + 1) room
+  pub laid-more : i < n → (v t : ℕ) → set (set (runs ns ts n i room) i v) (n + i) t ≡ runs (ns ++ (v ∷ [])) (ts ++ (t ∷ [])) n (i + 1) room
   laid-more inside v t =
       ap (λ (l : List ℕ). set l (n + i) t)
       (set-append-left (ns ++ drop i (take n room)) (ts ++ drop i (drop n room)) i v (rw half inside)
@@ -52,7 +52,7 @@ module _ (ns ts : List ℕ) (n i : ℕ) (room : List ℕ) (enough : n + n ≤ le
       next-half = front-length (ns ++ (v ∷ [])) (take n room) (i + 1) (rw (length-append, nl)) (rw low (omega arith)) ∙ low
 
 -- at the start nothing is laid
-pub laid-none : (n : ℕ) (room : List ℕ) → room ≡ laid [] [] n 0 room
+pub laid-none : (n : ℕ) (room : List ℕ) → room ≡ runs [] [] n 0 room
 laid-none n room = sym (take-append-drop n room)
 
 append-nil : (l : List ℕ) → l ++ [] ≡ l
@@ -60,7 +60,7 @@ append-nil [] = refl
 append-nil (x ∷ l) = ap (λ (t : List ℕ). x ∷ t) (append-nil l)
 
 -- at the end both fronts stand before the rest
-pub laid-all : (ns ts : List ℕ) (n : ℕ) (room : List ℕ) → n + n ≤ length room → laid ns ts n n room ≡ ns ++ ts ++ drop (n * 2) room
+pub laid-all : (ns ts : List ℕ) (n : ℕ) (room : List ℕ) → n + n ≤ length room → runs ns ts n n room ≡ ns ++ ts ++ drop (n * 2) room
 laid-all ns ts n room enough =
     let two : n + n ≡ n * 2 = omega arith in
     ap₂ (λ (a b : List ℕ). (ns ++ a) ++ (ts ++ b)) (drop-of-length-le (take n room) {i = n} (rw (length-take-le n room (omega arith)) (omega arith))) (drop-drop n n room ∙ ap (λ (k : ℕ). drop k room) two)

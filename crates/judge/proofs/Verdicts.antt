@@ -21,7 +21,7 @@ use Rattle.evaluate.specs.Values.{values, valueAt, numbers}
 use Rattle.evaluate.proofs.Folds.{length-numbers, number-in, value-below}
 use Rattle.setting.specs.Interpretation.{Value}
 use Rattle.judge.specs.Conditions.{Condition, conditionAt, truths, ownMarks}
-use Rattle.judge.specs.Code.Readings.{truthIn}
+use Rattle.judge.specs.Code.Labelled.{truthIn}
 use Rattle.judge.specs.Judgement.{ruleIn, ruleCondition, verdictBy, roomAfter}
 use Rattle.judge.proofs.Alike.{condition-below}
 use Rattle.judge.proofs.Meaning.{length-truths, truth-in}

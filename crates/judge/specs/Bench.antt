@@ -7,14 +7,13 @@ use Prim.Native.Nat.{ℕ}
 use lib.Dec.{eqb}
 use Rattle.ops.specs.Meaning.{apply}
 use Rattle.ops.specs.Condition.{settles}
-use Rattle.table.specs.Bench.{term, ruleG, ruleH, every}
-use Rattle.table.specs.Folds.{fold}
+use Rattle.table.specs.Bench.{term, ruleG, ruleH, choosing, markedIndex}
+use Rattle.table.specs.Folds.{every, fold, anyBelow}
 use Rattle.table.specs.Terms.{terms}
-use Rattle.table.specs.Faults.{typed, anyBelow, clash, chain, faultIf, fault}
-use Rattle.table.specs.Admission.{scan, admissionWithin, admission}
+use Rattle.table.specs.Faults.{typed, clash, chain, faultIf, fault}
+use Rattle.table.specs.Admission.{scan, admissionWithin, admission, accepts}
 use Rattle.setting.specs.Cells.{lookFrom, look}
 use Rattle.setting.specs.Interpretation.{interpret}
-use Rattle.evaluate.specs.Evaluation.{admits}
 use Rattle.evaluate.specs.Steps.{steps}
 use Rattle.evaluate.specs.Values.{valueBy, valueAt}
 use Rattle.judge.specs.Conditions.{conditionBy, conditionAt, ownMarks}
@@ -32,7 +31,7 @@ pub record Row : Type 0 where
 -- a row is right: its table is admitted, and the meanings say what the row says
 pub right : Row → Bool
 right x =
-    admits (admission (x .table))
+    accepts (admission (x .table))
     && eqb (valueAt (x .table) (interpret (x .values) (look (x .cells))) (x .at) .num) (x .value)
     && Bool·beq (conditionAt (x .table) ownMarks (interpret (x .values) (look (x .cells))) (x .at) .free) (x .condition)
     && eqb (steps (x .table) (terms (x .table))) (x .spent)
@@ -45,24 +44,9 @@ ofConstants op x y z = term 0 0 8 x 0 0 (term 0 0 8 y 0 0 (term op 0 8 0 1 0 (te
 abbrev shifting : List ℕ
 shifting = term 1 0 8 0 1 0 (term 1 0 8 1 0 0 (term 13 0 8 0 1 0 (term 0 0 8 0 0 0 (term 6 0 0 2 3 0 []))))
 
--- a marked test, unmarked branches of width 8 (slots 0, 1, 2): the choice is 3
-abbrev choosing : List ℕ
-choosing = term 1 0 0 0 1 0 (term 1 0 8 1 0 0 (term 1 0 8 2 0 0 (term 7 0 8 0 1 2 (term 0 0 8 3 0 0 (term 6 0 0 3 4 0 [])))))
-
 -- x < 5 or not (x < 5), x marked, of width 8
 abbrev pub either : List ℕ
 either = term 1 0 8 0 1 0 (term 0 0 8 5 0 0 (term 14 0 0 0 1 0 (term 2 0 0 2 0 0 (term 4 0 0 2 3 0 []))))
-
--- rule H with t unmarked and a marked
-abbrev markedIndex : List ℕ
-markedIndex =
-    term 1 8 8 0 0 0
-    (term 1 0 8 1 1 0
-    (term 1 0 8 2 0 0
-    (term 0 0 8 42 0 0
-    (term 16 8 8 0 1 3
-    (term 15 0 8 4 2 0
-    (term 6 0 0 5 3 0 []))))))
 
 -- P1 to P4: rule G, values a, x, b. P5, P6: a sum and a product. P7, P8: rule H, values t (all of it), a, c. P9, P10: a shift.
 -- P11: a choice, equal branches and others. P12: in two settings. Last, a read of a store at a marked index.

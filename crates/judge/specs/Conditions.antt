@@ -49,16 +49,16 @@ module _ (marked : Term → Bool) (v : ℕ → Value) (c : ℕ → Condition) (w
 abbrev pub conditionIn : List Condition → ℕ → Condition
 conditionIn cs k = getD cs k (plain false)
 
-abbrev pub conditionOf : List ℕ → (Term → Bool) → (ℕ → Value) → (ℕ → Condition) → Term → Condition
-conditionOf w marked v c t = conditionBy marked v c (sortAt w (t .p) .n) t (opOf (t .op))
+abbrev pub conditionFrom : List ℕ → (Term → Bool) → (ℕ → Value) → (ℕ → Condition) → Term → Condition
+conditionFrom w marked v c t = conditionBy marked v c (sortAt w (t .p) .n) t (opOf (t .op))
 
 -- the conditions of the first k terms
 abbrev pub conditions : List ℕ → (Term → Bool) → Interpretation → ℕ → List Condition
-conditions w marked I k = fold (λ cs i. conditionOf w marked (valueIn (values w I i)) (conditionIn cs) (termAt w i)) k
+conditions w marked I k = fold (λ cs i. conditionFrom w marked (valueIn (values w I i)) (conditionIn cs) (termAt w i)) k
 
 -- the condition of term k
 abbrev pub conditionAt : List ℕ → (Term → Bool) → Interpretation → ℕ → Condition
-conditionAt w marked I k = conditionOf w marked (valueIn (values w I k)) (conditionIn (conditions w marked I k)) (termAt w k)
+conditionAt w marked I k = conditionFrom w marked (valueIn (values w I k)) (conditionIn (conditions w marked I k)) (termAt w k)
 
 -- the truths of the first k terms' conditions: 1 or 0; 0 for stores
 abbrev pub truths : List ℕ → (Term → Bool) → Interpretation → ℕ → List ℕ

@@ -40,14 +40,14 @@ pub record Independent (marked : Term → Bool) (w values cells : List ℕ) (v :
   pub sure : passes v ≡ true → (I : Interpretation) → FitInputs w I → AgreeUnmarked w marked (interpret values (look cells)) I → ruleIn w I ≡ true
 
 -- what a judgement promises besides its answer: nothing for a refusal
-abbrev pub PromiseUnder : (Term → Bool) → List ℕ → List ℕ → List ℕ → Judgement → Type 0
-PromiseUnder marked w values cells (Judged v) = Independent marked w values cells v
-PromiseUnder marked w values cells (NotJudged r) = Unit {0}
+abbrev pub JudgementPromiseUnder : (Term → Bool) → List ℕ → List ℕ → List ℕ → Judgement → Type 0
+JudgementPromiseUnder marked w values cells (Judged v) = Independent marked w values cells v
+JudgementPromiseUnder marked w values cells (NotJudged r) = Unit {0}
 
 -- by the table's own marks
-abbrev pub Promise : List ℕ → List ℕ → List ℕ → Judgement → Type 0
-Promise w values cells j = PromiseUnder ownMarks w values cells j
+abbrev pub JudgementPromise : List ℕ → List ℕ → List ℕ → Judgement → Type 0
+JudgementPromise w values cells j = JudgementPromiseUnder ownMarks w values cells j
 
 -- Demand 3, of every judgement, under any marks
 abbrev pub Demand3 : Type 0
-Demand3 = (marked : Term → Bool) (w values cells : List ℕ) (allowance room : ℕ) → PromiseUnder marked w values cells (judgementUnder marked w values cells allowance room)
+Demand3 = (marked : Term → Bool) (w values cells : List ℕ) (allowance room : ℕ) → JudgementPromiseUnder marked w values cells (judgementUnder marked w values cells allowance room)

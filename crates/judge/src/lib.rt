@@ -5,14 +5,14 @@ mod terms; // one term: value and truth
 mod turns; // what a term asks
 
 use evaluate::Evaluation;
-pub use reads::Reading;
+pub use reads::Labelled;
 use table::Refusal;
 use table::WORDS;
 pub use terms::step;
 ghost use mathlib.Core.Path.{_≡_};
 ghost use lib.ListN.{length};
 ghost use Rattle.judge.specs.Judgement.{verdictBy, passes, judgement, roomAfter};
-ghost use Rattle.judge.specs.Demand3.{Promise};
+ghost use Rattle.judge.specs.Demand3.{JudgementPromise};
 
 // Rule and condition, the steps that were spent, and the allowance that is left.
 pub struct Verdict {
@@ -65,7 +65,7 @@ pub fn judge(
         (length (now (work .entry))) ⌝ }
     ensures { λ r. ⌜ now (work .exit)
         ≡ roomAfter r (now (table .entry)) (now (values .entry)) (now (cells .entry)) (now (work .entry)) ⌝ }
-    ensures { λ r. ⌜ Promise (now (table .entry)) (now (values .entry)) (now (cells .entry)) r ⌝ }
+    ensures { λ r. ⌜ JudgementPromise (now (table .entry)) (now (values .entry)) (now (cells .entry)) r ⌝ }
 {
     let answer = evaluate::ready(table, 512, values, cells, 2, allowance, work.len());
     if !evaluate::evaluates(answer) {

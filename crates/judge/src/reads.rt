@@ -2,12 +2,12 @@
 ghost use mathlib.Core.Path.{_≡_};
 ghost use mathlib.Core.Bool.{_&&_};
 ghost use Rattle.table.specs.WellFormed.{WellFormed};
-ghost use Rattle.judge.specs.Code.Readings.{truthIn, overlaid, pickedBy, storedBy, shutBy, unfreeAt, readingAt};
-use setting::number_at;
+ghost use Rattle.judge.specs.Code.Labelled.{truthIn, overlaid, pickedBy, storedBy, shutBy, unfreeAt, labelledAt};
 use table::Term;
+use table::number_at;
 
 // A value, and whether it ignores the marked inputs.
-pub struct Reading {
+pub struct Labelled {
     pub value: u32,
     pub free: bool,
 }
@@ -20,14 +20,14 @@ pub fn truth_at(truths: &[u32], k: u32) -> bool
 }
 
 // A store over what is read beneath it, at index j whose condition is cj.
-fn overlay(front: &[u32], truths: &[u32], x: Term, j: u32, cj: bool, below: Reading) -> Reading
+fn overlay(front: &[u32], truths: &[u32], x: Term, j: u32, cj: bool, below: Labelled) -> Labelled
     ensures { λ r. ⌜ r ≡ overlaid (now (front .entry)) (now (truths .entry)) x j cj below ⌝ }
 {
     let index = number_at(front, x.q);
     let stored = number_at(front, x.r);
     let beneath = below.value;
     let test = truth_at(truths, x.q) & cj;
-    Reading {
+    Labelled {
         value: ops::ite(index == j, stored, beneath),
         free: ops::chosen(
             test,
@@ -47,10 +47,10 @@ fn picked(front: &[u32], truths: &[u32], x: Term, j: u32, cj: bool) -> bool
 }
 
 // What a store holds.
-fn stored(front: &[u32], truths: &[u32], x: Term) -> Reading
+fn stored(front: &[u32], truths: &[u32], x: Term) -> Labelled
     ensures { λ r. ⌜ r ≡ storedBy (now (front .entry)) (now (truths .entry)) x ⌝ }
 {
-    Reading {
+    Labelled {
         value: number_at(front, x.r),
         free: truth_at(truths, x.r),
     }
@@ -64,12 +64,12 @@ fn shut(truths: &[u32], x: Term, cj: bool) -> bool
 }
 
 // A read that is not free: its value alone.
-fn unfree(table: &[u32], front: &[u32], a: u32, j: u32, cell: u32) -> Reading
+fn unfree(table: &[u32], front: &[u32], a: u32, j: u32, cell: u32) -> Labelled
     requires { ⌜ WellFormed 80000 (now table) ⌝ }
     ensures { λ r. ⌜ r ≡ unfreeAt (now (table .entry)) (now (front .entry)) a j cell ⌝ }
 {
     let found = evaluate::find(table, front, a, j);
-    Reading {
+    Labelled {
         value: ops::ite(found.stored, found.number, cell),
         free: false,
     }
@@ -85,13 +85,13 @@ pub fn read(
     j: u32,
     cj: bool,
     cell: u32,
-) -> Reading
+) -> Labelled
     requires { ⌜ WellFormed 80000 (now table) ⌝ }
-    ensures { λ r. ⌜ r ≡ readingAt (now (table .entry)) (now (front .entry)) (now (truths .entry)) a j cj cell ⌝ }
+    ensures { λ r. ⌜ r ≡ labelledAt (now (table .entry)) (now (front .entry)) (now (truths .entry)) a j cj cell ⌝ }
 {
     let x = table::term_at(table, a);
-    if !table::storing(x) {
-        return Reading {
+    if !table::is_store(x) {
+        return Labelled {
             value: cell,
             free: truth_at(truths, a) & cj,
         };

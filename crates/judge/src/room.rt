@@ -24,7 +24,7 @@ pub fn fill(table: &[u32], values: &[u32], cells: &[u32], work: &mut [u32])
     let terms = table::count(table);
     let count = cells.len() / 3;
     let mut turn = evaluate::turn_at(table, values, count, terms, &work[..0], 0);
-    while turn.on {
+    while turn.pending {
         let answer = setting::look(cells, turn.count, turn.slot, turn.index, turn.other);
         turn = step(table, values, count, terms, work, turn, answer);
     }

@@ -6,22 +6,22 @@ ghost use Rattle.table.specs.Terms as tables;
 ghost use Rattle.table.specs.WellFormed.{WellFormed};
 ghost use Rattle.evaluate.specs.Code.Turns.{nextRead, onward, Next, Behind};
 ghost use Rattle.judge.specs.Conditions.{ownMarks};
-ghost use Rattle.judge.specs.Code.Readings.{operatedReading, readingOf, readingHere, written, noted};
+ghost use Rattle.judge.specs.Code.Labelled.{operatedLabelled, labelledOf, labelledHere, entered, noted};
 ghost use Rattle.judge.specs.Code.Turns.{turnHere};
-use crate::reads::Reading;
+use crate::reads::Labelled;
 use crate::reads::read;
 use crate::reads::truth_at;
 use crate::turns::turn_here;
 use evaluate::Turn;
-use setting::number_at;
 use table::Term;
+use table::number_at;
 
 // Value and truth of an operator.
-fn operated(table: &[u32], front: &[u32], truths: &[u32], x: Term) -> Reading
+fn operated(table: &[u32], front: &[u32], truths: &[u32], x: Term) -> Labelled
     requires { ⌜ WellFormed 80000 (now table) ⌝ }
     requires { ⌜ (length (now front) < tables.terms (now table)) × Behind (now front) x ⌝ }
     requires { ⌜ length (now truths) ≡ length (now front) ⌝ }
-    ensures { λ r. ⌜ r ≡ operatedReading (now (table .entry)) (now (front .entry)) (now (truths .entry)) x ⌝ }
+    ensures { λ r. ⌜ r ≡ operatedLabelled (now (table .entry)) (now (front .entry)) (now (truths .entry)) x ⌝ }
 {
     let n = table::sort_in(table, x.p).n;
     let op = ops::op_of(x.op);
@@ -41,51 +41,51 @@ fn operated(table: &[u32], front: &[u32], truths: &[u32], x: Term) -> Reading
         truths[q] == 1,
         truths[r] == 1,
     );
-    Reading {
-        value: ops::apply(op, n, a, b, c),
+    Labelled {
+        value: ops::apply_number(x.op, n, a, b, c),
         free,
     }
 }
 
 // Value and truth of a term.
-fn reading_of(
+fn labelled_of(
     table: &[u32],
     values: &[u32],
     front: &[u32],
     truths: &[u32],
     x: Term,
     answer: u32,
-) -> Reading
+) -> Labelled
     requires { ⌜ WellFormed 80000 (now table) ⌝ }
     requires { ⌜ Next (now table) (now front) x ⌝ }
     requires { ⌜ length (now truths) ≡ length (now front) ⌝ }
     ensures { λ r. ⌜ r
-        ≡ readingOf (now (table .entry)) ownMarks (now (values .entry)) (now (front .entry)) (now (truths .entry)) x
+        ≡ labelledOf (now (table .entry)) ownMarks (now (values .entry)) (now (front .entry)) (now (truths .entry)) x
         answer ⌝ }
 {
-    if table::reading(x) {
+    if table::is_read(x) {
         let free = truth_at(truths, x.q);
         if !free {
-            return Reading {
+            return Labelled {
                 value: answer,
                 free: false,
             };
         }
         let index = number_at(front, x.q);
         let r = read(table, front, truths, x.p, index, free, answer);
-        return Reading {
+        return Labelled {
             value: r.value,
             free: r.free,
         };
     }
-    if table::constant(x) {
-        return Reading {
+    if table::is_constant(x) {
+        return Labelled {
             value: x.p,
             free: true,
         };
     }
-    if table::variable(x) {
-        return Reading {
+    if table::is_variable(x) {
+        return Labelled {
             value: evaluate::variable_number(values, x),
             free: x.q != 1,
         };
@@ -94,31 +94,31 @@ fn reading_of(
 }
 
 // The same at a place of the room: the numbers stand at its front, the truths from number terms on.
-fn reading_here(
+fn labelled_here(
     table: &[u32],
     values: &[u32],
     terms: u32,
     room: &[u32],
     at: u32,
     answer: u32,
-) -> Reading
+) -> Labelled
     requires { ⌜ WellFormed 80000 (now table) ⌝ }
     requires { ⌜ terms ≡ tables.terms (now table) ⌝ }
     requires { ⌜ (at < terms) × (terms + at ≤ length (now room)) ⌝ }
     ensures { λ r. ⌜ r
-        ≡ readingHere (now (table .entry)) ownMarks (now (values .entry)) terms (now (room .entry)) at answer ⌝ }
+        ≡ labelledHere (now (table .entry)) ownMarks (now (values .entry)) terms (now (room .entry)) at answer ⌝ }
 {
     let end = at as usize;
     let start = terms as usize;
     let last = start + end;
     let x = table::term_at(table, at);
-    reading_of(table, values, &room[..end], &room[start..last], x, answer)
+    labelled_of(table, values, &room[..end], &room[start..last], x, answer)
 }
 
 // Writes value and truth of term at.
-fn note(work: &mut [u32], terms: u32, at: u32, r: Reading)
+fn note(work: &mut [u32], terms: u32, at: u32, r: Labelled)
     requires { ⌜ (at < terms) × (terms + terms ≤ length (now work)) ⌝ }
-    ensures { λ _. ⌜ now (work .exit) ≡ written r terms (now (work .entry)) at ⌝ }
+    ensures { λ _. ⌜ now (work .exit) ≡ entered r terms (now (work .entry)) at ⌝ }
 {
     let value = r.value;
     let truth = ops::bit(r.free);
@@ -151,10 +151,10 @@ pub fn step(
     let at = turn.at;
     let mut i = at;
     while i < terms {
-        if (i != at) & table::reading(table::term_at(table, i)) {
+        if (i != at) & table::is_read(table::term_at(table, i)) {
             break;
         }
-        let r = reading_here(table, values, terms, &work[..], i, answer);
+        let r = labelled_here(table, values, terms, &work[..], i, answer);
         note(work, terms, i, r);
         i += 1;
     }

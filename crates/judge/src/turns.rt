@@ -6,7 +6,7 @@ ghost use Rattle.table.specs.WellFormed.{WellFormed};
 ghost use Rattle.judge.specs.Code.Turns.{turnOf, turnHere};
 use crate::reads::truth_at;
 use evaluate::Turn;
-use setting::number_at;
+use table::number_at;
 
 // A read whose index is free asks for the cell of the variable beneath it; any other term asks as in evaluating.
 fn turn_at(
@@ -23,12 +23,12 @@ fn turn_at(
         (now (truths .entry)) at ⌝ }
 {
     let x = table::term_at(table, at);
-    if !(table::reading(x) & truth_at(truths, x.q)) {
+    if !(table::is_read(x) & truth_at(truths, x.q)) {
         return evaluate::turn_at(table, values, count, terms, front, at);
     }
     let slot = evaluate::bottom(table, x.p);
     Turn {
-        on: at < terms,
+        pending: at < terms,
         at,
         count,
         slot,

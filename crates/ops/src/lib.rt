@@ -187,7 +187,7 @@ fn condition_of(f: Function, n: u32, x: u32, y: u32, c: bool, d: bool) -> bool
 }
 
 // The value of an operator, from the first operand's width and the operands' values.
-pub fn apply(op: Op, n: u32, x: u32, y: u32, z: u32) -> u32
+fn apply(op: Op, n: u32, x: u32, y: u32, z: u32) -> u32
     requires { ⌜ n ≤ 32 ⌝ }
     ensures { λ r. ⌜ r ≡ apply op n x y z ⌝ }
 {
@@ -200,6 +200,15 @@ pub fn apply(op: Op, n: u32, x: u32, y: u32, z: u32) -> u32
         Op::Store => 0,
         Op::Unknown => 0,
     }
+}
+
+// The value of the operator with a number. What runs a table calls this one: the numbers become operators here, where
+// the value is picked.
+pub fn apply_number(number: u32, n: u32, x: u32, y: u32, z: u32) -> u32
+    requires { ⌜ n ≤ 32 ⌝ }
+    ensures { λ r. ⌜ r ≡ apply (opOf number) n x y z ⌝ }
+{
+    apply(op_of(number), n, x, y, z)
 }
 
 // The condition of an operator, from the first operand's width and the operands' values and conditions.

@@ -3,11 +3,11 @@
 use mathlib.Core.Path.{_≡_, ap, _∙_}
 use Prim.Native.Nat.{ℕ, suc, _-_, _≤_, _<_}
 use native.Mathlib.Omega.{arith}
-use Rattle.table.specs.declared.Admission.{Admission}
+use Rattle.table.specs.declared.Acceptance.{Acceptance}
 use Rattle.table.specs.Admission.{refusedBy, scan}
 
-module _ (faults : ℕ → ℕ) (n : ℕ) (rest : Admission) where
-  pub record Known (k : ℕ) (answer : Admission) : Type 0 where
+module _ (faults : ℕ → ℕ) (n : ℕ) (rest : Acceptance) where
+  pub record Known (k : ℕ) (answer : Acceptance) : Type 0 where
     pub within : k ≤ n
     pub is : answer ≡ scan faults (n - k) k rest
 
@@ -17,7 +17,7 @@ module _ (faults : ℕ → ℕ) (n : ℕ) (rest : Admission) where
       let e : n - n ≡ 0 = omega arith in
       record { within = omega arith; is = rw e }
 
-  pub one-before : (k : ℕ) (answer next : Admission) → 0 < k → Known k answer → next ≡ refusedBy (faults (k - 1)) (k - 1) answer → Known (k - 1) next
+  pub one-before : (k : ℕ) (answer next : Acceptance) → 0 < k → Known k answer → next ≡ refusedBy (faults (k - 1)) (k - 1) answer → Known (k - 1) next
   unfolding scan
   one-before k answer next b h e =
       let w : k ≤ n = h .within in
@@ -28,7 +28,7 @@ module _ (faults : ℕ → ℕ) (n : ℕ) (rest : Admission) where
         is = e ∙ rw (left, up) (ap (refusedBy (faults (k - 1)) (k - 1)) (h .is));
       }
 
-  pub at-start : (answer : Admission) → (k : ℕ) → k ≤ 0 → Known k answer → answer ≡ scan faults n 0 rest
+  pub at-start : (answer : Acceptance) → (k : ℕ) → k ≤ 0 → Known k answer → answer ≡ scan faults n 0 rest
   at-start answer k z h =
       let e : k ≡ 0 = omega arith in
       let all : n - k ≡ n = omega arith in

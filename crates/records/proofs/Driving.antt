@@ -18,10 +18,10 @@ use Rattle.evaluate.specs.declared.turns.Turn.{Turn}
 use Rattle.evaluate.specs.Evaluation.{evaluates, readyBy}
 use Rattle.evaluate.specs.Code.Turns.{turnOf}
 use Rattle.evaluate.proofs.Answers.{Passed, passed}
-use Rattle.records.specs.Rows.{laid}
+use Rattle.records.specs.Rows.{flattened}
 use Rattle.records.specs.Answers.{ready}
 use Rattle.records.specs.Code.Drive.{firstBy, firstTurn}
-use Rattle.records.proofs.Laid.{laid-check}
+use Rattle.records.proofs.Flattened.{laid-check}
 
 -- a test's two ways
 pub taken : (b : Bool) → T b → b ≡ true
@@ -40,9 +40,9 @@ not-both false h = absurd (h refl)
 module _ (e : Evaluation) (begin : List ℕ) (Filling : List ℕ → Turn → Type 0) where
   pub record Driven (room : List ℕ) (turn : Turn) : Type 0 where
     pub running : evaluates e ≡ true → Filling room turn
-    pub resting : evaluates e ≡ false → (room ≡ begin) × (turn .on ≡ false)
+    pub resting : evaluates e ≡ false → (room ≡ begin) × (turn .pending ≡ false)
 
-  pub not-refused : (room : List ℕ) (turn : Turn) → Driven room turn → turn .on ≡ true → evaluates e ≡ true
+  pub not-refused : (room : List ℕ) (turn : Turn) → Driven room turn → turn .pending ≡ true → evaluates e ≡ true
   not-refused room turn h on = not-both (evaluates e) (λ off. never (sym (h .resting off .1) ∙ on))
 
   pub goes-on : evaluates e ≡ true → (room : List ℕ) (turn : Turn) → Filling room turn → Driven room turn
@@ -50,8 +50,8 @@ module _ (e : Evaluation) (begin : List ℕ) (Filling : List ℕ → Turn → Ty
 
 module _ (limit : ℕ) (w values : List ℕ) (cells : List Cell) (each allowance : ℕ) (begin : List ℕ) (small : limit ≤ 80000) (e : Evaluation) (is : e ≡ ready limit w values cells each allowance (length begin)) where
   module _ (on : evaluates e ≡ true) where
-    left : Passed limit w values (laid cells) each allowance (length begin)
-    left = passed limit w values (laid cells) each allowance (length begin) (ap (λ c. evaluates (readyBy limit w c each allowance (length begin))) (laid-check cells w values) ∙ sym (ap evaluates is) ∙ on)
+    left : Passed limit w values (flattened cells) each allowance (length begin)
+    left = passed limit w values (flattened cells) each allowance (length begin) (ap (λ c. evaluates (readyBy limit w c each allowance (length begin))) (laid-check cells w values) ∙ sym (ap evaluates is) ∙ on)
 
     pub formed : WellFormed 80000 w
     formed = wider limit 80000 w small (admission-sound limit w (left .admitted))
@@ -78,5 +78,5 @@ module _ (limit : ℕ) (w values : List ℕ) (cells : List Cell) (each allowance
       started turn first begun =
           record {
             running = λ on. begun (first ∙ ap (λ (b : Bool). firstBy b w values (length cells) n) (lt-ltb 0 n (omega (arith, all on, some on))));
-            resting = λ off. (refl, ap (λ (t : Turn). t .on) (first ∙ ap (λ (b : Bool). firstBy b w values (length cells) n) (le-ltb 0 n (omega (arith, none off)))));
+            resting = λ off. (refl, ap (λ (t : Turn). t .pending) (first ∙ ap (λ (b : Bool). firstBy b w values (length cells) n) (le-ltb 0 n (omega (arith, none off)))));
           }

@@ -21,7 +21,7 @@ use Rattle.evaluate.specs.Code.Turns.{turnOf, nextRead, onward, numbered}
 use Rattle.evaluate.proofs.Runs.{count-here, going, ended}
 use Rattle.evaluate.proofs.Fills as fills
 use Rattle.records.specs.Rows.{recordAt}
-use Rattle.records.specs.Answers.{inRecords, evaluation, evaluated}
+use Rattle.records.specs.Answers.{inRecords, evaluation, evaluationRoom}
 use Rattle.records.specs.Code.Drive.{firstTurn}
 use Rattle.records.proofs.Driving as driving
 
@@ -66,7 +66,7 @@ module _ (w values : List ℕ) (cells : List Cell) (allowance : ℕ) (begin : Li
       same-length = same-by (evaluates e) refl
 
       -- a turn that is on
-      module _ (on : turn .on ≡ true) where
+      module _ (on : turn .pending ≡ true) where
         runs : evaluates e ≡ true
         runs = driving.not-refused e begin Filling room turn h on
 
@@ -92,12 +92,12 @@ module _ (w values : List ℕ) (cells : List Cell) (allowance : ℕ) (begin : Li
             let f = fills.turned w values (recordAt cells) (length cells) n begin 80000 well (all runs) (enough runs) room turn (h .running runs) on answer answered next after e′ t in
             (driving.goes-on e begin Filling runs next after (f .0), omega (arith, f .1, inside))
 
-      left-by : (b : Bool) → evaluates e ≡ b → turn .on ≡ false → room ≡ evaluated e w values cells begin
+      left-by : (b : Bool) → evaluates e ≡ b → turn .pending ≡ false → room ≡ evaluationRoom e w values cells begin
       left-by true on off =
           ended n (fills.filled w values (recordAt cells) (length cells) n begin) (fills.asking w values (recordAt cells) (length cells) n begin) (length cells) (fills.asks w values (recordAt cells) (length cells) n begin) room turn (h .running on) off
           ∙ ap (fills.filled w values (recordAt cells) (length cells) n begin) (all on)
           ∙ filled-room e w (inRecords values cells) begin on
       left-by false refused off = h .resting refused .0 ∙ kept-room e w (inRecords values cells) begin refused
 
-      pub left : turn .on ≡ false → room ≡ evaluated e w values cells begin
+      pub left : turn .pending ≡ false → room ≡ evaluationRoom e w values cells begin
       left = left-by (evaluates e) refl

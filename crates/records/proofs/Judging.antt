@@ -21,13 +21,13 @@ use Rattle.evaluate.specs.Code.Turns.{nextRead, onward}
 use Rattle.evaluate.proofs.Runs.{count-here, going, ended}
 use Rattle.judge.specs.Conditions.{ownMarks, truths}
 use Rattle.judge.specs.Judgement.{ruleIn, ruleCondition, verdictBy, roomIn}
-use Rattle.judge.specs.Code.Readings.{noted}
+use Rattle.judge.specs.Code.Labelled.{noted}
 use Rattle.judge.specs.Code.Turns.{turnHere}
 use Rattle.judge.proofs.Fills as fills
 use Rattle.judge.proofs.Rooms.{laid-all}
 use Rattle.judge.proofs.Verdicts.{stands, rule-read, condition-read}
 use Rattle.records.specs.Rows.{recordAt}
-use Rattle.records.specs.Answers.{inRecords, ready, judgement, judged}
+use Rattle.records.specs.Answers.{inRecords, ready, judgement, judgementRoom}
 use Rattle.records.specs.Code.Drive.{firstTurn, verdictFrom}
 use Rattle.records.proofs.Driving as driving
 
@@ -72,7 +72,7 @@ module _ (w values : List ℕ) (cells : List Cell) (allowance : ℕ) (begin : Li
       same-length = same-by (evaluates e) refl
 
       -- a turn that is on
-      module _ (on : turn .on ≡ true) where
+      module _ (on : turn .pending ≡ true) where
         runs : evaluates e ≡ true
         runs = driving.not-refused e begin Filling room turn h on
 
@@ -102,7 +102,7 @@ module _ (w values : List ℕ) (cells : List Cell) (allowance : ℕ) (begin : Li
       abbrev I : Interpretation
       I = inRecords values cells
 
-      whole : evaluates e ≡ true → turn .on ≡ false → room ≡ numbers w I (terms w) ++ truths w ownMarks I (terms w) ++ drop (terms w * 2) begin
+      whole : evaluates e ≡ true → turn .pending ≡ false → room ≡ numbers w I (terms w) ++ truths w ownMarks I (terms w) ++ drop (terms w * 2) begin
       whole on off =
           ended n (fills.filled w ownMarks values (recordAt cells) (length cells) n begin) (fills.asking w ownMarks values (recordAt cells) (length cells) n begin) (length cells) (fills.asks w ownMarks values (recordAt cells) (length cells) n begin) room turn (h .running on) off
           ∙ laid-all (numbers w I n) (truths w ownMarks I n) n begin (enough on)
@@ -114,7 +114,7 @@ module _ (w values : List ℕ) (cells : List Cell) (allowance : ℕ) (begin : Li
           let some = driving.some 512 w values cells 2 allowance begin (omega arith) e is on in
           (omega (arith, all on, some), omega (arith, enough on, same-length))
 
-      verdict-by : (b : Bool) → evaluates e ≡ b → turn .on ≡ false → verdictFrom e n room ≡ verdictBy e (ruleIn w I) (ruleCondition w ownMarks I)
+      verdict-by : (b : Bool) → evaluates e ≡ b → turn .pending ≡ false → verdictFrom e n room ≡ verdictBy e (ruleIn w I) (ruleCondition w ownMarks I)
       verdict-by true on off =
           let some = driving.some 512 w values cells 2 allowance begin (omega arith) e is on in
           let rest = drop (terms w * 2) begin in
@@ -122,12 +122,12 @@ module _ (w values : List ℕ) (cells : List Cell) (allowance : ℕ) (begin : Li
           ∙ ap₂ (λ (x y : Bool). verdictBy e x y) (rule-read w ownMarks I rest some) (condition-read w ownMarks I rest some)
       verdict-by false refused off = stands e _ _ _ _ refused
 
-      pub verdict-is : turn .on ≡ false → verdictFrom e n room ≡ judgement w values cells allowance (length begin)
+      pub verdict-is : turn .pending ≡ false → verdictFrom e n room ≡ judgement w values cells allowance (length begin)
       verdict-is off = verdict-by (evaluates e) refl off ∙ ap (λ (x : Evaluation). verdictBy x (ruleIn w I) (ruleCondition w ownMarks I)) is
 
-      left-by : (b : Bool) → evaluates e ≡ b → (x y : Bool) → turn .on ≡ false → room ≡ roomIn (verdictBy e x y) w ownMarks I begin
+      left-by : (b : Bool) → evaluates e ≡ b → (x y : Bool) → turn .pending ≡ false → room ≡ roomIn (verdictBy e x y) w ownMarks I begin
       left-by true on x y off = whole on off ∙ filled-room e x y w I begin on
       left-by false refused x y off = h .resting refused .0 ∙ kept-room e x y w I begin refused
 
-      pub left : turn .on ≡ false → room ≡ judged (verdictFrom e n room) w values cells begin
+      pub left : turn .pending ≡ false → room ≡ judgementRoom (verdictFrom e n room) w values cells begin
       left off = left-by (evaluates e) refl _ _ off

@@ -1,4 +1,4 @@
-pub mod Laid
+pub mod Flattened
 pub mod Numbers
 pub mod Demand
 pub mod Looks

@@ -5,8 +5,8 @@ use mathlib.Core.Bool.{true, false}
 use mathlib.Core.List.{List, [], _∷_}
 use Rattle.ops.specs.Meaning.{apply}
 use Rattle.ops.specs.Condition.{settles}
-use Rattle.table.specs.Folds.{fold}
-use Rattle.table.specs.Faults.{typed, anyBelow, clash, chain, faultIf, fault}
+use Rattle.table.specs.Folds.{fold, anyBelow}
+use Rattle.table.specs.Faults.{typed, clash, chain, faultIf, fault}
 use Rattle.table.specs.Admission.{scan, admissionWithin}
 use Rattle.setting.specs.Cells.{lookFrom}
 use Rattle.setting.specs.Cells as flat
@@ -22,7 +22,7 @@ use Rattle.judge.specs.Judgement as judges
 use Rattle.judge.specs.Pairs.{copied}
 use Rattle.records.specs.Rows.{look}
 use Rattle.records.specs.Answers.{judgement}
-use Rattle.records.specs.Laws.{Promise}
+use Rattle.records.specs.Laws.{RecordJudgementPromise}
 use Rattle.records.specs.Pairs.{passed, few, many, short, long, Compared}
 use Rattle.records.proofs.Demand.{record-demand3}
 
@@ -38,8 +38,8 @@ compared =
       first = first;
       second = second;
       agree = agree;
-      same = subst (Promise copied short few) first (record-demand3 copied short few 9 99) .same long many 9 99 passed second agree;
+      same = subst (RecordJudgementPromise copied short few) first (record-demand3 copied short few 9 99) .same long many 9 99 passed second agree;
       flatly = flatly;
       agree-across = agree-across;
-      across = subst (Promise copied long many) second (record-demand3 copied long many 9 99) .across short (0 ∷ 1 ∷ 42 ∷ []) 9 99 passed flatly agree-across;
+      across = subst (RecordJudgementPromise copied long many) second (record-demand3 copied long many 9 99) .across short (0 ∷ 1 ∷ 42 ∷ []) 9 99 passed flatly agree-across;
     }

@@ -6,50 +6,51 @@ use mathlib.Core.List.{List}
 use Prim.Native.Nat.{ℕ, _≤_, _<_}
 use native.Mathlib.Omega.{arith}
 use lib.ListN.{length}
-use Rattle.table.specs.declared.Admission.{Admission}
-use Rattle.table.specs.declared.Admission.the-variants.{Admitted, Refused}
+use Rattle.table.specs.declared.Acceptance.{Acceptance}
+use Rattle.table.specs.declared.Acceptance.the-variants.{Accepted, Refused}
 use Rattle.table.specs.Terms.{terms, termAt}
-use Rattle.table.specs.Admission.{admissionWithin, scan}
+use Rattle.table.specs.Admission.{andThen, admissionWithin, scan, accepts}
+use Rattle.evaluate.specs.declared.Evaluation.the-variants.{NotEvaluated}
 use Rattle.table.specs.WellFormed.{WellFormed}
 use Rattle.table.proofs.Admitted.{admission-sound, wider}
 use Rattle.setting.specs.declared.cells.Cell.{Cell}
 use Rattle.setting.specs.Check.{variableFault, cellFault}
 use Rattle.evaluate.specs.declared.Evaluation.{Evaluation}
-use Rattle.evaluate.specs.Evaluation.{admits, andThen, afford}
+use Rattle.evaluate.specs.Evaluation.{afford}
 use Rattle.evaluate.proofs.Answers.{is-admitted}
 use Rattle.records.specs.Rows.{recordAt}
 use Rattle.records.specs.Answers.{ready}
 
 -- the table is well-formed where it is admitted, and no cells are counted where it is not
-pub formed : (limit : ℕ) (w : List ℕ) (a : Admission) → limit ≤ 80000 → a ≡ admissionWithin limit w → admits a ≡ true → WellFormed 80000 w
+pub formed : (limit : ℕ) (w : List ℕ) (a : Acceptance) → limit ≤ 80000 → a ≡ admissionWithin limit w → accepts a ≡ true → WellFormed 80000 w
 formed limit w a small e h = wider limit 80000 w small (admission-sound limit w (sym e ∙ is-admitted a h))
 
-counted : (a : Admission) (n : ℕ) → 0 < cond (admits a) n 0 → admits a ≡ true
-counted Admitted n b = refl
+counted : (a : Acceptance) (n : ℕ) → 0 < cond (accepts a) n 0 → accepts a ≡ true
+counted Accepted n b = refl
 counted (Refused r) n b = absurd (none b)
   where
     none : 0 < 0 → ⊥
     none h = omega arith
 
-pub some-counted : (a : Admission) (n count : ℕ) → count ≡ cond (admits a) n 0 → 0 < count → admits a ≡ true
+pub some-counted : (a : Acceptance) (n count : ℕ) → count ≡ cond (accepts a) n 0 → 0 < count → accepts a ≡ true
 some-counted a n count e b = counted a n (omega (arith, e, b))
 
-most : (a : Admission) (n : ℕ) → cond (admits a) n 0 ≤ n
-most Admitted n = omega arith
+most : (a : Acceptance) (n : ℕ) → cond (accepts a) n 0 ≤ n
+most Accepted n = omega arith
 most (Refused r) n = omega arith
 
-pub counted-most : (a : Admission) (n count : ℕ) → count ≡ cond (admits a) n 0 → count ≤ n
+pub counted-most : (a : Acceptance) (n count : ℕ) → count ≡ cond (accepts a) n 0 → count ≤ n
 counted-most a n count e = omega (arith, e, most a n)
 
-uncounted : (a : Admission) (n : ℕ) (rest : ℕ → Evaluation) → andThen a (rest (cond (admits a) n 0)) ≡ andThen a (rest n)
-uncounted Admitted n rest = refl
+uncounted : (a : Acceptance) (n : ℕ) (rest : ℕ → Evaluation) → andThen NotEvaluated a (rest (cond (accepts a) n 0)) ≡ andThen NotEvaluated a (rest n)
+uncounted Accepted n rest = refl
 uncounted (Refused r) n rest = refl
 
-pub ready-is : (limit : ℕ) (w values : List ℕ) (cells : List Cell) (each allowance room : ℕ) (a checked : Admission) (count : ℕ) → a ≡ admissionWithin limit w → count ≡ cond (admits a) (length cells) 0
-    → checked ≡ scan (λ k. cellFault w (recordAt cells k)) count 0 Admitted
-    → andThen a (andThen (scan (λ k. variableFault values (termAt w k)) (terms w) 0 checked) (afford w each allowance room)) ≡ ready limit w values cells each allowance room
+pub ready-is : (limit : ℕ) (w values : List ℕ) (cells : List Cell) (each allowance room : ℕ) (a checked : Acceptance) (count : ℕ) → a ≡ admissionWithin limit w → count ≡ cond (accepts a) (length cells) 0
+    → checked ≡ scan (λ k. cellFault w (recordAt cells k)) count 0 Accepted
+    → andThen NotEvaluated a (andThen NotEvaluated (scan (λ k. variableFault values (termAt w k)) (terms w) 0 checked) (afford w each allowance room)) ≡ ready limit w values cells each allowance room
 ready-is limit w values cells each allowance room a checked count is-a is-count is-checked =
-    let rest : ℕ → Evaluation = λ n. andThen (scan (λ k. variableFault values (termAt w k)) (terms w) 0 (scan (λ k. cellFault w (recordAt cells k)) n 0 Admitted)) (afford w each allowance room) in
-    ap (λ (c : Admission). andThen a (andThen (scan (λ k. variableFault values (termAt w k)) (terms w) 0 c) (afford w each allowance room))) (is-checked ∙ ap (λ (n : ℕ). scan (λ k. cellFault w (recordAt cells k)) n 0 Admitted) is-count)
+    let rest : ℕ → Evaluation = λ n. andThen NotEvaluated (scan (λ k. variableFault values (termAt w k)) (terms w) 0 (scan (λ k. cellFault w (recordAt cells k)) n 0 Accepted)) (afford w each allowance room) in
+    ap (λ (c : Acceptance). andThen NotEvaluated a (andThen NotEvaluated (scan (λ k. variableFault values (termAt w k)) (terms w) 0 c) (afford w each allowance room))) (is-checked ∙ ap (λ (n : ℕ). scan (λ k. cellFault w (recordAt cells k)) n 0 Accepted) is-count)
     ∙ uncounted a (length cells) rest
-    ∙ ap (λ (x : Admission). andThen x (rest (length cells))) is-a
+    ∙ ap (λ (x : Acceptance). andThen NotEvaluated x (rest (length cells))) is-a

@@ -4,7 +4,7 @@
 use mathlib.Core.List.{List}
 use Prim.Native.Nat.{ℕ}
 use lib.ListN.{length}
-use Rattle.table.specs.declared.Admission.{Admission}
+use Rattle.table.specs.declared.Acceptance.{Acceptance}
 use Rattle.setting.specs.declared.cells.Cell.{Cell}
 use Rattle.setting.specs.Check.{checkCells}
 use Rattle.setting.specs.Interpretation.{Interpretation, interpret}
@@ -16,7 +16,7 @@ use Rattle.judge.specs.Judgement as judges
 use Rattle.records.specs.Rows.{recordAt, look}
 
 -- by ascending variable term 12 and 13, then by ascending cell 14 and 15
-abbrev pub check : List ℕ → List ℕ → List Cell → Admission
+abbrev pub check : List ℕ → List ℕ → List Cell → Acceptance
 check w values cells = checkCells w values (recordAt cells) (length cells)
 
 -- what the setting says of each input
@@ -30,12 +30,12 @@ ready limit w values cells each allowance room = evaluates.readyBy limit w (chec
 abbrev pub evaluation : List ℕ → List ℕ → List Cell → ℕ → ℕ → Evaluation
 evaluation w values cells allowance room = ready 80000 w values cells 1 allowance room
 
-abbrev pub evaluated : Evaluation → List ℕ → List ℕ → List Cell → List ℕ → List ℕ
-evaluated e w values cells room = evaluates.roomIn e w (inRecords values cells) room
+abbrev pub evaluationRoom : Evaluation → List ℕ → List ℕ → List Cell → List ℕ → List ℕ
+evaluationRoom e w values cells room = evaluates.roomIn e w (inRecords values cells) room
 
 -- judging, and its room
 abbrev pub judgement : List ℕ → List ℕ → List Cell → ℕ → ℕ → Judgement
 judgement w values cells allowance room = judges.verdict (ready 512 w values cells 2 allowance room) w ownMarks (inRecords values cells)
 
-abbrev pub judged : Judgement → List ℕ → List ℕ → List Cell → List ℕ → List ℕ
-judged j w values cells room = judges.roomIn j w ownMarks (inRecords values cells) room
+abbrev pub judgementRoom : Judgement → List ℕ → List ℕ → List Cell → List ℕ → List ℕ
+judgementRoom j w values cells room = judges.roomIn j w ownMarks (inRecords values cells) room

@@ -19,17 +19,17 @@ use Rattle.judge.specs.Conditions.{ownMarks}
 use Rattle.judge.specs.Demand3.{SameVerdict}
 use Rattle.judge.specs.Judgement as judges
 use Rattle.judge.specs.Laws.{NotJudgedBy}
-use Rattle.records.specs.Rows.{laid}
-use Rattle.records.specs.Answers.{inRecords, evaluation, evaluated, judgement, judged}
+use Rattle.records.specs.Rows.{flattened}
+use Rattle.records.specs.Answers.{inRecords, evaluation, evaluationRoom, judgement, judgementRoom}
 
 -- Both entrances give equal answers and leave equal rooms: the flat one on the cells laid flat, for every table, row, allowance and room.
 pub record Equal (w values : List ℕ) (cells : List Cell) (allowance : ℕ) (room : List ℕ) : Type 0 where
-  pub answer : evaluation w values cells allowance (length room) ≡ evaluates.evaluation w values (laid cells) allowance (length room)
-  pub answer-room : evaluated (evaluation w values cells allowance (length room)) w values cells room
-      ≡ evaluates.roomAfter (evaluates.evaluation w values (laid cells) allowance (length room)) w values (laid cells) room
-  pub verdict : judgement w values cells allowance (length room) ≡ judges.judgement w values (laid cells) allowance (length room)
-  pub verdict-room : judged (judgement w values cells allowance (length room)) w values cells room
-      ≡ judges.roomAfter (judges.judgement w values (laid cells) allowance (length room)) w values (laid cells) room
+  pub answer : evaluation w values cells allowance (length room) ≡ evaluates.evaluation w values (flattened cells) allowance (length room)
+  pub answer-room : evaluationRoom (evaluation w values cells allowance (length room)) w values cells room
+      ≡ evaluates.roomAfter (evaluates.evaluation w values (flattened cells) allowance (length room)) w values (flattened cells) room
+  pub verdict : judgement w values cells allowance (length room) ≡ judges.judgement w values (flattened cells) allowance (length room)
+  pub verdict-room : judgementRoom (judgement w values cells allowance (length room)) w values cells room
+      ≡ judges.roomAfter (judges.judgement w values (flattened cells) allowance (length room)) w values (flattened cells) room
 
 abbrev pub EqualAnswers : Type 0
 EqualAnswers = (w values : List ℕ) (cells : List Cell) (allowance : ℕ) (room : List ℕ) → Equal w values cells allowance room
@@ -37,7 +37,7 @@ EqualAnswers = (w values : List ℕ) (cells : List Cell) (allowance : ℕ) (room
 -- Each row of whole cells is that of some records laid flat.
 pub record LaidFlat (cells : List ℕ) : Type 0 where
   pub records : List Cell
-  pub is : laid records ≡ cells
+  pub is : flattened records ≡ cells
 
 abbrev pub WholeRowsAreLaid : Type 0
 WholeRowsAreLaid = (cells : List ℕ) → length cells % 3 ≡ 0 → LaidFlat cells
@@ -63,11 +63,11 @@ NeverEleven = (w values : List ℕ) (cells : List Cell) (allowance room place : 
 -- Values of slots that no variable uses are not looked at: answers and rooms are the same.
 pub record OneAnswer (w values values′ : List ℕ) (cells : List Cell) (allowance : ℕ) (room : List ℕ) : Type 0 where
   pub answer : evaluation w values cells allowance (length room) ≡ evaluation w values′ cells allowance (length room)
-  pub answer-room : evaluated (evaluation w values cells allowance (length room)) w values cells room
-      ≡ evaluated (evaluation w values′ cells allowance (length room)) w values′ cells room
+  pub answer-room : evaluationRoom (evaluation w values cells allowance (length room)) w values cells room
+      ≡ evaluationRoom (evaluation w values′ cells allowance (length room)) w values′ cells room
   pub verdict : judgement w values cells allowance (length room) ≡ judgement w values′ cells allowance (length room)
-  pub verdict-room : judged (judgement w values cells allowance (length room)) w values cells room
-      ≡ judged (judgement w values′ cells allowance (length room)) w values′ cells room
+  pub verdict-room : judgementRoom (judgement w values cells allowance (length room)) w values cells room
+      ≡ judgementRoom (judgement w values′ cells allowance (length room)) w values′ cells room
 
 abbrev pub UnusedUnseen : Type 0
 UnusedUnseen =
@@ -82,19 +82,19 @@ pub record Independent (w values : List ℕ) (cells : List Cell) (v : Verdict) :
       → AgreeUnmarked w ownMarks (inRecords values cells) (interpret values′ (flat.look cells′)) → SameVerdict v v′
   pub sure : judges.passes v ≡ true → (I : Interpretation) → FitInputs w I → AgreeUnmarked w ownMarks (inRecords values cells) I → judges.ruleIn w I ≡ true
 
-abbrev pub Promise : List ℕ → List ℕ → List Cell → Judgement → Type 0
-Promise w values cells (Judged v) = Independent w values cells v
-Promise w values cells (NotJudged r) = Unit {0}
+abbrev pub RecordJudgementPromise : List ℕ → List ℕ → List Cell → Judgement → Type 0
+RecordJudgementPromise w values cells (Judged v) = Independent w values cells v
+RecordJudgementPromise w values cells (NotJudged r) = Unit {0}
 
 abbrev pub RecordDemand3 : Type 0
-RecordDemand3 = (w values : List ℕ) (cells : List Cell) (allowance room : ℕ) → Promise w values cells (judgement w values cells allowance room)
+RecordDemand3 = (w values : List ℕ) (cells : List Cell) (allowance room : ℕ) → RecordJudgementPromise w values cells (judgement w values cells allowance room)
 
 -- What a judgement through the flat entrance promises against those through this one.
-abbrev pub FlatPromise : List ℕ → List ℕ → List ℕ → Judgement → Type 0
-FlatPromise w values cells (Judged v) =
+abbrev pub FlatJudgementPromise : List ℕ → List ℕ → List ℕ → Judgement → Type 0
+FlatJudgementPromise w values cells (Judged v) =
     (values′ : List ℕ) (cells′ : List Cell) (allowance′ room′ : ℕ) (v′ : Verdict) → judgement w values′ cells′ allowance′ room′ ≡ Judged v′
     → AgreeUnmarked w ownMarks (interpret values (flat.look cells)) (inRecords values′ cells′) → SameVerdict v v′
-FlatPromise w values cells (NotJudged r) = Unit {0}
+FlatJudgementPromise w values cells (NotJudged r) = Unit {0}
 
 abbrev pub FlatDemand3 : Type 0
-FlatDemand3 = (w values cells : List ℕ) (allowance room : ℕ) → FlatPromise w values cells (judges.judgement w values cells allowance room)
+FlatDemand3 = (w values cells : List ℕ) (allowance room : ℕ) → FlatJudgementPromise w values cells (judges.judgement w values cells allowance room)

@@ -15,6 +15,6 @@ abbrev pub look : List Cell → ℕ → ℕ → ℕ → ℕ
 look cells slot index other = lookFrom (recordAt cells) (length cells) 0 slot index other
 
 -- the row laid flat: three numbers a cell
-unfoldable pub laid : List Cell → List ℕ
-laid [] = []
-laid (c ∷ cells) = c .slot ∷ c .index ∷ c .value ∷ laid cells
+unfoldable pub flattened : List Cell → List ℕ
+flattened [] = []
+flattened (c ∷ cells) = c .slot ∷ c .index ∷ c .value ∷ flattened cells

@@ -3,26 +3,27 @@ ghost use mathlib.Core.Path.{_≡_};
 ghost use mathlib.Core.Bool.{true, cond};
 ghost use Prim.Native.Nat.{_<_, _≤_};
 ghost use lib.ListN.{length};
-ghost use Rattle.table.specs.declared.Admission.the-variants.{Admitted};
-ghost use Rattle.table.specs.Admission.{scan};
+ghost use Rattle.table.specs.declared.Acceptance.the-variants.{Accepted};
+ghost use Rattle.table.specs.Admission.{andThen, scan, accepts};
+ghost use Rattle.evaluate.specs.declared.Evaluation.the-variants.{NotEvaluated};
 ghost use Rattle.table.specs.Terms.{terms, termAt};
 ghost use Rattle.table.specs.WellFormed.{WellFormed};
-ghost use Rattle.setting.specs.Arrays.{Entries};
+ghost use Rattle.setting.specs.Code.Entries.{Entries};
 ghost use Rattle.setting.specs.Check.{variableFault, cellFault};
-ghost use Rattle.evaluate.specs.Evaluation.{admits, andThen, afford};
+ghost use Rattle.evaluate.specs.Evaluation.{afford};
 ghost use Rattle.records.specs.Rows.{recordAt};
 ghost use Rattle.records.specs.Answers.{ready};
 use crate::rows::record_at;
 use evaluate::Evaluation;
 use evaluate::Spent;
 use setting::Cell;
-use table::Admission;
+use table::Acceptance;
 
 // How many cells are to be checked: none where the table is refused.
-fn count_when(admitted: Admission, count: usize) -> usize
-    ensures { λ r. ⌜ r ≡ cond (admits admitted) count 0 ⌝ }
+fn count_when(admitted: Acceptance, count: usize) -> usize
+    ensures { λ r. ⌜ r ≡ cond (accepts admitted) count 0 ⌝ }
 {
-    if evaluate::admits(admitted) { count } else { 0 }
+    if table::accepts(admitted) { count } else { 0 }
 }
 
 // The entries of a table's array slots, where there are cells to be checked.
@@ -38,13 +39,13 @@ fn entries_when(table: &[u32], count: usize) -> [u32; 256]
 }
 
 // 14 and 15 of count cells, from the last to the first, so that the first has the last word.
-fn cells_checked(table: &[u32], entries: &[u32; 256], cells: &[Cell], count: usize) -> Admission
+fn cells_checked(table: &[u32], entries: &[u32; 256], cells: &[Cell], count: usize) -> Acceptance
     requires { ⌜ (0 < count → Entries (now table) (terms (now table)) (now entries)) ⌝ }
     requires { ⌜ count ≤ length (now cells) ⌝ }
     ensures { λ r. ⌜ r
-        ≡ scan (λ k. cellFault (now (table .entry)) (recordAt (now (cells .entry)) k)) count 0 Admitted ⌝ }
+        ≡ scan (λ k. cellFault (now (table .entry)) (recordAt (now (cells .entry)) k)) count 0 Accepted ⌝ }
 {
-    let mut rest = Admission::Admitted;
+    let mut rest = Acceptance::Accepted;
     let mut k = count;
     while 0 < k {
         k -= 1;
@@ -57,24 +58,24 @@ fn cells_checked(table: &[u32], entries: &[u32; 256], cells: &[Cell], count: usi
 fn afforded(
     table: &[u32],
     values: &[u32],
-    admitted: Admission,
-    checked: Admission,
+    admitted: Acceptance,
+    checked: Acceptance,
     each: u32,
     allowance: u64,
     room: usize,
 ) -> Evaluation
-    requires { ⌜ (admits admitted ≡ true → WellFormed 80000 (now table)) ⌝ }
+    requires { ⌜ (accepts admitted ≡ true → WellFormed 80000 (now table)) ⌝ }
     requires { ⌜ each ≤ 8 ⌝ }
-    ensures { λ r. ⌜ r ≡ andThen admitted (andThen (scan
+    ensures { λ r. ⌜ r ≡ andThen NotEvaluated admitted (andThen NotEvaluated (scan
         (λ k. variableFault (now (values .entry)) (termAt (now (table .entry)) k)) (terms (now (table .entry))) 0
         checked) (afford (now (table .entry)) each allowance room)) ⌝ }
 {
     let nothing = Evaluation::Evaluated(Spent { steps: 0, left: 0 });
-    if !evaluate::admits(admitted) {
+    if !table::accepts(admitted) {
         return evaluate::and_then(admitted, nothing);
     }
     let all = setting::variables_checked(table, values, checked);
-    if !evaluate::admits(all) {
+    if !table::accepts(all) {
         return evaluate::and_then(all, nothing);
     }
     evaluate::afford(table, each, allowance, room)

@@ -32,7 +32,7 @@ pub fn first_turn(table: &[u32], values: &[u32], count: usize, terms: u32) -> Tu
         return evaluate::turn_at(table, values, count, terms, &table[..0], 0);
     }
     Turn {
-        on: false,
+        pending: false,
         at: 0,
         count: 0,
         slot: 0,

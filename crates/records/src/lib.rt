@@ -13,8 +13,8 @@ pub use rows::look;
 pub use setting::Cell;
 ghost use mathlib.Core.Path.{_≡_};
 ghost use lib.ListN.{length};
-ghost use Rattle.records.specs.Answers.{evaluation, evaluated, judgement, judged};
-ghost use Rattle.records.specs.Laws.{Promise};
+ghost use Rattle.records.specs.Answers.{evaluation, evaluationRoom, judgement, judgementRoom};
+ghost use Rattle.records.specs.Laws.{RecordJudgementPromise};
 
 // Evaluates a table in a setting of records: the front of work holds one value a term, 0 for an array.
 pub fn evaluate_records(
@@ -27,13 +27,13 @@ pub fn evaluate_records(
     ensures { λ r. ⌜ r ≡ evaluation (now (table .entry)) (now (values .entry)) (now (cells .entry)) allowance
         (length (now (work .entry))) ⌝ }
     ensures { λ r. ⌜ now (work .exit)
-        ≡ evaluated r (now (table .entry)) (now (values .entry)) (now (cells .entry)) (now (work .entry)) ⌝ }
+        ≡ evaluationRoom r (now (table .entry)) (now (values .entry)) (now (cells .entry)) (now (work .entry)) ⌝ }
 {
     let answer = ready(table, 80000, values, cells, 1, allowance, work.len());
     let count = cells.len();
     let terms = terms_when(table, answer);
     let mut turn = first_turn(table, values, count, terms);
-    while turn.on {
+    while turn.pending {
         let found = look(cells, turn.count, turn.slot, turn.index, turn.other);
         turn = evaluate::step(table, values, count, terms, work, turn, found);
     }
@@ -54,14 +54,14 @@ pub fn judge_records(
     ensures { λ r. ⌜ r ≡ judgement (now (table .entry)) (now (values .entry)) (now (cells .entry)) allowance
         (length (now (work .entry))) ⌝ }
     ensures { λ r. ⌜ now (work .exit)
-        ≡ judged r (now (table .entry)) (now (values .entry)) (now (cells .entry)) (now (work .entry)) ⌝ }
-    ensures { λ r. ⌜ Promise (now (table .entry)) (now (values .entry)) (now (cells .entry)) r ⌝ }
+        ≡ judgementRoom r (now (table .entry)) (now (values .entry)) (now (cells .entry)) (now (work .entry)) ⌝ }
+    ensures { λ r. ⌜ RecordJudgementPromise (now (table .entry)) (now (values .entry)) (now (cells .entry)) r ⌝ }
 {
     let answer = ready(table, 512, values, cells, 2, allowance, work.len());
     let count = cells.len();
     let terms = terms_when(table, answer);
     let mut turn = first_turn(table, values, count, terms);
-    while turn.on {
+    while turn.pending {
         let found = look(cells, turn.count, turn.slot, turn.index, turn.other);
         turn = judge::step(table, values, count, terms, work, turn, found);
     }

@@ -11,7 +11,8 @@ use borrow.Author.Tests.{eqb-true, ltb-true, ne-eqb, not-false}
 use Rattle.ops.proofs.Booleans.{never}
 use Rattle.table.specs.declared.words.Term.{Term}
 use Rattle.table.specs.Terms.{terms, termAt, sortAt, scalar, array}
-use Rattle.table.specs.Faults.{variable, anyBelow}
+use Rattle.table.specs.Faults.{isVariable}
+use Rattle.table.specs.Folds.{anyBelow}
 use Rattle.table.proofs.Searches.{none-of-any}
 use Rattle.setting.specs.Agreement.{differAt, AgreementMade, AgreementComputed}
 
@@ -31,13 +32,13 @@ agreement-computed w marked values look values′ look′ same =
     not-differ : {x y : ℕ} → not (eqb x y) ≡ false → x ≡ y
     not-differ {x} {y} h = eqb-true x y (not-false (eqb x y) h)
 
-    by-scalar : (k : ℕ) → k < terms w → variable (termAt w k) ≡ true → marked (termAt w k) ≡ false → scalar (sortAt w k) ≡ true
+    by-scalar : (k : ℕ) → k < terms w → isVariable (termAt w k) ≡ true → marked (termAt w k) ≡ false → scalar (sortAt w k) ≡ true
         → not (eqb (getD values (termAt w k .p) 0) (getD values′ (termAt w k .p) 0)) ≡ false
     by-scalar k b v u s = rw (v, u, s) at (at k b)
 
     no-scalar : (m : ℕ) → ltb 0 m ≡ true → eqb m 0 ≡ false
     no-scalar m a = ne-eqb m 0 (λ z. let p : 0 < m = ltb-true 0 m a in omega arith)
 
-    by-array : (k : ℕ) → k < terms w → variable (termAt w k) ≡ true → marked (termAt w k) ≡ false → array (sortAt w k) ≡ true
+    by-array : (k : ℕ) → k < terms w → isVariable (termAt w k) ≡ true → marked (termAt w k) ≡ false → array (sortAt w k) ≡ true
         → anyBelow (2 ^ sortAt w k .m) (λ j. not (eqb (look (termAt w k .p) j (getD values (termAt w k .p) 0)) (look′ (termAt w k .p) j (getD values′ (termAt w k .p) 0)))) ≡ false
     by-array k b v u a = rw (v, u, no-scalar (sortAt w k .m) a) at (at k b)

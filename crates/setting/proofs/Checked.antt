@@ -12,9 +12,9 @@ use Rattle.ops.specs.Fits.{fits}
 use Rattle.ops.proofs.Booleans.{never, and-parts}
 use Rattle.table.specs.declared.words.Sort.{Sort}
 use Rattle.table.specs.declared.words.Term.{Term}
-use Rattle.table.specs.declared.Admission.the-variants.{Admitted}
+use Rattle.table.specs.declared.Acceptance.the-variants.{Accepted}
 use Rattle.table.specs.Terms.{terms, termAt, sortAt, scalar, array}
-use Rattle.table.specs.Faults.{variable, refuse}
+use Rattle.table.specs.Faults.{isVariable, refuseUnless}
 use Rattle.table.specs.Admission.{scan}
 use Rattle.table.specs.WellFormed.{WellFormed}
 use Rattle.table.proofs.Admitted.{cond-admitted}
@@ -35,17 +35,17 @@ not-or : (a b : Bool) → not a || b ≡ true → a ≡ true → b ≡ true
 not-or true b h e = h
 not-or false b h e = never e
 
-variable-sound : (values : List ℕ) (x : Term) → variableFault values x ≡ 0 → variable x ≡ true → fits (x .sort .n) (getD values (x .p) 0) ≡ true
+variable-sound : (values : List ℕ) (x : Term) → variableFault values x ≡ 0 → isVariable x ≡ true → fits (x .sort .n) (getD values (x .p) 0) ≡ true
 variable-sound values x h v =
-    let later : ℕ = refuse 13 (not (variable x) || fits (x .sort .n) (getD values (x .p) 0)) 0 in
-    not-or (variable x) (fits (x .sort .n) (getD values (x .p) 0))
-    (refuse-zero 12 (not (variable x) || fits (x .sort .n) (getD values (x .p) 0)) 0 (refuse-zero 11 (not (variable x) || ltb (x .p) (length values)) later h .1) .0)
+    let later : ℕ = refuseUnless 13 (not (isVariable x) || fits (x .sort .n) (getD values (x .p) 0)) 0 in
+    not-or (isVariable x) (fits (x .sort .n) (getD values (x .p) 0))
+    (refuse-zero 12 (not (isVariable x) || fits (x .sort .n) (getD values (x .p) 0)) 0 (refuse-zero 11 (not (isVariable x) || ltb (x .p) (length values)) later h .1) .0)
     v
 
 cell-sound : (w : List ℕ) (c : Cell) → cellFault w c ≡ 0 → fits (slotSort w (c .slot) .n) (c .value) ≡ true
 cell-sound w c h =
     let s = slotSort w (c .slot) in
-    let later : ℕ = refuse 15 (fits (s .m) (c .index) && fits (s .n) (c .value)) 0 in
+    let later : ℕ = refuseUnless 15 (fits (s .m) (c .index) && fits (s .n) (c .value)) 0 in
     and-parts (fits (s .m) (c .index)) (fits (s .n) (c .value))
     (refuse-zero 14 (fits (s .m) (c .index) && fits (s .n) (c .value)) 0 (refuse-zero 13 (array s) later h .1) .0) .1
 
@@ -56,7 +56,7 @@ below-of-fits n v z h = ltb-true v (2 ^ n) (rw (ne-eqb n 0 z) at h)
 module _ (limit : ℕ) (w values cells : List ℕ) (f : WellFormed limit w)
     (variables : (k : ℕ) → k < terms w → variableFault values (termAt w k) ≡ 0)
     (listed : (k : ℕ) → k < cellCount cells → cellFault w (cellAt cells k) ≡ 0) where
-  module _ (k : ℕ) (b : k < terms w) (v : variable (termAt w k) ≡ true) where
+  module _ (k : ℕ) (b : k < terms w) (v : isVariable (termAt w k) ≡ true) where
     own : fits (sortAt w k .n) (getD values (termAt w k .p) 0) ≡ true
     own = variable-sound values (termAt w k) (variables k b) v
 
@@ -86,8 +86,8 @@ module _ (limit : ℕ) (w values cells : List ℕ) (f : WellFormed limit w)
 pub checked-fits : CheckedFits
 unfolding check
 checked-fits limit w values cells f h =
-    let rest = scan (λ k. cellFault w (cellAt cells k)) (cellCount cells) 0 Admitted in
+    let rest = scan (λ k. cellFault w (cellAt cells k)) (cellCount cells) 0 Accepted in
     let whole = cond-admitted (not (eqb (length cells % 3) 0)) 11 (checkCells w values (cellAt cells) (cellCount cells)) h in
     let variables = scan-sound (λ k. variableFault values (termAt w k)) (terms w) rest (whole .1) in
-    let listed = scan-sound (λ k. cellFault w (cellAt cells k)) (cellCount cells) Admitted (variables .0) in
+    let listed = scan-sound (λ k. cellFault w (cellAt cells k)) (cellCount cells) Accepted (variables .0) in
     λ k b v. fit limit w values cells f (variables .1) (listed .1) k b v

@@ -15,10 +15,11 @@ use Rattle.ops.proofs.Booleans.{and-parts, and-shut}
 use Rattle.table.specs.declared.words.Sort.{Sort}
 use Rattle.table.specs.declared.words.Term.{Term}
 use Rattle.table.specs.Terms.{terms, termAt, sortAt, array}
-use Rattle.table.specs.Faults.{variable}
+use Rattle.table.specs.Faults.{isVariable}
 use Rattle.table.specs.WellFormed.{WellFormed}
 use Rattle.table.proofs.Admitted.{slots-have-one-use}
-use Rattle.setting.specs.Arrays.{arrayVariable, arrayEntry, entrySort, slotSort, Entries}
+use Rattle.setting.specs.Arrays.{arrayVariable, arrayEntry, entrySort, slotSort}
+use Rattle.setting.specs.Code.Entries.{Entries}
 
 -- one term more
 
@@ -36,7 +37,7 @@ entry-other w i slot s = rw (add-one, ne-eqb (termAt w i .p) slot (λ e. s (sym 
 
 -- an array variable's slot is at most 255
 low : (x : Term) → arrayVariable x ≡ true → x .p ≤ 255
-low x e = leb-true (x .p) 255 (and-parts (variable x && array (x .sort)) (leb (x .p) 255) e .1)
+low x e = leb-true (x .p) 255 (and-parts (isVariable x && array (x .sort)) (leb (x .p) 255) e .1)
 
 pub none-yet : (w : List ℕ) → Entries w 0 (replicate 256 0)
 unfolding arrayEntry
@@ -128,6 +129,6 @@ pub slot-sort-is : (limit : ℕ) (w : List ℕ) → WellFormed limit w → (j : 
 unfolding slotSort
 slot-sort-is limit w f j b e =
     let found = entry-found w (terms w) (termAt w j .p) j b e refl in
-    let var : (x : Term) → arrayVariable x ≡ true → variable x ≡ true = λ x a. and-parts (variable x) (array (x .sort)) (and-parts (variable x && array (x .sort)) (leb (x .p) 255) a .0) .0 in
+    let var : (x : Term) → arrayVariable x ≡ true → isVariable x ≡ true = λ x a. and-parts (isVariable x) (array (x .sort)) (and-parts (isVariable x && array (x .sort)) (leb (x .p) 255) a .0) .0 in
     ap (entrySort w) (found .is)
     ∙ slots-have-one-use limit w f (found .term) j (found .below) b (var (termAt w (found .term)) (found .claims)) (var (termAt w j) e) (found .slot-is) .0

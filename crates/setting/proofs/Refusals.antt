@@ -10,10 +10,10 @@ use lib.Dec.{eqb, ltb}
 use lib.ListN.{length, getD}
 use Rattle.ops.specs.Fits.{fits}
 use Rattle.table.specs.declared.words.Term.{Term}
-use Rattle.table.specs.declared.Admission.{Admission}
-use Rattle.table.specs.declared.Admission.the-variants.{Admitted}
+use Rattle.table.specs.declared.Acceptance.{Acceptance}
+use Rattle.table.specs.declared.Acceptance.the-variants.{Accepted}
 use Rattle.table.specs.Terms.{terms, termAt, array}
-use Rattle.table.specs.Faults.{variable}
+use Rattle.table.specs.Faults.{isVariable}
 use Rattle.table.specs.Admission.{refused}
 use Rattle.table.specs.Refusals.{between, RefusedBy}
 use Rattle.table.proofs.Refusals.{wider, Fault, refuse-by, scan-by, either-of}
@@ -26,16 +26,16 @@ use Rattle.setting.specs.Laws.{CheckNumbers, CellNumbers}
 
 variable-by : (values : List ℕ) (x : Term) → Fault (between 12 15) (variableFault values x)
 variable-by values x =
-    refuse-by 12 refl (not (variable x) || ltb (x .p) (length values))
-    (refuse-by 13 refl (not (variable x) || fits (x .sort .n) (getD values (x .p) 0)) none)
+    refuse-by 12 refl (not (isVariable x) || ltb (x .p) (length values))
+    (refuse-by 13 refl (not (isVariable x) || fits (x .sort .n) (getD values (x .p) 0)) none)
 
 cell-by : (w : List ℕ) (c : Cell) → Fault (between 12 15) (cellFault w c)
 cell-by w c =
     let s = slotSort w (c .slot) in
     refuse-by 14 refl (array s) (refuse-by 15 refl (fits (s .m) (c .index) && fits (s .n) (c .value)) none)
 
--- What holds of Admitted and of every refusal by 12 to 15 holds of the check of cells in any form
-module _ (Q : Admission → Type 0) (admitted : Q Admitted) where
+-- What holds of Accepted and of every refusal by 12 to 15 holds of the check of cells in any form
+module _ (Q : Acceptance → Type 0) (admitted : Q Accepted) where
   pub cells-by : ((number place : ℕ) → between 12 15 number ≡ true → Q (refused number place)) → (w values : List ℕ) (cells : ℕ → Cell) (count : ℕ) → Q (checkCells w values cells count)
   cells-by by w values cells count =
       scan-by (between 12 15) Q by (λ k. variableFault values (termAt w k)) (λ k. variable-by values (termAt w k)) (terms w) 0

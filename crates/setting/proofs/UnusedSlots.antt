@@ -11,9 +11,9 @@ use lib.ListN.{length, getD, length-append, List·getD-append, List·getD-eq-def
 use borrow.Author.Tests.{lt-ltb, le-ltb}
 use Rattle.ops.specs.Fits.{fits}
 use Rattle.table.specs.declared.words.Term.{Term}
-use Rattle.table.specs.declared.Admission.the-variants.{Admitted}
+use Rattle.table.specs.declared.Acceptance.the-variants.{Accepted}
 use Rattle.table.specs.Terms.{terms, termAt}
-use Rattle.table.specs.Faults.{variable, refuse}
+use Rattle.table.specs.Faults.{isVariable, refuseUnless}
 use Rattle.table.specs.Admission.{refused, scan}
 use Rattle.table.proofs.Scans.{scan-same}
 use Rattle.setting.specs.declared.cells.Cell.{Cell}
@@ -31,13 +31,13 @@ same-number : (values values′ : List ℕ) (slot : ℕ) → OneValue values val
 same-number values values′ slot (inl (a, b)) = List·getD-eq-default values 0 a ∙ sym (List·getD-eq-default values′ 0 b)
 same-number values values′ slot (inr (a, b, e)) = e
 
-variable-same : (values values′ : List ℕ) (x : Term) → (variable x ≡ true → OneValue values values′ (x .p)) → variableFault values x ≡ variableFault values′ x
-variable-same values values′ x one = go (variable x) one
+variable-same : (values values′ : List ℕ) (x : Term) → (isVariable x ≡ true → OneValue values values′ (x .p)) → variableFault values x ≡ variableFault values′ x
+variable-same values values′ x one = go (isVariable x) one
   where
     go : (v : Bool) → (v ≡ true → OneValue values values′ (x .p))
-        → refuse 12 (not v || ltb (x .p) (length values)) (refuse 13 (not v || fits (x .sort .n) (getD values (x .p) 0)) 0)
-        ≡ refuse 12 (not v || ltb (x .p) (length values′)) (refuse 13 (not v || fits (x .sort .n) (getD values′ (x .p) 0)) 0)
-    go true h = ap₂ (λ a b. refuse 12 a (refuse 13 (fits (x .sort .n) b) 0)) (same-inside values values′ (x .p) (h refl)) (same-number values values′ (x .p) (h refl))
+        → refuseUnless 12 (not v || ltb (x .p) (length values)) (refuseUnless 13 (not v || fits (x .sort .n) (getD values (x .p) 0)) 0)
+        ≡ refuseUnless 12 (not v || ltb (x .p) (length values′)) (refuseUnless 13 (not v || fits (x .sort .n) (getD values′ (x .p) 0)) 0)
+    go true h = ap₂ (λ a b. refuseUnless 12 a (refuseUnless 13 (fits (x .sort .n) b) 0)) (same-inside values values′ (x .p) (h refl)) (same-number values values′ (x .p) (h refl))
     go false h = refl
 
 module _ (w values values′ : List ℕ) (one : OneUsedValues w values values′) where
@@ -48,7 +48,7 @@ module _ (w values values′ : List ℕ) (one : OneUsedValues w values values′
       (λ k b. variable-same values values′ (termAt w k) (one k b))
 
   -- and what a used slot holds
-  pub input-same : (look : ℕ → ℕ → ℕ → ℕ) (k : ℕ) → k < terms w → variable (termAt w k) ≡ true → interpret values look (termAt w k .p) ≡ interpret values′ look (termAt w k .p)
+  pub input-same : (look : ℕ → ℕ → ℕ → ℕ) (k : ℕ) → k < terms w → isVariable (termAt w k) ≡ true → interpret values look (termAt w k .p) ≡ interpret values′ look (termAt w k .p)
   input-same look k b v = ap (λ n. record { num = n; cell = λ j. look (termAt w k .p) j n }) (same-number values values′ (termAt w k .p) (one k b v))
 
 pub unused-unchecked : UnusedUnchecked

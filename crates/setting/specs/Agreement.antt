@@ -9,7 +9,8 @@ use lib.Dec.{eqb}
 use lib.ListN.{getD}
 use Rattle.table.specs.declared.words.Term.{Term}
 use Rattle.table.specs.Terms.{terms, termAt, sortAt, scalar, array}
-use Rattle.table.specs.Faults.{variable, anyBelow}
+use Rattle.table.specs.Faults.{isVariable}
+use Rattle.table.specs.Folds.{anyBelow}
 use Rattle.setting.specs.Interpretation.{interpret, AgreeUnmarked}
 
 -- a table, which of its terms are marked, and two settings
@@ -17,19 +18,19 @@ module _ (w : List ℕ) (marked : Term → Bool) (values : List ℕ) (look : ℕ
   -- unmarked Booleans and vectors have equal values
   abbrev pub EqualScalars : Type 0
   EqualScalars =
-      (k : ℕ) → k < terms w → variable (termAt w k) ≡ true → marked (termAt w k) ≡ false → scalar (sortAt w k) ≡ true
+      (k : ℕ) → k < terms w → isVariable (termAt w k) ≡ true → marked (termAt w k) ≡ false → scalar (sortAt w k) ≡ true
       → getD values (termAt w k .p) 0 ≡ getD values′ (termAt w k .p) 0
 
   -- of unmarked arrays the lookups are equal at every index below 2^m: the slot's own value counts where no cell is listed
   abbrev pub EqualArrays : Type 0
   EqualArrays =
-      (k : ℕ) → k < terms w → variable (termAt w k) ≡ true → marked (termAt w k) ≡ false → array (sortAt w k) ≡ true → (j : ℕ) → j < 2 ^ sortAt w k .m
+      (k : ℕ) → k < terms w → isVariable (termAt w k) ≡ true → marked (termAt w k) ≡ false → array (sortAt w k) ≡ true → (j : ℕ) → j < 2 ^ sortAt w k .m
       → look (termAt w k .p) j (getD values (termAt w k .p) 0) ≡ look′ (termAt w k .p) j (getD values′ (termAt w k .p) 0)
 
   -- whether the two differ in an unmarked input, by computation
   abbrev pub differAt : ℕ → Bool
   differAt k =
-      variable (termAt w k) && not (marked (termAt w k))
+      isVariable (termAt w k) && not (marked (termAt w k))
       && cond (scalar (sortAt w k)) (not (eqb (getD values (termAt w k .p) 0) (getD values′ (termAt w k .p) 0)))
       (anyBelow (2 ^ sortAt w k .m) (λ j. not (eqb (look (termAt w k .p) j (getD values (termAt w k .p) 0)) (look′ (termAt w k .p) j (getD values′ (termAt w k .p) 0)))))
 

@@ -1,19 +1,17 @@
 -- The sort of each array slot of a table.
 -- Assumes nothing.
-use mathlib.Core.Path.{_≡_}
 use mathlib.Core.Bool.{Bool, cond, _&&_}
 use mathlib.Core.List.{List}
-use Prim.Native.Nat.{ℕ, zero, suc, _<_}
+use Prim.Native.Nat.{ℕ, zero, suc}
 use lib.Dec.{eqb, ltb, leb}
-use lib.ListN.{length, getD}
 use Rattle.table.specs.declared.words.Sort.{Sort}
 use Rattle.table.specs.declared.words.Term.{Term}
 use Rattle.table.specs.Terms.{terms, termAt, sortAt, array}
-use Rattle.table.specs.Faults.{variable}
+use Rattle.table.specs.Faults.{isVariable}
 
 -- an array variable of a slot up to 255
 abbrev pub arrayVariable : Term → Bool
-arrayVariable x = variable x && array (x .sort) && leb (x .p) 255
+arrayVariable x = isVariable x && array (x .sort) && leb (x .p) 255
 
 -- the number and one of the latest of the first k terms that is an array variable of this slot; 0 where there is none
 unfoldable pub arrayEntry : List ℕ → ℕ → ℕ → ℕ
@@ -28,8 +26,3 @@ entrySort w (suc k) = sortAt w k
 -- the sort of a slot's array variable; (0, 0), which is no array's, where it has none
 unfoldable pub slotSort : List ℕ → ℕ → Sort
 slotSort w slot = entrySort w (arrayEntry w (terms w) slot)
-
--- the entries of the first k terms, by slot
-pub record Entries (w : List ℕ) (k : ℕ) (entries : List ℕ) : Type 0 where
-  pub size : length entries ≡ 256
-  pub is : (slot : ℕ) → slot < 256 → getD entries slot 0 ≡ arrayEntry w k slot

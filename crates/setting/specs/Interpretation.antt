@@ -9,9 +9,9 @@ use lib.ListN.{getD}
 use Rattle.ops.specs.Fits.{fits}
 use Rattle.table.specs.declared.words.Sort.{Sort}
 use Rattle.table.specs.declared.words.Term.{Term}
-use Rattle.table.specs.declared.Admission.the-variants.{Admitted}
+use Rattle.table.specs.declared.Acceptance.the-variants.{Accepted}
 use Rattle.table.specs.Terms.{terms, termAt, sortAt, scalar, array}
-use Rattle.table.specs.Faults.{variable}
+use Rattle.table.specs.Faults.{isVariable}
 use Rattle.table.specs.WellFormed.{WellFormed}
 use Rattle.setting.specs.Cells.{look}
 use Rattle.setting.specs.Check.{check}
@@ -35,7 +35,7 @@ pub record Fit (s : Sort) (v : Value) : Type 0 where
 
 -- an input is a slot that some variable term of the table uses: each fits
 abbrev pub FitInputs : List ℕ → Interpretation → Type 0
-FitInputs w I = (k : ℕ) → k < terms w → variable (termAt w k) ≡ true → Fit (sortAt w k) (I (termAt w k .p))
+FitInputs w I = (k : ℕ) → k < terms w → isVariable (termAt w k) ≡ true → Fit (sortAt w k) (I (termAt w k .p))
 
 -- two values are the same at a sort
 pub record Same (s : Sort) (v v′ : Value) : Type 0 where
@@ -46,8 +46,8 @@ pub record Same (s : Sort) (v v′ : Value) : Type 0 where
 
 -- two interpretations agree on every unmarked input; which terms are marked is a parameter
 abbrev pub AgreeUnmarked : List ℕ → (Term → Bool) → Interpretation → Interpretation → Type 0
-AgreeUnmarked w marked I I′ = (k : ℕ) → k < terms w → variable (termAt w k) ≡ true → marked (termAt w k) ≡ false → Same (sortAt w k) (I (termAt w k .p)) (I′ (termAt w k .p))
+AgreeUnmarked w marked I I′ = (k : ℕ) → k < terms w → isVariable (termAt w k) ≡ true → marked (termAt w k) ≡ false → Same (sortAt w k) (I (termAt w k .p)) (I′ (termAt w k .p))
 
 -- A setting that is not refused fits.
 abbrev pub CheckedFits : Type 0
-CheckedFits = (limit : ℕ) (w values cells : List ℕ) → WellFormed limit w → check w values cells ≡ Admitted → FitInputs w (interpret values (look cells))
+CheckedFits = (limit : ℕ) (w values cells : List ℕ) → WellFormed limit w → check w values cells ≡ Accepted → FitInputs w (interpret values (look cells))

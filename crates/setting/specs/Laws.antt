@@ -7,7 +7,7 @@ use mathlib.Core.List.{List, _++_}
 use Prim.Native.Nat.{ℕ, _≤_, _<_}
 use lib.ListN.{length, getD}
 use Rattle.table.specs.Terms.{terms, termAt}
-use Rattle.table.specs.Faults.{variable}
+use Rattle.table.specs.Faults.{isVariable}
 use Rattle.table.specs.Refusals.{between, RefusedBy}
 use Rattle.setting.specs.declared.cells.Cell.{Cell}
 use Rattle.setting.specs.Check.{checkCells, check}
@@ -29,7 +29,7 @@ OneValue values values′ slot =
 
 -- so is every slot that a variable of the table uses
 abbrev pub OneUsedValues : List ℕ → List ℕ → List ℕ → Type 0
-OneUsedValues w values values′ = (k : ℕ) → k < terms w → variable (termAt w k) ≡ true → OneValue values values′ (termAt w k .p)
+OneUsedValues w values values′ = (k : ℕ) → k < terms w → isVariable (termAt w k) ≡ true → OneValue values values′ (termAt w k .p)
 
 abbrev pub UnusedUnchecked : Type 0
 UnusedUnchecked = (w values values′ cells : List ℕ) → OneUsedValues w values values′ → check w values cells ≡ check w values′ cells
@@ -37,4 +37,4 @@ UnusedUnchecked = (w values values′ cells : List ℕ) → OneUsedValues w valu
 -- Numbers after those of the used slots change nothing.
 abbrev pub MoreValues : Type 0
 MoreValues =
-    (w values more : List ℕ) → ((k : ℕ) → k < terms w → variable (termAt w k) ≡ true → termAt w k .p < length values) → OneUsedValues w values (values ++ more)
+    (w values more : List ℕ) → ((k : ℕ) → k < terms w → isVariable (termAt w k) ≡ true → termAt w k .p < length values) → OneUsedValues w values (values ++ more)

@@ -4,3 +4,4 @@ pub mod Check
 pub mod Interpretation
 pub mod Agreement
 pub mod Laws
+pub mod Code

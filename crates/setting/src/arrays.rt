@@ -3,7 +3,8 @@ ghost use mathlib.Core.Path.{_≡_};
 ghost use lib.ListN.{replicate};
 ghost use Rattle.table.specs.Terms.{terms};
 ghost use Rattle.table.specs.WellFormed.{WellFormed};
-ghost use Rattle.setting.specs.Arrays.{arrayVariable, Entries, slotSort};
+ghost use Rattle.setting.specs.Arrays.{arrayVariable, slotSort};
+ghost use Rattle.setting.specs.Code.Entries.{Entries};
 use table::Sort;
 use table::Term;
 
@@ -14,7 +15,7 @@ pub const ENTRIES: usize = 256;
 fn array_variable(x: Term) -> bool
     ensures { λ r. ⌜ r ≡ arrayVariable x ⌝ }
 {
-    table::variable(x) & table::array(x.sort) & (x.p <= 255)
+    table::is_variable(x) & table::array(x.sort) & (x.p <= 255)
 }
 
 // Fills in, for each slot, the number of its latest array variable and one.

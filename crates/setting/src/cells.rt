@@ -2,17 +2,17 @@
 ghost use mathlib.Core.Path.{_≡_};
 ghost use Prim.Native.Nat.{_+_, _*_, _/_, _≤_};
 ghost use lib.ListN.{length};
-ghost use Rattle.table.specs.declared.Admission.the-variants.{Admitted};
+ghost use Rattle.table.specs.declared.Acceptance.the-variants.{Accepted};
 ghost use Rattle.table.specs.Terms.{terms};
 ghost use Rattle.table.specs.Admission.{refusedBy, scan};
 ghost use Rattle.table.specs.WellFormed.{WellFormed};
-ghost use Rattle.setting.specs.Arrays.{Entries};
+ghost use Rattle.setting.specs.Code.Entries.{Entries};
 ghost use Rattle.setting.specs.Cells.{cellAt, matches, lookFrom};
 ghost use Rattle.setting.specs.Check.{cellFault};
 use crate::arrays::fill_entries;
 use crate::arrays::slot_sort;
-use table::Admission;
-use table::refuse;
+use table::Acceptance;
+use table::refuse_unless;
 
 #[repr(C)]
 pub struct Cell {
@@ -61,7 +61,7 @@ fn cell_fault(table: &[u32], entries: &[u32; 256], c: Cell) -> u32
 {
     let sort = slot_sort(table, entries, c.slot);
     let fitting = ops::fits(sort.m, c.index) & ops::fits(sort.n, c.value);
-    refuse(14, table::array(sort), refuse(15, fitting, 0))
+    refuse_unless(14, table::array(sort), refuse_unless(15, fitting, 0))
 }
 
 // Cell k is checked before the rest.
@@ -70,8 +70,8 @@ pub fn checked_cell(
     entries: &[u32; 256],
     c: Cell,
     k: u64,
-    rest: Admission,
-) -> Admission
+    rest: Acceptance,
+) -> Acceptance
     requires { ⌜ Entries (now table) (terms (now table)) (now entries) ⌝ }
     ensures { λ r. ⌜ r ≡ refusedBy (cellFault (now (table .entry)) c) k rest ⌝ }
 {
@@ -79,10 +79,10 @@ pub fn checked_cell(
 }
 
 // The cells in order.
-pub fn cells_checked(table: &[u32], cells: &[u32]) -> Admission
+pub fn cells_checked(table: &[u32], cells: &[u32]) -> Acceptance
     requires { ⌜ WellFormed 80000 (now table) ⌝ }
     ensures { λ r. ⌜ r ≡ scan (λ k. cellFault (now (table .entry)) (cellAt (now (cells .entry)) k))
-        (length (now (cells .entry)) / 3) 0 Admitted ⌝ }
+        (length (now (cells .entry)) / 3) 0 Accepted ⌝ }
 {
     let mut entries = [0u32; 256];
     fill_entries(table, &mut entries);
@@ -93,5 +93,5 @@ pub fn cells_checked(table: &[u32], cells: &[u32]) -> Admission
             return table::refused(number, k as u64);
         }
     }
-    Admission::Admitted
+    Acceptance::Accepted
 }

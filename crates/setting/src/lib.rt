@@ -9,24 +9,27 @@ pub use arrays::fill_entries;
 pub use cells::Cell;
 pub use cells::checked_cell;
 pub use cells::look;
-use table::Admission;
+use table::Acceptance;
 use table::refused;
-pub use variables::number_at;
 pub use variables::variables_checked;
 ghost use mathlib.Core.Path.{_≡_};
 ghost use Rattle.table.specs.WellFormed.{WellFormed};
 ghost use Rattle.setting.specs.Check.{check};
 
 // Whether a setting is one to evaluate in, else its first refusal: 11, then the variables, then the cells.
-pub fn check(table: &[u32], values: &[u32], cells: &[u32]) -> Admission
+pub fn check(table: &[u32], values: &[u32], cells: &[u32]) -> Acceptance
     requires { ⌜ WellFormed 80000 (now table) ⌝ }
     ensures { λ r. ⌜ r ≡ check (now (table .entry)) (now (values .entry)) (now (cells .entry)) ⌝ }
 {
     if cells.len() % 3 != 0 {
         return refused(11, 0);
     }
-    if cells.len() == 0 {
-        return variables_checked(table, values, Admission::Admitted);
+    let variables = variables_checked(table, values, Acceptance::Accepted);
+    if !table::accepts(variables) {
+        return variables;
     }
-    variables_checked(table, values, cells::cells_checked(table, cells))
+    if cells.len() == 0 {
+        return Acceptance::Accepted;
+    }
+    cells::cells_checked(table, cells)
 }

@@ -3,34 +3,26 @@ ghost use mathlib.Core.Path.{_≡_};
 ghost use Rattle.table.specs.Terms.{terms, termAt};
 ghost use Rattle.table.specs.Admission.{scan};
 ghost use Rattle.table.specs.WellFormed.{WellFormed};
-ghost use lib.ListN.{getD};
 ghost use Rattle.setting.specs.Check.{variableFault};
-use table::Admission;
+use table::Acceptance;
 use table::Term;
-use table::refuse;
-
-// The number at a place of a row, 0 past its end.
-pub fn number_at(row: &[u32], k: u32) -> u32
-    ensures { λ r. ⌜ r ≡ getD (now (row .entry)) k 0 ⌝ }
-{
-    let at = k as usize;
-    if at < row.len() { row[at] } else { 0 }
-}
+use table::number_at;
+use table::refuse_unless;
 
 // The lower of 12 and 13 that refuses a term, and 0 where none does or it is no variable.
 fn variable_fault(values: &[u32], x: Term) -> u32
     ensures { λ r. ⌜ r ≡ variableFault (now (values .entry)) x ⌝ }
 {
-    if !table::variable(x) {
+    if !table::is_variable(x) {
         return 0;
     }
     let inside = (x.p as usize) < values.len();
     let fitting = ops::fits(x.sort.n, number_at(values, x.p));
-    refuse(12, inside, refuse(13, fitting, 0))
+    refuse_unless(12, inside, refuse_unless(13, fitting, 0))
 }
 
 // The variables in order, then the rest.
-pub fn variables_checked(table: &[u32], values: &[u32], rest: Admission) -> Admission
+pub fn variables_checked(table: &[u32], values: &[u32], rest: Acceptance) -> Acceptance
     requires { ⌜ WellFormed 80000 (now table) ⌝ }
     ensures { λ r. ⌜ r ≡ scan (λ k. variableFault (now (values .entry)) (termAt (now (table .entry)) k))
         (terms (now (table .entry))) 0 rest ⌝ }

@@ -11,10 +11,11 @@ use lib.ListN.{length}
 use borrow.Author.Tests.{leb-true, le-leb, ltb-false, le-ltb, ne-eqb, eq-eqb, not-false, not-true, eqb-true, eqb-false}
 use Rattle.ops.proofs.Booleans.{or-neither, and-parts}
 use Rattle.table.specs.declared.words.Sort.{Sort}
-use Rattle.table.specs.declared.Admission.{Admission}
-use Rattle.table.specs.declared.Admission.the-variants.{Admitted}
+use Rattle.table.specs.declared.Acceptance.{Acceptance}
+use Rattle.table.specs.declared.Acceptance.the-variants.{Accepted}
 use Rattle.table.specs.Terms.{words, terms, termAt, sortAt, boolean}
-use Rattle.table.specs.Faults.{fields, variable, known, sorted, placedAs, typed, valuedAs, conflicts, anyBelow, clash, size, refuse, faultIf, fault}
+use Rattle.table.specs.Faults.{fields, isVariable, known, sorted, placedAs, typed, valuedAs, conflicts, clash, size, refuseUnless, faultIf, fault}
+use Rattle.table.specs.Folds.{anyBelow}
 use Rattle.table.specs.Admission.{refused, scan, ended, admissionWithin}
 use Rattle.table.specs.WellFormed.{Sound, WellFormed, OneUse, AdmissionSound, AdmissionComplete, SlotsHaveOneUse}
 use Rattle.table.proofs.Searches.{none-of-any}
@@ -36,12 +37,12 @@ fault-sound : (t : List ℕ) (k : ℕ) → fault t k ≡ 0 → Sound t k
 unfolding fault faultIf
 fault-sound t k h =
     let x = termAt t k in
-    let after-8 : ℕ = refuse 9 (leb (size t k) 16) 0 in
-    let after-7 : ℕ = refuse 8 (not (clash t k)) after-8 in
-    let after-6 : ℕ = refuse 7 (valuedAs (fields x) x) after-7 in
-    let after-5 : ℕ = refuse 6 (typed t x) after-6 in
-    let after-4 : ℕ = refuse 5 (placedAs (fields x) k x) after-5 in
-    let after-3 : ℕ = refuse 4 (sorted (x .sort)) after-4 in
+    let after-8 : ℕ = refuseUnless 9 (leb (size t k) 16) 0 in
+    let after-7 : ℕ = refuseUnless 8 (not (clash t k)) after-8 in
+    let after-6 : ℕ = refuseUnless 7 (valuedAs (fields x) x) after-7 in
+    let after-5 : ℕ = refuseUnless 6 (typed t x) after-6 in
+    let after-4 : ℕ = refuseUnless 5 (placedAs (fields x) k x) after-5 in
+    let after-3 : ℕ = refuseUnless 4 (sorted (x .sort)) after-4 in
     let z3 = refuse-zero 2 (known x) after-3 h in
     let z4 = refuse-zero 3 (sorted (x .sort)) after-4 (z3 .1) in
     let z5 = refuse-zero 4 (placedAs (fields x) k x) after-5 (z4 .1) in
@@ -65,11 +66,11 @@ sound-fault t k s =
 
 -- The whole
 
-pub cond-admitted : (b : Bool) (number : ℕ) (rest : Admission) → cond b (refused number 0) rest ≡ Admitted → (b ≡ false) × (rest ≡ Admitted)
+pub cond-admitted : (b : Bool) (number : ℕ) (rest : Acceptance) → cond b (refused number 0) rest ≡ Accepted → (b ≡ false) × (rest ≡ Accepted)
 cond-admitted true number rest h = absurd (not-both number 0 h)
 cond-admitted false number rest h = (refl, h)
 
-ended-admitted : (b : Bool) (last : ℕ) → cond b Admitted (refused 10 last) ≡ Admitted → b ≡ true
+ended-admitted : (b : Bool) (last : ℕ) → cond b Accepted (refused 10 last) ≡ Accepted → b ≡ true
 ended-admitted true last h = refl
 ended-admitted false last h = absurd (not-both 10 last h)
 
@@ -104,12 +105,12 @@ admission-complete limit t w =
 
 module _ (limit : ℕ) (t : List ℕ) (w : WellFormed limit t) where
   -- a variable and an earlier one
-  earlier-use : (j k : ℕ) → j < k → k < terms t → variable (termAt t j) ≡ true → variable (termAt t k) ≡ true → conflicts (termAt t j) (termAt t k) ≡ false
+  earlier-use : (j k : ℕ) → j < k → k < terms t → isVariable (termAt t j) ≡ true → isVariable (termAt t k) ≡ true → conflicts (termAt t j) (termAt t k) ≡ false
   unfolding clash
   earlier-use j k b c vj vk =
-      rw vj at (none-of-any k (λ i. variable (termAt t i) && conflicts (termAt t i) (termAt t k)) (rw vk at (w .sound k c .no-clash)) j b)
+      rw vj at (none-of-any k (λ i. isVariable (termAt t i) && conflicts (termAt t i) (termAt t k)) (rw vk at (w .sound k c .no-clash)) j b)
 
-  same-use : (j k : ℕ) → j < k → k < terms t → variable (termAt t j) ≡ true → variable (termAt t k) ≡ true → termAt t j .p ≡ termAt t k .p → (sortAt t j ≡ sortAt t k) × (termAt t j .q ≡ termAt t k .q)
+  same-use : (j k : ℕ) → j < k → k < terms t → isVariable (termAt t j) ≡ true → isVariable (termAt t k) ≡ true → termAt t j .p ≡ termAt t k .p → (sortAt t j ≡ sortAt t k) × (termAt t j .q ≡ termAt t k .q)
   same-use j k b c vj vk p =
       let s = one-sort (termAt t j) (termAt t k) p (earlier-use j k b c vj vk) in
       ((λ i. record { m = s .m i; n = s .n i }), s .mark)

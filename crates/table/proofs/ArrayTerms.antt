@@ -13,7 +13,7 @@ use Rattle.ops.specs.Numbers.{opOf}
 use Rattle.table.specs.declared.words.Sort.{Sort}
 use Rattle.table.specs.Terms.{terms, termAt, sortAt, array, vectorOf, sameSort}
 use Rattle.table.specs.Ranks.{slotted, writes}
-use Rattle.table.specs.Faults.{variable, storing, chain, size}
+use Rattle.table.specs.Faults.{isVariable, isStore, chain, size}
 use Rattle.table.specs.WellFormed.{WellFormed, Under, ArrayTerms}
 use Rattle.table.specs.WellFormed.Under.{base, store}
 use Rattle.table.proofs.OperandSorts.{array-op, same-sort, four, op-at, typing, typing-as, placing-as, three-placed}
@@ -46,13 +46,13 @@ module _ (limit : ℕ) (t : List ℕ) (f : WellFormed limit t) where
     where
       by : (op : Op) → opOf (termAt t k .op) ≡ op → (op ≡ Variable) ⊎ (op ≡ Store)
           → (termAt t k .p < terms t → array (sortAt t (termAt t k .p)) ≡ true → chain left t (termAt t k .p) < left → Under t (chain left t (termAt t k .p)) (termAt t k .p))
-          → Under t (cond (storing (termAt t k)) (suc (chain left t (termAt t k .p))) 0) k
+          → Under t (cond (isStore (termAt t k)) (suc (chain left t (termAt t k .p))) 0) k
       by op e (inl v) later = rw (ap (λ (o : Op). writes o) (e ∙ v)) (base (ap (λ (o : Op). slotted o) (e ∙ v)))
       by op e (inr v) later =
-          let w : storing (termAt t k) ≡ true = ap (λ (o : Op). writes o) (e ∙ v) in
+          let w : isStore (termAt t k) ≡ true = ap (λ (o : Op). writes o) (e ∙ v) in
           let below : termAt t k .p < k = beneath k b (e ∙ v) in
           let same = one-sort k b (e ∙ v) in
-          let fewer : chain left t (termAt t k .p) < left = let s : cond (storing (termAt t k)) (suc (chain left t (termAt t k .p))) 0 < suc left = short in let u = rw w at s in omega arith in
+          let fewer : chain left t (termAt t k .p) < left = let s : cond (isStore (termAt t k)) (suc (chain left t (termAt t k .p))) 0 < suc left = short in let u = rw w at s in omega arith in
           rw w (store w below same (later (omega arith) (subst (λ (z : Sort). array z ≡ true) (sym same) a) fewer))
 
 pub array-terms : ArrayTerms

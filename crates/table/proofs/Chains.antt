@@ -7,17 +7,17 @@ use Prim.Native.Nat.{ℕ, suc, _+_, _-_, _≤_, _<_}
 use native.Mathlib.Omega.{arith}
 use lib.Dec.{leb}
 use Rattle.table.specs.Terms.{termAt}
-use Rattle.table.specs.Faults.{storing, chain, size}
+use Rattle.table.specs.Faults.{isStore, chain, size}
 
 module _ (t : List ℕ) (k count : ℕ) (below : count < 17) where
   left : 17 - count ≡ suc (17 - (count + 1))
   left = omega arith
 
-  pub chain-more : storing (termAt t k) ≡ true → count + chain (17 - count) t k ≡ count + 1 + chain (17 - (count + 1)) t (termAt t k .p)
+  pub chain-more : isStore (termAt t k) ≡ true → count + chain (17 - count) t k ≡ count + 1 + chain (17 - (count + 1)) t (termAt t k .p)
   unfolding chain
   chain-more h = rw (left, h) (omega arith)
 
-  pub chain-none : storing (termAt t k) ≡ false → count + chain (17 - count) t k ≡ count
+  pub chain-none : isStore (termAt t k) ≡ false → count + chain (17 - count) t k ≡ count
   unfolding chain
   chain-none h = rw (left, h) (omega arith)
 
@@ -28,6 +28,6 @@ chain-full t k count h =
     rw none
 
 -- a term that is no store has none
-pub chain-short : (t : List ℕ) (k : ℕ) → storing (termAt t k) ≡ false → leb (size t k) 16 ≡ true
+pub chain-short : (t : List ℕ) (k : ℕ) → isStore (termAt t k) ≡ false → leb (size t k) 16 ≡ true
 unfolding chain
 chain-short t k h = rw h

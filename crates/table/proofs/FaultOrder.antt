@@ -10,10 +10,10 @@ use Rattle.table.specs.declared.ranks.Rank.{Rank}
 use Rattle.table.specs.declared.words.Term.{Term}
 use Rattle.table.specs.Terms.{termAt, sortAt}
 use Rattle.table.specs.Ranks.{fieldsOf}
-use Rattle.table.specs.Faults.{rank, fields, known, sorted, placedAs, typedAs, typed, valuedAs, size, refuse, faultIf}
+use Rattle.table.specs.Faults.{rank, fields, known, sorted, placedAs, typedAs, typed, valuedAs, size, refuseUnless, faultIf}
 
 abbrev three : Bool → Bool → Bool → ℕ → ℕ
-three a b c rest = refuse 5 a (refuse 6 b (refuse 7 c rest))
+three a b c rest = refuseUnless 5 a (refuseUnless 6 b (refuseUnless 7 c rest))
 
 -- 5 to 7 of term i, x, of a rank; then the rest
 abbrev pub ranked : List ℕ → ℕ → Rank → Term → ℕ → ℕ
@@ -42,7 +42,7 @@ module _ (t : List ℕ) (i : ℕ) (clashing : Bool) where
     refused-4 s = rw (k, s)
 
     module _ (s : sorted (sortAt t i) ≡ true) where
-      after-4 : ranked t i (rank (termAt t i)) (termAt t i) (refuse 8 (not clashing) (refuse 9 (leb (size t i) 16) 0)) ≡ faultIf t i clashing
+      after-4 : ranked t i (rank (termAt t i)) (termAt t i) (refuseUnless 8 (not clashing) (refuseUnless 9 (leb (size t i) 16) 0)) ≡ faultIf t i clashing
       unfolding faultIf typed
       after-4 = rw (k, s)
 
@@ -59,5 +59,5 @@ module _ (t : List ℕ) (i : ℕ) (clashing : Bool) where
         pub refused-ranked : (n ≡ 0 → ⊥) → n ≡ faultIf t i clashing
         refused-ranked h = e ∙ some placed-x typed-x valued-x _ (λ z. h (e ∙ z)) ∙ after-4
 
-        pub left-to-8 : n ≡ 0 → refuse 8 (not clashing) (refuse 9 (leb (size t i) 16) 0) ≡ faultIf t i clashing
+        pub left-to-8 : n ≡ 0 → refuseUnless 8 (not clashing) (refuseUnless 9 (leb (size t i) 16) 0) ≡ faultIf t i clashing
         left-to-8 z = none placed-x typed-x valued-x _ (sym e ∙ z) ∙ after-4

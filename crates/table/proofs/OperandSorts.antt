@@ -20,7 +20,7 @@ use Rattle.ops.proofs.Booleans.{never, and-parts}
 use Rattle.table.specs.declared.words.Sort.{Sort}
 use Rattle.table.specs.declared.words.Term.{Term}
 use Rattle.table.specs.Terms.{termAt, sortAt, boolean, vector, scalar, array, vectorOf, sameSort}
-use Rattle.table.specs.Bench.{every}
+use Rattle.table.specs.Folds.{every}
 use Rattle.table.specs.declared.ranks.Fields.the-variants.{One, Two}
 use Rattle.table.specs.Ranks.{applied, rankOf, fieldsOf, slotted, immediate, writes}
 use Rattle.table.specs.Faults.{known, placedAs, typedAs, typed}

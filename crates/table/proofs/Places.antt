@@ -7,7 +7,8 @@ use Prim.Native.Nat.{ℕ, _+_, _*_}
 use lib.Dec.{leb}
 use lib.ListN.{length, length-set}
 use Rattle.table.specs.declared.words.Term.{Term}
-use Rattle.table.specs.Terms.{words, placed}
+use Rattle.table.specs.Terms.{words}
+use Rattle.table.specs.Code.Writing.{placed}
 
 length-cond : (b : Bool) (s t : List ℕ) → length s ≡ length t → length (cond b s t) ≡ length t
 length-cond true s t e = e

@@ -10,10 +10,10 @@ use lib.Dec.{eqb, ltb, leb}
 use lib.ListN.{length}
 use borrow.Author.Tests.{leb-true, le-leb}
 use Rattle.ops.proofs.Booleans.{and-parts}
-use Rattle.table.specs.declared.Admission.{Admission}
-use Rattle.table.specs.declared.Admission.the-variants.{Admitted}
+use Rattle.table.specs.declared.Acceptance.{Acceptance}
+use Rattle.table.specs.declared.Acceptance.the-variants.{Accepted}
 use Rattle.table.specs.Terms.{words, terms, termAt, sortAt, boolean}
-use Rattle.table.specs.Faults.{fields, known, sorted, placedAs, typed, valuedAs, clash, size, refuse, faultIf, fault}
+use Rattle.table.specs.Faults.{fields, known, sorted, placedAs, typed, valuedAs, clash, size, refuseUnless, faultIf, fault}
 use Rattle.table.specs.Admission.{refused, refusedBy, scan, admissionWithin}
 use Rattle.table.specs.Refusals.{between, RefusedBy, AdmissionNumbers}
 
@@ -30,7 +30,7 @@ pub data Fault (numbers : ℕ → Bool) : ℕ → Type 0 where
   none : Fault numbers 0
   some : {number : ℕ} → numbers number ≡ true → Fault numbers number
 
-pub refuse-by : {numbers : ℕ → Bool} (number : ℕ) → numbers number ≡ true → (ok : Bool) {rest : ℕ} → Fault numbers rest → Fault numbers (refuse number ok rest)
+pub refuse-by : {numbers : ℕ → Bool} (number : ℕ) → numbers number ≡ true → (ok : Bool) {rest : ℕ} → Fault numbers rest → Fault numbers (refuseUnless number ok rest)
 refuse-by number e true later = later
 refuse-by number e false later = some e
 
@@ -47,24 +47,24 @@ fault-by t i =
     (refuse-by 8 refl (not (clash t i))
     (refuse-by 9 refl (leb (size t i) 16) none))))))
 
--- What holds of Admitted and of every refusal by one of these numbers
-module _ (numbers : ℕ → Bool) (Q : Admission → Type 0) (by : (number place : ℕ) → numbers number ≡ true → Q (refused number place)) where
-  by-fault : (f at : ℕ) {rest : Admission} → Fault numbers f → Q rest → Q (refusedBy f at rest)
+-- What holds of Accepted and of every refusal by one of these numbers
+module _ (numbers : ℕ → Bool) (Q : Acceptance → Type 0) (by : (number place : ℕ) → numbers number ≡ true → Q (refused number place)) where
+  by-fault : (f at : ℕ) {rest : Acceptance} → Fault numbers f → Q rest → Q (refusedBy f at rest)
   by-fault zero at h q = q
   by-fault (suc f) at (some e) q = by (suc f) at e
 
   -- holds of a scan, where it holds of the rest
-  pub scan-by : (faults : ℕ → ℕ) → ((k : ℕ) → Fault numbers (faults k)) → (left at : ℕ) {rest : Admission} → Q rest → Q (scan faults left at rest)
+  pub scan-by : (faults : ℕ → ℕ) → ((k : ℕ) → Fault numbers (faults k)) → (left at : ℕ) {rest : Acceptance} → Q rest → Q (scan faults left at rest)
   unfolding scan
   scan-by faults h zero at q = q
   scan-by faults h (suc left) at q = by-fault (faults at) at (h at) (scan-by faults h left (suc at) q)
 
-pub either-of : (Q : Admission → Type 0) (b : Bool) {a c : Admission} → Q a → Q c → Q (cond b a c)
+pub either-of : (Q : Acceptance → Type 0) (b : Bool) {a c : Acceptance} → Q a → Q c → Q (cond b a c)
 either-of Q true q r = q
 either-of Q false q r = r
 
 -- and of an admission
-pub admission-by : (Q : Admission → Type 0) → Q Admitted → ((number place : ℕ) → between 1 10 number ≡ true → Q (refused number place))
+pub admission-by : (Q : Acceptance → Type 0) → Q Accepted → ((number place : ℕ) → between 1 10 number ≡ true → Q (refused number place))
     → (limit : ℕ) (t : List ℕ) → Q (admissionWithin limit t)
 unfolding admissionWithin
 admission-by Q admitted by limit t =

@@ -8,7 +8,7 @@ use native.Mathlib.Nat.{not-suc-le-zero}
 use native.Mathlib.Numerals.{add-one}
 use native.Mathlib.Omega.{arith}
 use Rattle.ops.proofs.Booleans.{or-open, or-neither}
-use Rattle.table.specs.Faults.{anyBelow, firstFrom}
+use Rattle.table.specs.Folds.{anyBelow, firstFrom}
 
 pub any-none : (n : ℕ) (f : ℕ → Bool) → ((k : ℕ) → k < n → f k ≡ false) → anyBelow n f ≡ false
 unfolding anyBelow

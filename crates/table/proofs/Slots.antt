@@ -14,7 +14,9 @@ use borrow.Author.Tests.{eqb-true, leb-true, le-leb, eq-eqb, not-false}
 use Rattle.ops.proofs.Booleans.{and-parts}
 use Rattle.table.specs.declared.words.Term.{Term}
 use Rattle.table.specs.Terms.{words, HasTerm, termAt, sameSort}
-use Rattle.table.specs.Faults.{variable, claims, conflicts, clash, slotClash, firstFrom, firstClash}
+use Rattle.table.specs.Faults.{isVariable, conflicts, clash}
+use Rattle.table.specs.Code.Clashes.{claims, slotClash, firstClash}
+use Rattle.table.specs.Folds.{firstFrom}
 use Rattle.table.proofs.Pigeonhole.{pigeonhole}
 use Rattle.table.proofs.Searches.{any-none, any-found, first-on, first-here, first-past}
 
@@ -79,10 +81,10 @@ none-yet t =
     }
 
 claims-slot : (x : Term) → claims x ≡ true → x .p < 256
-claims-slot x e = let b : x .p ≤ 255 = leb-true (x .p) 255 (and-parts (variable x) (leb (x .p) 255) e .1) in omega arith
+claims-slot x e = let b : x .p ≤ 255 = leb-true (x .p) 255 (and-parts (isVariable x) (leb (x .p) 255) e .1) in omega arith
 
-claims-variable : (x : Term) → claims x ≡ true → variable x ≡ true
-claims-variable x e = and-parts (variable x) (leb (x .p) 255) e .0
+claims-variable : (x : Term) → claims x ≡ true → isVariable x ≡ true
+claims-variable x e = and-parts (isVariable x) (leb (x .p) 255) e .0
 
 module _ (t : List ℕ) (i : ℕ) (l : List ℕ) (met : ℕ) (h : Firsts t i l met) where
   -- term i is held already, or is no variable of a slot up to 255
@@ -109,17 +111,17 @@ module _ (t : List ℕ) (i : ℕ) (l : List ℕ) (met : ℕ) (h : Firsts t i l m
     unfolding clash
     clash-found k b d =
         let e = h .earlier k b in
-        rw (claim, claims-variable (termAt t i) claim) (any-found i (λ j. variable (termAt t j) && conflicts (termAt t j) (termAt t i)) (getD l k 0) (e .0) (rw (claims-variable (kept t l k) (e .1)) d))
+        rw (claim, claims-variable (termAt t i) claim) (any-found i (λ j. isVariable (termAt t j) && conflicts (termAt t j) (termAt t i)) (getD l k 0) (e .0) (rw (claims-variable (kept t l k) (e .1)) d))
 
     -- none of its slot does: no earlier variable does
     clash-none : ((k : ℕ) → k < met → kept t l k .p ≡ slotOf t i → conflicts (kept t l k) (termAt t i) ≡ false) → slotClash t i ≡ false
     unfolding clash
-    clash-none none = rw (claim, claims-variable (termAt t i) claim) (any-none i _ (λ k b. go k b (variable (termAt t k) && conflicts (termAt t k) (termAt t i)) refl))
+    clash-none none = rw (claim, claims-variable (termAt t i) claim) (any-none i _ (λ k b. go k b (isVariable (termAt t k) && conflicts (termAt t k) (termAt t i)) refl))
       where
-        go : (k : ℕ) → k < i → (d : Bool) → variable (termAt t k) && conflicts (termAt t k) (termAt t i) ≡ d → d ≡ false
+        go : (k : ℕ) → k < i → (d : Bool) → isVariable (termAt t k) && conflicts (termAt t k) (termAt t i) ≡ d → d ≡ false
         go k b false e = refl
         go k b true e =
-            let parts = and-parts (variable (termAt t k)) (conflicts (termAt t k) (termAt t i)) e in
+            let parts = and-parts (isVariable (termAt t k)) (conflicts (termAt t k) (termAt t i)) e in
             let slot : slotOf t k ≡ slotOf t i = same-slot (termAt t k) (termAt t i) (parts .1) in
             let small : slotOf t k ≤ 255 = omega (arith, claims-slot (termAt t i) claim) in
             let held = h .complete k b (rw (parts .0, le-leb (slotOf t k) 255 small)) in

@@ -18,7 +18,7 @@ use Rattle.table.specs.declared.words.Sort.{Sort}
 use Rattle.table.specs.declared.words.Term.{Term}
 use Rattle.table.specs.Terms.{words, terms, wordAt, termAt, sortAt, boolean, array}
 use Rattle.table.specs.Ranks.{rankOf, fieldsOf, writes}
-use Rattle.table.specs.Faults.{rank, variable, storing, fields, width, sorted, placedAs}
+use Rattle.table.specs.Faults.{rank, isVariable, isStore, fields, width, sorted, placedAs}
 use Rattle.table.specs.WellFormed.{Sound, WellFormed}
 use Rattle.table.proofs.TermFaults.{slot-valued}
 
@@ -57,7 +57,7 @@ widths s h = ⊎-elim (λ k. ⊎-elim bool vec (or-parts (boolean s) (eqb (s .m)
         record { m-most = width-of (s .m) (parts .0) .1; n-most = n .1; array-n = λ a. n .0 }
 
 -- a variable's slot is at most 255
-pub slot-most : (t : List ℕ) (k : ℕ) → Sound t k → variable (termAt t k) ≡ true → termAt t k .p ≤ 255
+pub slot-most : (t : List ℕ) (k : ℕ) → Sound t k → isVariable (termAt t k) ≡ true → termAt t k .p ≤ 255
 slot-most t k s v =
     let x = termAt t k in
     leb-true (x .p) 255 (and-parts (leb (x .p) 255) (leb (x .q) 1) (sym (slot-valued (opOf (x .op)) x v) ∙ s .is-valued) .0)
@@ -88,7 +88,7 @@ module _ (limit : ℕ) (t : List ℕ) (w : WellFormed limit t) where
       go (no b) = omega (arith, past-end k 2 (omega arith))
 
   -- and a store stands on an earlier term
-  pub store-below : (k : ℕ) → storing (termAt t k) ≡ true → termAt t k .p < k
+  pub store-below : (k : ℕ) → isStore (termAt t k) ≡ true → termAt t k .p < k
   store-below k s = go (decLt k (terms t))
     where
       go : Dec (k < terms t) → termAt t k .p < k

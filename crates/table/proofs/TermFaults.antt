@@ -17,8 +17,10 @@ use Rattle.ops.specs.declared.Op.the-variants.{Constant, Variable, Apply, Ite, 
 use Rattle.ops.specs.Numbers.{opOf}
 use Rattle.table.specs.Terms.{termAt}
 use Rattle.table.specs.Ranks.{rankOf, fieldsOf, slotted}
-use Rattle.table.specs.Faults.{fields, known, sorted, placedAs, typed, variable, valuedAs, conflicts, anyBelow, clash, slotClash, firstClash, size, refuse, faultIf, fault}
-use Rattle.table.specs.declared.Admission.{Admission}
+use Rattle.table.specs.Faults.{fields, known, sorted, placedAs, typed, isVariable, valuedAs, conflicts, clash, size, refuseUnless, faultIf, fault}
+use Rattle.table.specs.Code.Clashes.{slotClash, firstClash}
+use Rattle.table.specs.Folds.{anyBelow}
+use Rattle.table.specs.declared.Acceptance.{Acceptance}
 use Rattle.table.proofs.Searches.{First, first-is}
 use Rattle.table.proofs.Scans.{Scanned, begun, on}
 
@@ -32,11 +34,11 @@ slot-valued Store x e = never e
 slot-valued Unknown x e = never e
 
 -- what a test has cut off does not count
-cut : (number : ℕ) (ok : Bool) (a b : ℕ) → (ok ≡ true → a ≡ b) → refuse number ok a ≡ refuse number ok b
+cut : (number : ℕ) (ok : Bool) (a b : ℕ) → (ok ≡ true → a ≡ b) → refuseUnless number ok a ≡ refuseUnless number ok b
 cut number true a b h = h refl
 cut number false a b h = refl
 
-pub refuse-zero : (n : ℕ) (ok : Bool) (rest : ℕ) → refuse (suc n) ok rest ≡ 0 → (ok ≡ true) × (rest ≡ 0)
+pub refuse-zero : (n : ℕ) (ok : Bool) (rest : ℕ) → refuseUnless (suc n) ok rest ≡ 0 → (ok ≡ true) × (rest ≡ 0)
 refuse-zero n true rest h = (refl, h)
 refuse-zero n false rest h = absurd (omega arith)
 
@@ -45,10 +47,10 @@ clash-refuses : (t : List ℕ) (i : ℕ) → faultIf t i true ≡ 0 → ⊥
 unfolding faultIf
 clash-refuses t i h =
     let x = termAt t i in
-    let after-7 : ℕ = refuse 7 (valuedAs (fields x) x) 8 in
-    let after-6 : ℕ = refuse 6 (typed t x) after-7 in
-    let after-5 : ℕ = refuse 5 (placedAs (fields x) i x) after-6 in
-    let after-4 : ℕ = refuse 4 (sorted (x .sort)) after-5 in
+    let after-7 : ℕ = refuseUnless 7 (valuedAs (fields x) x) 8 in
+    let after-6 : ℕ = refuseUnless 6 (typed t x) after-7 in
+    let after-5 : ℕ = refuseUnless 5 (placedAs (fields x) i x) after-6 in
+    let after-4 : ℕ = refuseUnless 4 (sorted (x .sort)) after-5 in
     let z3 = refuse-zero 2 (known x) after-4 h in
     let z4 = refuse-zero 3 (sorted (x .sort)) after-5 (z3 .1) in
     let z5 = refuse-zero 4 (placedAs (fields x) i x) after-6 (z4 .1) in
@@ -66,15 +68,15 @@ module _ (t : List ℕ) (i : ℕ) where
   unfolding clash
   clash-of b e ok =
       let x = termAt t i in
-      without-low (variable x) (leb (x .p) 255) (anyBelow i (λ k. variable (termAt t k) && conflicts (termAt t k) x)) b e
+      without-low (isVariable x) (leb (x .p) 255) (anyBelow i (λ k. isVariable (termAt t k) && conflicts (termAt t k) x)) b e
       (λ v. and-parts (leb (x .p) 255) (leb (x .q) 1) (sym (slot-valued (opOf (x .op)) x v) ∙ ok) .0)
 
   fault-of : (b : Bool) → slotClash t i ≡ b → faultIf t i b ≡ fault t i
   unfolding faultIf fault
   fault-of b e =
       let x = termAt t i in
-      ap (λ (rest : ℕ). refuse 3 (known x) (refuse 4 (sorted (x .sort)) (refuse 5 (placedAs (fields x) i x) (refuse 6 (typed t x) rest))))
-      (cut 7 (valuedAs (fields x) x) _ _ (λ ok. ap (λ (c : Bool). refuse 8 (not c) (refuse 9 (leb (size t i) 16) 0)) (sym (clash-of b e ok))))
+      ap (λ (rest : ℕ). refuseUnless 3 (known x) (refuseUnless 4 (sorted (x .sort)) (refuseUnless 5 (placedAs (fields x) i x) (refuseUnless 6 (typed t x) rest))))
+      (cut 7 (valuedAs (fields x) x) _ _ (λ ok. ap (λ (c : Bool). refuseUnless 8 (not c) (refuseUnless 9 (leb (size t i) 16) 0)) (sym (clash-of b e ok))))
 
   module _ (n first : ℕ) (h : First (slotClash t) n first) (inside : i < n) (reached : i ≤ first) where
     -- what the code computes of term i is the definition's
@@ -94,11 +96,11 @@ module _ (t : List ℕ) (i : ℕ) where
         go (no e) = omega arith
 
 -- The scan has come to term i, and not past the first clash
-pub record Reached (t : List ℕ) (n first : ℕ) (rest : Admission) (i : ℕ) : Type 0 where
+pub record Reached (t : List ℕ) (n first : ℕ) (rest : Acceptance) (i : ℕ) : Type 0 where
   pub scanned : Scanned (fault t) n rest i
   pub reached : i ≤ first
 
-module _ (t : List ℕ) (n first : ℕ) (rest : Admission) where
+module _ (t : List ℕ) (n first : ℕ) (rest : Acceptance) where
   pub begun-reached : Reached t n first rest 0
   begun-reached = record { scanned = begun (fault t) n rest; reached = omega arith }
 

@@ -1,6 +1,5 @@
--- Paper 01's rules G and H ("Bench examples"); and what it is that every row of a list is right.
+-- Paper 01's rules G and H ("Bench examples"), and two tables more that rows and examples use.
 -- Assumes nothing.
-use mathlib.Core.Bool.{Bool, true, _&&_}
 use mathlib.Core.List.{List, [], _∷_}
 use Prim.Native.Nat.{ℕ}
 
@@ -30,7 +29,17 @@ ruleH =
     (term 15 0 8 4 2 0
     (term 6 0 0 5 3 0 []))))))
 
--- every element of a list passes a test
-unfoldable pub every : {A : Type 0} → (A → Bool) → List A → Bool
-every test [] = true
-every test (x ∷ xs) = test x && every test xs
+-- a marked test, unmarked branches of width 8 (slots 0, 1, 2): the choice is 3
+abbrev pub choosing : List ℕ
+choosing = term 1 0 0 0 1 0 (term 1 0 8 1 0 0 (term 1 0 8 2 0 0 (term 7 0 8 0 1 2 (term 0 0 8 3 0 0 (term 6 0 0 3 4 0 [])))))
+
+-- rule H with t unmarked and a marked
+abbrev pub markedIndex : List ℕ
+markedIndex =
+    term 1 8 8 0 0 0
+    (term 1 0 8 1 1 0
+    (term 1 0 8 2 0 0
+    (term 0 0 8 42 0 0
+    (term 16 8 8 0 1 3
+    (term 15 0 8 4 2 0
+    (term 6 0 0 5 3 0 []))))))

@@ -13,6 +13,7 @@ use Rattle.table.specs.declared.ranks.Fields.the-variants.{Value, Slot, 
 use Rattle.table.specs.declared.words.Sort.{Sort}
 use Rattle.table.specs.declared.words.Term.{Term}
 use Rattle.table.specs.Terms.{sortAt, termAt, boolean, vector, scalar, array, vectorOf, sameSort}
+use Rattle.table.specs.Folds.{anyBelow}
 use Rattle.table.specs.Ranks.{rankOf, fieldsOf, slotted, immediate, reads, writes}
 
 abbrev pub rank : Term → Rank
@@ -21,17 +22,17 @@ rank x = rankOf (opOf (x .op))
 abbrev pub fields : Term → Fields
 fields x = fieldsOf (rank x)
 
-abbrev pub variable : Term → Bool
-variable x = slotted (opOf (x .op))
+abbrev pub isVariable : Term → Bool
+isVariable x = slotted (opOf (x .op))
 
-abbrev pub constant : Term → Bool
-constant x = immediate (opOf (x .op))
+abbrev pub isConstant : Term → Bool
+isConstant x = immediate (opOf (x .op))
 
-abbrev pub reading : Term → Bool
-reading x = reads (opOf (x .op))
+abbrev pub isRead : Term → Bool
+isRead x = reads (opOf (x .op))
 
-abbrev pub storing : Term → Bool
-storing x = writes (opOf (x .op))
+abbrev pub isStore : Term → Bool
+isStore x = writes (opOf (x .op))
 
 -- 3 op over 16
 abbrev pub known : Term → Bool
@@ -82,65 +83,43 @@ valuedAs Three x = true
 abbrev pub conflicts : Term → Term → Bool
 conflicts a x = eqb (a .p) (x .p) && not (sameSort (a .sort) (x .sort) && eqb (a .q) (x .q))
 
-unfoldable pub anyBelow : ℕ → (ℕ → Bool) → Bool
-anyBelow zero f = false
-anyBelow (suc k) f = anyBelow k f || f k
-
 unfoldable pub clash : List ℕ → ℕ → Bool
-clash t i = variable (termAt t i) && anyBelow i (λ k. variable (termAt t k) && conflicts (termAt t k) (termAt t i))
+clash t i = isVariable (termAt t i) && anyBelow i (λ k. isVariable (termAt t k) && conflicts (termAt t k) (termAt t i))
 
 -- 9 a 17th store in a chain: the stores from term k inward, counted up to a limit
 unfoldable pub chain : ℕ → List ℕ → ℕ → ℕ
 chain zero t k = 0
-chain (suc left) t k = cond (storing (termAt t k)) (suc (chain left t (termAt t k .p))) 0
+chain (suc left) t k = cond (isStore (termAt t k)) (suc (chain left t (termAt t k .p))) 0
 
 -- the size of an array term: its stores, which in an admitted table are at most 16
 abbrev pub size : List ℕ → ℕ → ℕ
 size t k = chain 17 t k
 
--- the lowest number, 3 to 9, that refuses term i, and 0 where none does
-abbrev pub refuse : ℕ → Bool → ℕ → ℕ
-refuse number true rest = rest
-refuse number false rest = number
+-- a number unless a test is true; then the rest
+abbrev pub refuseUnless : ℕ → Bool → ℕ → ℕ
+refuseUnless number true rest = rest
+refuseUnless number false rest = number
 
 -- of a term x at number i, of a rank: 5, 6 and 7 alone
 abbrev pub rankFault : List ℕ → Rank → ℕ → Term → ℕ
 rankFault t r i x =
-    refuse 5 (placedAs (fieldsOf r) i x)
-    (refuse 6 (typedAs r (x .sort) (sortAt t (x .p)) (sortAt t (x .q)) (sortAt t (x .r)))
-    (refuse 7 (valuedAs (fieldsOf r) x)
+    refuseUnless 5 (placedAs (fieldsOf r) i x)
+    (refuseUnless 6 (typedAs r (x .sort) (sortAt t (x .p)) (sortAt t (x .q)) (sortAt t (x .r)))
+    (refuseUnless 7 (valuedAs (fieldsOf r) x)
     0))
 
+-- the lowest number, 3 to 9, that refuses term i, and 0 where none does; clashing says whether 8 applies
 unfoldable pub faultIf : List ℕ → ℕ → Bool → ℕ
 faultIf t i clashing =
     let x = termAt t i in
-    refuse 3 (known x)
-    (refuse 4 (sorted (x .sort))
-    (refuse 5 (placedAs (fields x) i x)
-    (refuse 6 (typed t x)
-    (refuse 7 (valuedAs (fields x) x)
-    (refuse 8 (not clashing)
-    (refuse 9 (leb (size t i) 16)
+    refuseUnless 3 (known x)
+    (refuseUnless 4 (sorted (x .sort))
+    (refuseUnless 5 (placedAs (fields x) i x)
+    (refuseUnless 6 (typed t x)
+    (refuseUnless 7 (valuedAs (fields x) x)
+    (refuseUnless 8 (not clashing)
+    (refuseUnless 9 (leb (size t i) 16)
     0))))))
 
 unfoldable pub fault : List ℕ → ℕ → ℕ
 fault t i = faultIf t i (clash t i)
-
--- The search for the first clash looks at slots up to 255 alone: over 255, 7 refuses first.
-
--- a variable of a slot up to 255
-abbrev pub claims : Term → Bool
-claims x = variable x && leb (x .p) 255
-
-abbrev pub slotClash : List ℕ → ℕ → Bool
-slotClash t i = claims (termAt t i) && clash t i
-
--- the first of left numbers, from at on, of which f is true; the number past them where there is none
-unfoldable pub firstFrom : (ℕ → Bool) → ℕ → ℕ → ℕ
-firstFrom f zero at = at
-firstFrom f (suc left) at =
-    let rest = firstFrom f left (suc at) in
-    cond (f at) at rest
-
-abbrev pub firstClash : List ℕ → ℕ → ℕ
-firstClash t n = firstFrom (slotClash t) n 0

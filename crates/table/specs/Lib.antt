@@ -6,3 +6,4 @@ pub mod Admission
 pub mod WellFormed
 pub mod Bench
 pub mod Refusals
+pub mod Code

@@ -44,42 +44,25 @@ fieldsOf Read = Two
 fieldsOf Write = Three
 fieldsOf Other = Three
 
--- a variable
-abbrev pub slotted : Op → Bool
-slotted Constant = false
-slotted Variable = true
-slotted (Apply f) = false
-slotted Ite = false
-slotted Select = false
-slotted Store = false
-slotted Unknown = false
+-- one of seven by the case of Op: constant, variable, function, choice, read, store, unknown
+abbrev pub byOp : {A : Type 0} → A → A → A → A → A → A → A → Op → A
+byOp c v f i r s u Constant = c
+byOp c v f i r s u Variable = v
+byOp c v f i r s u (Apply g) = f
+byOp c v f i r s u Ite = i
+byOp c v f i r s u Select = r
+byOp c v f i r s u Store = s
+byOp c v f i r s u Unknown = u
 
--- a constant
+-- a constant, a variable, a read, a store
 abbrev pub immediate : Op → Bool
-immediate Constant = true
-immediate Variable = false
-immediate (Apply f) = false
-immediate Ite = false
-immediate Select = false
-immediate Store = false
-immediate Unknown = false
+immediate op = byOp true false false false false false false op
 
--- a read
+abbrev pub slotted : Op → Bool
+slotted op = byOp false true false false false false false op
+
 abbrev pub reads : Op → Bool
-reads Constant = false
-reads Variable = false
-reads (Apply f) = false
-reads Ite = false
-reads Select = true
-reads Store = false
-reads Unknown = false
+reads op = byOp false false false false true false false op
 
--- a store
 abbrev pub writes : Op → Bool
-writes Constant = false
-writes Variable = false
-writes (Apply f) = false
-writes Ite = false
-writes Select = false
-writes Store = true
-writes Unknown = false
+writes op = byOp false false false false false true false op

@@ -5,8 +5,8 @@ use mathlib.Core.Bool.{Bool, true, _&&_}
 use mathlib.Core.List.{List}
 use Prim.Native.Nat.{ℕ}
 use lib.Dec.{leb}
-use Rattle.table.specs.declared.Admission.{Admission}
-use Rattle.table.specs.declared.Admission.the-variants.{Admitted, Refused}
+use Rattle.table.specs.declared.Acceptance.{Acceptance}
+use Rattle.table.specs.declared.Acceptance.the-variants.{Accepted, Refused}
 use Rattle.table.specs.Admission.{admissionWithin}
 
 -- from low to high
@@ -14,8 +14,8 @@ abbrev pub between : ℕ → ℕ → ℕ → Bool
 between low high number = leb low number && leb number high
 
 -- the number of a refusal is one of these; of an admission nothing is said
-abbrev pub RefusedBy : (ℕ → Bool) → Admission → Type 0
-RefusedBy numbers Admitted = Unit {0}
+abbrev pub RefusedBy : (ℕ → Bool) → Acceptance → Type 0
+RefusedBy numbers Accepted = Unit {0}
 RefusedBy numbers (Refused r) = numbers (r .number) ≡ true
 
 -- Admitting, by any limit, refuses by 1 to 10 alone.

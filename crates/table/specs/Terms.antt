@@ -1,10 +1,10 @@
 -- A table of terms: paper 01, "A term". A term is six numbers; sorts are pairs of widths.
 -- Assumes nothing.
-use mathlib.Core.Bool.{Bool, cond, _&&_}
+use mathlib.Core.Bool.{Bool, _&&_}
 use mathlib.Core.List.{List}
 use Prim.Native.Nat.{ℕ, _+_, _*_, _/_, _<_}
-use lib.Dec.{eqb, ltb, leb}
-use lib.ListN.{length, getD, set}
+use lib.Dec.{eqb, ltb}
+use lib.ListN.{length, getD}
 use Rattle.table.specs.declared.words.Sort.{Sort}
 use Rattle.table.specs.declared.words.Term.{Term}
 
@@ -39,13 +39,6 @@ HasTerm t k = k * words + 5 < length t
 
 abbrev pub HasSort : List ℕ → ℕ → Type 0
 HasSort t k = k * words + 2 < length t
-
--- term k written into a table that has room for it
-unfoldable pub placed : List ℕ → ℕ → Term → List ℕ
-placed t k x =
-    cond (leb (k * words + words) (length t))
-    (set (set (set (set (set (set t (k * words) (x .op)) (k * words + 1) (x .sort .m)) (k * words + 2) (x .sort .n)) (k * words + 3) (x .p)) (k * words + 4) (x .q)) (k * words + 5) (x .r))
-    t
 
 -- the sorts: Boolean (0, 0); vector (0, n); array (m, n)
 abbrev pub boolean : Sort → Bool

@@ -5,9 +5,9 @@ use mathlib.Core.Bool.{true, false}
 use mathlib.Core.List.{List}
 use Prim.Native.Nat.{ℕ, zero, suc, pred, _*_, _≤_, _<_}
 use lib.ListN.{length}
-use Rattle.table.specs.declared.Admission.the-variants.{Admitted}
+use Rattle.table.specs.declared.Acceptance.the-variants.{Accepted}
 use Rattle.table.specs.Terms.{words, terms, termAt, sortAt, boolean, array}
-use Rattle.table.specs.Faults.{fields, variable, storing, known, sorted, placedAs, typed, valuedAs, clash, chain, size}
+use Rattle.table.specs.Faults.{fields, isVariable, isStore, known, sorted, placedAs, typed, valuedAs, clash, chain, size}
 use Rattle.table.specs.Admission.{admissionWithin}
 
 -- Of term k: an op up to 16; one of the three sorts; operands below and unused fields 0; sorts as the op's line asks;
@@ -32,23 +32,23 @@ pub record WellFormed (limit : ℕ) (t : List ℕ) : Type 0 where
 -- A slot is used with one sort and one mark.
 abbrev pub OneUse : List ℕ → Type 0
 OneUse t =
-    (j k : ℕ) → j < terms t → k < terms t → variable (termAt t j) ≡ true → variable (termAt t k) ≡ true → termAt t j .p ≡ termAt t k .p
+    (j k : ℕ) → j < terms t → k < terms t → isVariable (termAt t j) ≡ true → isVariable (termAt t k) ≡ true → termAt t j .p ≡ termAt t k .p
     → (sortAt t j ≡ sortAt t k) × (termAt t j .q ≡ termAt t k .q)
 
 -- The theorems: just the well-formed tables are admitted, and they use each slot with one sort and mark.
 abbrev pub AdmissionSound : Type 0
-AdmissionSound = (limit : ℕ) (t : List ℕ) → admissionWithin limit t ≡ Admitted → WellFormed limit t
+AdmissionSound = (limit : ℕ) (t : List ℕ) → admissionWithin limit t ≡ Accepted → WellFormed limit t
 
 abbrev pub AdmissionComplete : Type 0
-AdmissionComplete = (limit : ℕ) (t : List ℕ) → WellFormed limit t → admissionWithin limit t ≡ Admitted
+AdmissionComplete = (limit : ℕ) (t : List ℕ) → WellFormed limit t → admissionWithin limit t ≡ Accepted
 
 abbrev pub SlotsHaveOneUse : Type 0
 SlotsHaveOneUse = (limit : ℕ) (t : List ℕ) → WellFormed limit t → OneUse t
 
 -- An array term is a variable under 0 to 16 stores, each over an earlier term of its sort.
 pub data Under (t : List ℕ) : ℕ → ℕ → Type 0 where
-  base : {k : ℕ} → variable (termAt t k) ≡ true → Under t zero k
-  store : {stores k : ℕ} → storing (termAt t k) ≡ true → termAt t k .p < k → sortAt t (termAt t k .p) ≡ sortAt t k → Under t stores (termAt t k .p) → Under t (suc stores) k
+  base : {k : ℕ} → isVariable (termAt t k) ≡ true → Under t zero k
+  store : {stores k : ℕ} → isStore (termAt t k) ≡ true → termAt t k .p < k → sortAt t (termAt t k .p) ≡ sortAt t k → Under t stores (termAt t k .p) → Under t (suc stores) k
 
 pub record FewStores (t : List ℕ) (k : ℕ) : Type 0 where
   pub stores : ℕ

@@ -6,13 +6,13 @@ mod sorts; // Boolean, vector, array
 mod words; // a table's numbers as terms
 
 pub use operands::rank_fault;
-pub use operands::refuse;
+pub use operands::refuse_unless;
 pub use ranks::Rank;
-pub use ranks::constant;
+pub use ranks::is_constant;
+pub use ranks::is_read;
+pub use ranks::is_store;
+pub use ranks::is_variable;
 pub use ranks::rank_of;
-pub use ranks::reading;
-pub use ranks::storing;
-pub use ranks::variable;
 pub use sorts::array;
 pub use sorts::boolean;
 pub use sorts::same_sort;
@@ -21,6 +21,7 @@ pub use sorts::sorted;
 pub use words::Sort;
 pub use words::Term;
 pub use words::WORDS;
+pub use words::number_at;
 pub use words::put;
 pub use words::sort_at;
 pub use words::sort_in;
@@ -29,36 +30,46 @@ pub use words::term_in;
 ghost use mathlib.Core.Path.{_≡_};
 ghost use Prim.Native.Nat.{_<_};
 ghost use Rattle.table.specs.Terms.{terms};
-ghost use Rattle.table.specs.Admission.{refused, refusedBy};
+ghost use Rattle.table.specs.Admission.{accepts, refused, refusedBy};
 
 pub struct Refusal {
     pub number: u32,
     pub place: u64,
 }
 
-pub enum Admission {
-    Admitted,
+pub enum Acceptance {
+    Accepted,
     Refused(Refusal),
 }
 
 // A refusal by its number and place.
-pub fn refused(number: u32, place: u64) -> Admission
+pub fn refused(number: u32, place: u64) -> Acceptance
     ensures { λ r. ⌜ r ≡ refused number place ⌝ }
 {
-    Admission::Refused(Refusal {
+    Acceptance::Refused(Refusal {
         number: number,
         place: place,
     })
 }
 
 // Refused by a number, at a place; by none where it is 0: then the rest.
-pub fn refused_by(number: u32, place: u64, rest: Admission) -> Admission
+pub fn refused_by(number: u32, place: u64, rest: Acceptance) -> Acceptance
     ensures { λ r. ⌜ r ≡ refusedBy number place rest ⌝ }
 {
     if number == 0 {
         rest
     } else {
         refused(number, place)
+    }
+}
+
+// Whether it is no refusal.
+pub fn accepts(a: Acceptance) -> bool
+    ensures { λ r. ⌜ r ≡ accepts a ⌝ }
+{
+    match a {
+        Acceptance::Accepted => true,
+        Acceptance::Refused(_) => false,
     }
 }
 

@@ -5,7 +5,7 @@ ghost use Rattle.table.specs.declared.ranks.Rank.the-variants.{BoolUnary
 ghost use Rattle.table.specs.declared.ranks.Rank.the-variants.{BvUnary, BvBinary, BvCompare, Read, Write};
 ghost use Rattle.table.specs.declared.ranks.Fields.the-variants.{Value, Slot, One, Two, Three};
 ghost use Rattle.table.specs.Terms.{HasTerm, scalar};
-ghost use Rattle.table.specs.Faults.{placedAs, valuedAs, refuse, rankFault};
+ghost use Rattle.table.specs.Faults.{placedAs, valuedAs, refuseUnless, rankFault};
 use crate::ranks::Rank;
 use crate::sorts::array;
 use crate::sorts::boolean;
@@ -17,8 +17,8 @@ use crate::words::Term;
 use crate::words::sort_in;
 
 // number unless ok, else rest.
-pub fn refuse(number: u32, ok: bool, rest: u32) -> u32
-    ensures { λ r. ⌜ r ≡ refuse number ok rest ⌝ }
+pub fn refuse_unless(number: u32, ok: bool, rest: u32) -> u32
+    ensures { λ r. ⌜ r ≡ refuseUnless number ok rest ⌝ }
 {
     if ok { rest } else { number }
 }
@@ -43,17 +43,17 @@ fn three(i: u32, x: Term) -> bool
 }
 
 fn literal_fault(x: Term) -> u32
-    ensures { λ r. ⌜ r ≡ refuse 5 (placedAs Value 0 x) (refuse 6 (scalar (x .sort)) (refuse 7 (valuedAs Value x) 0)) ⌝ }
+    ensures { λ r. ⌜ r ≡ refuseUnless 5 (placedAs Value 0 x) (refuseUnless 6 (scalar (x .sort)) (refuseUnless 7 (valuedAs Value x) 0)) ⌝ }
 {
     let typed = scalar(x.sort);
-    let late = refuse(7, ops::fits(x.sort.n, x.p), 0);
-    refuse(5, (x.q == 0) & (x.r == 0), refuse(6, typed, late))
+    let late = refuse_unless(7, ops::fits(x.sort.n, x.p), 0);
+    refuse_unless(5, (x.q == 0) & (x.r == 0), refuse_unless(6, typed, late))
 }
 
 fn input_fault(x: Term) -> u32
-    ensures { λ r. ⌜ r ≡ refuse 5 (placedAs Slot 0 x) (refuse 7 (valuedAs Slot x) 0) ⌝ }
+    ensures { λ r. ⌜ r ≡ refuseUnless 5 (placedAs Slot 0 x) (refuseUnless 7 (valuedAs Slot x) 0) ⌝ }
 {
-    refuse(5, x.r == 0, refuse(7, (x.p <= 255) & (x.q <= 1), 0))
+    refuse_unless(5, x.r == 0, refuse_unless(7, (x.p <= 255) & (x.q <= 1), 0))
 }
 
 // Of the other ranks: the operands' sorts are read once the operands are known to be below the term.
@@ -66,7 +66,7 @@ fn bool_unary_fault(table: &[u32], i: u32, x: Term) -> u32
     }
     let s = x.sort;
     let a = sort_in(table, x.p);
-    refuse(6, boolean(s) & boolean(a), 0)
+    refuse_unless(6, boolean(s) & boolean(a), 0)
 }
 
 fn bool_binary_fault(table: &[u32], i: u32, x: Term) -> u32
@@ -79,7 +79,7 @@ fn bool_binary_fault(table: &[u32], i: u32, x: Term) -> u32
     let s = x.sort;
     let a = sort_in(table, x.p);
     let b = sort_in(table, x.q);
-    refuse(6, boolean(s) & boolean(a) & boolean(b), 0)
+    refuse_unless(6, boolean(s) & boolean(a) & boolean(b), 0)
 }
 
 fn equality_fault(table: &[u32], i: u32, x: Term) -> u32
@@ -92,7 +92,7 @@ fn equality_fault(table: &[u32], i: u32, x: Term) -> u32
     let s = x.sort;
     let a = sort_in(table, x.p);
     let b = sort_in(table, x.q);
-    refuse(6, boolean(s) & scalar(a) & same_sort(a, b), 0)
+    refuse_unless(6, boolean(s) & scalar(a) & same_sort(a, b), 0)
 }
 
 fn choice_fault(table: &[u32], i: u32, x: Term) -> u32
@@ -106,7 +106,7 @@ fn choice_fault(table: &[u32], i: u32, x: Term) -> u32
     let a = sort_in(table, x.p);
     let b = sort_in(table, x.q);
     let c = sort_in(table, x.r);
-    refuse(
+    refuse_unless(
         6,
         scalar(s) & boolean(a) & same_sort(b, s) & same_sort(c, s),
         0,
@@ -122,7 +122,7 @@ fn bv_unary_fault(table: &[u32], i: u32, x: Term) -> u32
     }
     let s = x.sort;
     let a = sort_in(table, x.p);
-    refuse(6, vector(s) & same_sort(a, s), 0)
+    refuse_unless(6, vector(s) & same_sort(a, s), 0)
 }
 
 fn bv_binary_fault(table: &[u32], i: u32, x: Term) -> u32
@@ -135,7 +135,7 @@ fn bv_binary_fault(table: &[u32], i: u32, x: Term) -> u32
     let s = x.sort;
     let a = sort_in(table, x.p);
     let b = sort_in(table, x.q);
-    refuse(6, vector(s) & same_sort(a, s) & same_sort(b, s), 0)
+    refuse_unless(6, vector(s) & same_sort(a, s) & same_sort(b, s), 0)
 }
 
 fn bv_compare_fault(table: &[u32], i: u32, x: Term) -> u32
@@ -148,7 +148,7 @@ fn bv_compare_fault(table: &[u32], i: u32, x: Term) -> u32
     let s = x.sort;
     let a = sort_in(table, x.p);
     let b = sort_in(table, x.q);
-    refuse(6, boolean(s) & vector(a) & same_sort(a, b), 0)
+    refuse_unless(6, boolean(s) & vector(a) & same_sort(a, b), 0)
 }
 
 fn read_fault(table: &[u32], i: u32, x: Term) -> u32
@@ -161,7 +161,7 @@ fn read_fault(table: &[u32], i: u32, x: Term) -> u32
     let s = x.sort;
     let a = sort_in(table, x.p);
     let b = sort_in(table, x.q);
-    refuse(6, array(a) & vector_of(a.m, b) & vector_of(a.n, s), 0)
+    refuse_unless(6, array(a) & vector_of(a.m, b) & vector_of(a.n, s), 0)
 }
 
 fn write_fault(table: &[u32], i: u32, x: Term) -> u32
@@ -175,7 +175,7 @@ fn write_fault(table: &[u32], i: u32, x: Term) -> u32
     let a = sort_in(table, x.p);
     let b = sort_in(table, x.q);
     let c = sort_in(table, x.r);
-    refuse(
+    refuse_unless(
         6,
         array(s) & same_sort(a, s) & vector_of(s.m, b) & vector_of(s.n, c),
         0,
@@ -199,6 +199,6 @@ pub fn rank_fault(table: &[u32], rank: Rank, i: u32, x: Term) -> u32
         Rank::BvCompare => bv_compare_fault(table, i, x),
         Rank::Read => read_fault(table, i, x),
         Rank::Write => write_fault(table, i, x),
-        Rank::Other => refuse(5, three(i, x), 0),
+        Rank::Other => refuse_unless(5, three(i, x), 0),
     }
 }

@@ -2,7 +2,7 @@
 ghost use mathlib.Core.Path.{_≡_};
 ghost use Rattle.ops.specs.Numbers.{opOf};
 ghost use Rattle.table.specs.Ranks.{rankOf};
-ghost use Rattle.table.specs.Faults.{variable, constant, reading, storing};
+ghost use Rattle.table.specs.Faults.{isVariable, isConstant, isRead, isStore};
 use crate::words::Term;
 
 // The lines of paper 01's table of operators, by the sorts that they ask (SMT-LIB: ranks).
@@ -66,29 +66,29 @@ const OP_SELECT: u32 = 15;
 const OP_STORE: u32 = 16;
 
 // Whether a term is a variable.
-pub fn variable(x: Term) -> bool
-    ensures { λ r. ⌜ r ≡ variable x ⌝ }
+pub fn is_variable(x: Term) -> bool
+    ensures { λ r. ⌜ r ≡ isVariable x ⌝ }
 {
     x.op == OP_VARIABLE
 }
 
 // Whether a term is a constant.
-pub fn constant(x: Term) -> bool
-    ensures { λ r. ⌜ r ≡ constant x ⌝ }
+pub fn is_constant(x: Term) -> bool
+    ensures { λ r. ⌜ r ≡ isConstant x ⌝ }
 {
     x.op == OP_CONSTANT
 }
 
 // Whether a term is a read.
-pub fn reading(x: Term) -> bool
-    ensures { λ r. ⌜ r ≡ reading x ⌝ }
+pub fn is_read(x: Term) -> bool
+    ensures { λ r. ⌜ r ≡ isRead x ⌝ }
 {
     x.op == OP_SELECT
 }
 
 // Whether a term is a store.
-pub fn storing(x: Term) -> bool
-    ensures { λ r. ⌜ r ≡ storing x ⌝ }
+pub fn is_store(x: Term) -> bool
+    ensures { λ r. ⌜ r ≡ isStore x ⌝ }
 {
     x.op == OP_STORE
 }

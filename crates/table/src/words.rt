@@ -1,6 +1,8 @@
 // A table's numbers as terms.
 ghost use mathlib.Core.Path.{_≡_};
-ghost use Rattle.table.specs.Terms.{HasTerm, HasSort, wordAt, sortAt, termAt, placed};
+ghost use lib.ListN.{getD};
+ghost use Rattle.table.specs.Terms.{HasTerm, HasSort, wordAt, sortAt, termAt};
+ghost use Rattle.table.specs.Code.Writing.{placed};
 
 // Boolean (0, 0); vector (0, n); array (m, n).
 pub struct Sort {
@@ -18,6 +20,14 @@ pub struct Term {
 
 // The numbers of a term.
 pub const WORDS: usize = 6;
+
+// The number at a place of a row, 0 past its end.
+pub fn number_at(row: &[u32], k: u32) -> u32
+    ensures { λ r. ⌜ r ≡ getD (now (row .entry)) k 0 ⌝ }
+{
+    let at = k as usize;
+    if at < row.len() { row[at] } else { 0 }
+}
 
 // Number j of term k, 0 past the table's end.
 fn word(table: &[u32], k: u32, j: u32) -> u32

@@ -1,12 +1,13 @@
 use Rattle.evaluate.proofs.Answers.{is-admitted, stands}
-use Rattle.evaluate.specs.Evaluation.{admits, andThen, afford}
+use Rattle.evaluate.specs.Evaluation.{afford}
+use Rattle.table.specs.Admission.{andThen, accepts, admissionWithin}
+use Rattle.evaluate.specs.declared.Evaluation.the-variants.{NotEvaluated}
 use Rattle.evaluate.specs.declared.Evaluation.{Evaluation}
 use Rattle.setting.specs.Check.{check}
 use Rattle.table.proofs.Admitted.{admission-sound, wider}
 use Rattle.table.specs.WellFormed.{WellFormed}
-use Rattle.table.specs.Admission.{admissionWithin}
-use Rattle.table.specs.declared.Admission.the-variants.{Admitted}
-use Rattle.table.specs.declared.Admission.{Admission}
+use Rattle.table.specs.declared.Acceptance.the-variants.{Accepted}
+use Rattle.table.specs.declared.Acceptance.{Acceptance}
 use borrow.Author.Tests.{not-true, not-false}
 use mathlib.Core.Bool.{true}
 use mathlib.Core.Path.{_≡_, refl, sym, ap, _∙_}
@@ -15,10 +16,10 @@ use Rattle.evaluate.proofs.ready.Statement.{statement}
 use Rattle.evaluate.proofs.ready.Tie as tie
 
 -- the table is admitted, and so well-formed
-admitted : (c : tie.Else1) → admissionWithin (c .before .before .before .before .before .before .args .limit) (c .before .before .before .before .before .before .args .table .now) ≡ Admitted
+admitted : (c : tie.Else1) → admissionWithin (c .before .before .before .before .before .before .args .limit) (c .before .before .before .before .before .before .args .table .now) ≡ Accepted
 admitted c =
     let w = c .before .before .admit-within in
-    sym (w .ensures) ∙ is-admitted (w .result) (sym (c .before .admits .ensures) ∙ not-false _ (c .if1 .left))
+    sym (w .ensures) ∙ is-admitted (w .result) (sym (c .before .accepts .ensures) ∙ not-false _ (c .if1 .left))
 
 formed : (c : tie.Else1) → WellFormed 80000 (c .before .before .before .before .before .before .args .table .now)
 formed c =
@@ -30,8 +31,8 @@ returns c =
     let a = c .before .before .before .before .before .before .before .args in
     let w = c .before .before .before .admit-within in
     c .and-then .ensures
-    ∙ stands (w .result) _ (andThen (check (a .table .now) (a .values .now) (a .cells .now)) (afford (a .table .now) (a .each) (a .allowance) (a .room))) (sym (c .before .before .admits .ensures) ∙ not-true _ (c .before .if1 .taken))
-    ∙ ap (λ (x : Admission). andThen x (andThen (check (a .table .now) (a .values .now) (a .cells .now)) (afford (a .table .now) (a .each) (a .allowance) (a .room)))) (w .ensures)
+    ∙ stands (w .result) _ (andThen NotEvaluated (check (a .table .now) (a .values .now) (a .cells .now)) (afford (a .table .now) (a .each) (a .allowance) (a .room))) (sym (c .before .before .accepts .ensures) ∙ not-true _ (c .before .if1 .taken))
+    ∙ ap (λ (x : Acceptance). andThen NotEvaluated x (andThen NotEvaluated (check (a .table .now) (a .values .now) (a .cells .now)) (afford (a .table .now) (a .each) (a .allowance) (a .room)))) (w .ensures)
 
 check-requires : tie.Need-check-requires
 check-requires c κs = formed c
@@ -42,9 +43,9 @@ returns-2 c =
     let rest = afford (a .table .now) (a .each) (a .allowance) (a .room) in
     let k = c .before .before .before .check in
     c .and-then2 .ensures
-    ∙ stands (k .result) _ rest (sym (c .before .before .admits2 .ensures) ∙ not-true _ (c .before .if2 .taken))
-    ∙ ap (λ (x : Admission). andThen x rest) (k .ensures)
-    ∙ sym (ap (λ (x : Admission). andThen x (andThen (check (a .table .now) (a .values .now) (a .cells .now)) rest)) (admitted (c .before .before .before .before)))
+    ∙ stands (k .result) _ rest (sym (c .before .before .accepts2 .ensures) ∙ not-true _ (c .before .if2 .taken))
+    ∙ ap (λ (x : Acceptance). andThen NotEvaluated x rest) (k .ensures)
+    ∙ sym (ap (λ (x : Acceptance). andThen NotEvaluated x (andThen NotEvaluated (check (a .table .now) (a .values .now) (a .cells .now)) rest)) (admitted (c .before .before .before .before)))
 
 afford-requires : tie.Need-afford-requires
 afford-requires c κs = (formed (c .before .before .before), c .before .before .before .before .before .before .before .before .before .pre .1)
@@ -55,8 +56,8 @@ returns-3 c =
     let rest = afford (a .table .now) (a .each) (a .allowance) (a .room) in
     let k = c .before .before .before .check in
     c .afford .ensures
-    ∙ sym (ap (λ (x : Admission). andThen x rest) (sym (k .ensures) ∙ is-admitted (k .result) (sym (c .before .before .admits2 .ensures) ∙ not-false _ (c .before .if2 .left))))
-    ∙ sym (ap (λ (x : Admission). andThen x (andThen (check (a .table .now) (a .values .now) (a .cells .now)) rest)) (admitted (c .before .before .before .before)))
+    ∙ sym (ap (λ (x : Acceptance). andThen NotEvaluated x rest) (sym (k .ensures) ∙ is-admitted (k .result) (sym (c .before .before .accepts2 .ensures) ∙ not-false _ (c .before .if2 .left))))
+    ∙ sym (ap (λ (x : Acceptance). andThen NotEvaluated x (andThen NotEvaluated (check (a .table .now) (a .values .now) (a .cells .now)) rest)) (admitted (c .before .before .before .before)))
 
 pub ready-spec : {M : Type 1} → statement M
 ready-spec =

@@ -7,7 +7,7 @@ use Prim.Native.Nat.{ℕ, zero, suc}
 use lib.Dec.{eqb}
 use lib.ListN.{getD}
 use Rattle.table.specs.Terms.{termAt}
-use Rattle.table.specs.Faults.{storing}
+use Rattle.table.specs.Faults.{isStore}
 use Rattle.evaluate.specs.declared.reads.Found.{Found}
 
 -- at index j, from array term a, through at most left terms: the stored value, or the slot of the variable at the end; front
@@ -17,7 +17,7 @@ foundWithin zero w front a j = record { stored = false; number = 0 }
 foundWithin (suc left) w front a j =
     let x = termAt w a in
     let beneath = foundWithin left w front (x .p) j in
-    cond (storing x) (cond (eqb (getD front (x .q) 0) j) (record { stored = true; number = getD front (x .r) 0 }) beneath) (record { stored = false; number = x .p })
+    cond (isStore x) (cond (eqb (getD front (x .q) 0) j) (record { stored = true; number = getD front (x .r) 0 }) beneath) (record { stored = false; number = x .p })
 
 -- an array's number falls along its chain, so its own is terms enough
 abbrev pub foundAt : List ℕ → List ℕ → ℕ → ℕ → Found
@@ -33,7 +33,7 @@ bottomWithin zero w a = 0
 bottomWithin (suc left) w a =
     let x = termAt w a in
     let beneath = bottomWithin left w (x .p) in
-    cond (storing x) beneath (x .p)
+    cond (isStore x) beneath (x .p)
 
 abbrev pub bottomAt : List ℕ → ℕ → ℕ
 bottomAt w a = bottomWithin (suc a) w a

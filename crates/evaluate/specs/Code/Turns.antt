@@ -10,19 +10,20 @@ use Rattle.ops.specs.Numbers.{opOf}
 use Rattle.ops.specs.Meaning.{apply}
 use Rattle.table.specs.declared.words.Term.{Term}
 use Rattle.table.specs.Terms.{terms, termAt, sortAt, scalar}
-use Rattle.table.specs.Faults.{variable, constant, reading, firstFrom}
+use Rattle.table.specs.Faults.{isVariable, isConstant, isRead}
+use Rattle.table.specs.Folds.{firstFrom}
 use Rattle.evaluate.specs.declared.turns.Turn.{Turn}
 use Rattle.evaluate.specs.Code.Reads.{foundAt}
 
 -- a term that asks among no cells: the other is the answer
 abbrev pub told : Bool → ℕ → ℕ → Turn
-told on at other = record { on = on; at = at; count = 0; slot = 0; index = 0; other = other }
+told pending at other = record { pending = pending; at = at; count = 0; slot = 0; index = 0; other = other }
 
 -- a read asks for its value: what its chain stores at the index is told; else the variable's cell there is sought among count
 -- cells, and else it is the slot's own value
 abbrev pub turnBy : Bool → ℕ → List ℕ → Bool → ℕ → ℕ → ℕ → Turn
-turnBy true number values on at count index = told on at number
-turnBy false slot values on at count index = record { on = on; at = at; count = count; slot = slot; index = index; other = getD values slot 0 }
+turnBy true number values pending at count index = told pending at number
+turnBy false slot values pending at count index = record { pending = pending; at = at; count = count; slot = slot; index = index; other = getD values slot 0 }
 
 -- what term at asks, of a table of so many terms; front holds the numbers of the terms before it
 unfoldable pub turnOf : List ℕ → List ℕ → ℕ → ℕ → List ℕ → ℕ → Turn
@@ -30,7 +31,7 @@ turnOf w values count terms front at =
     let x = termAt w at in
     let index = getD front (x .q) 0 in
     let found = foundAt w front (x .p) index in
-    cond (reading x) (turnBy (found .stored) (found .number) values (ltb at terms) at count index) (told (ltb at terms) at 0)
+    cond (isRead x) (turnBy (found .stored) (found .number) values (ltb at terms) at count index) (told (ltb at terms) at 0)
 
 -- x is the term after those whose numbers are in front
 pub record Next (w front : List ℕ) (x : Term) : Type 0 where
@@ -54,9 +55,9 @@ operatedNumber w front x = apply (opOf (x .op)) (sortAt w (x .p) .n) (getD front
 -- the number of term x: of a read the answer to what it asks
 unfoldable pub numberOf : List ℕ → List ℕ → List ℕ → Term → ℕ → ℕ
 numberOf w values front x answer =
-    cond (reading x) answer
-    (cond (constant x) (x .p)
-    (cond (variable x) (variableNumber values x)
+    cond (isRead x) answer
+    (cond (isConstant x) (x .p)
+    (cond (isVariable x) (variableNumber values x)
     (operatedNumber w front x)))
 
 -- Only a read asks for a cell: over other terms a run goes on.
@@ -69,14 +70,14 @@ onFrom stops write (suc left) room at =
     cond (stops at) room rest
 
 -- up to the next read, of a table of so many terms: which term that is, and the room
-abbrev pub readingAt : List ℕ → ℕ → Bool
-readingAt w k = reading (termAt w k)
+abbrev pub isReadAt : List ℕ → ℕ → Bool
+isReadAt w k = isRead (termAt w k)
 
 abbrev pub nextRead : List ℕ → ℕ → ℕ → ℕ
-nextRead w terms at = firstFrom (readingAt w) (terms - at) at
+nextRead w terms at = firstFrom (isReadAt w) (terms - at) at
 
 abbrev pub onward : List ℕ → (List ℕ → ℕ → List ℕ) → ℕ → List ℕ → ℕ → List ℕ
-onward w write terms room at = onFrom (readingAt w) write (terms - at) room at
+onward w write terms room at = onFrom (isReadAt w) write (terms - at) room at
 
 -- term at writes its number: from the answer, which only a read asks for
 abbrev pub numbered : List ℕ → List ℕ → ℕ → List ℕ → ℕ → List ℕ

@@ -8,13 +8,13 @@ use lib.ListN.{length}
 use borrow.Author.Tests.{not-true, not-false}
 use Rattle.table.specs.Terms.{terms}
 use Rattle.table.proofs.Admitted.{admission-sound}
-use Rattle.evaluate.specs.Evaluation.{admits}
+use Rattle.table.specs.Admission.{accepts}
 use Rattle.evaluate.proofs.Answers.{is-admitted}
 use Rattle.finish.specs.declared.Extent.{Extent}
 use Rattle.finish.specs.declared.Finishing.{Finishing}
 use Rattle.finish.specs.declared.Finishing.the-variants.{Finished}
 use Rattle.finish.specs.Finished.{notFinished, extent, finished, roomAfter}
-use Rattle.finish.specs.Laws.{Promise}
+use Rattle.finish.specs.Laws.{FinishingPromise}
 use Rattle.finish.proofs.Answers.{refused-is, kept, nothing-more, too-short, long-enough}
 use Rattle.finish.proofs.Fills.{count-some}
 use Rattle.finish.proofs.Promises.{promise}
@@ -27,12 +27,12 @@ returns c =
     let s = c .before .before .before .before .before .before in
     let w = s .args .table .now in
     let a = c .before .before .before .admit in
-    let off : admits (a .result) ≡ false = sym (c .before .before .admits .ensures) ∙ not-true _ (c .before .if1 .taken) in
+    let off : accepts (a .result) ≡ false = sym (c .before .before .accepts .ensures) ∙ not-true _ (c .before .if1 .taken) in
     let is = c .and-then .ensures in (
       is ∙ refused-is (a .result) w (s .args .room .now) off (a .ensures) _,
       (
         kept (a .result) w (s .args .room .now) off _ ∙ ap (λ (z : Finishing). roomAfter z w (s .args .room .now)) (sym is),
-        subst (Promise w (s .args .room .now)) (sym is) (nothing-more (a .result) w (s .args .room .now) off _),
+        subst (FinishingPromise w (s .args .room .now)) (sym is) (nothing-more (a .result) w (s .args .room .now) off _),
       ),
     )
 
@@ -41,14 +41,14 @@ needed-requires c κs =
     let s = c .before .before .before .before .before in
     let w = s .args .table .now in
     let a = c .before .before .admit in
-    admission-sound 512 w (sym (a .ensures) ∙ is-admitted (a .result) (sym (c .before .admits .ensures) ∙ not-false _ (c .if1 .left)))
+    admission-sound 512 w (sym (a .ensures) ∙ is-admitted (a .result) (sym (c .before .accepts .ensures) ∙ not-false _ (c .if1 .left)))
 
 returns-2 : tie.Need-returns-2
 returns-2 c =
     let s = c .before .before .before .before .before .before .before in
     let w = s .args .table .now in
     let a = c .before .before .before .before .admit in
-    let h = (sym (a .ensures) ∙ is-admitted (a .result) (sym (c .before .before .before .admits .ensures) ∙ not-false _ (c .before .before .if1 .left))) in
+    let h = (sym (a .ensures) ∙ is-admitted (a .result) (sym (c .before .before .before .accepts .ensures) ∙ not-false _ (c .before .before .if1 .left))) in
     let n = c .before .needed .ensures in (
       ap (notFinished 21) n ∙ too-short w (s .args .room .now) h (subst (λ (k : ℕ). length (s .args .room .now) < k * 6) n (c .if2 .taken)),
       (refl, tt),
@@ -59,21 +59,21 @@ fill-requires c κs =
     let s = c .before .before .before .before .before .before .before .before in
     let w = s .args .table .now in
     let a = c .before .before .before .before .before .admit in
-    (admission-sound 512 w (sym (a .ensures) ∙ is-admitted (a .result) (sym (c .before .before .before .before .admits .ensures) ∙ not-false _ (c .before .before .before .if1 .left))), subst (λ (k : ℕ). k * 6 ≤ length (s .args .room .now)) (c .before .before .needed .ensures) (c .before .if2 .left))
+    (admission-sound 512 w (sym (a .ensures) ∙ is-admitted (a .result) (sym (c .before .before .before .before .accepts .ensures) ∙ not-false _ (c .before .before .before .if1 .left))), subst (λ (k : ℕ). k * 6 ≤ length (s .args .room .now)) (c .before .before .needed .ensures) (c .before .if2 .left))
 
 sub-t17 : tie.Need-sub-t17
 sub-t17 c =
     let s = c .before .before .before .before .before .before .before .before .before .before .before in
     let w = s .args .table .now in
     let a = c .before .before .before .before .before .before .before .before .admit in
-    omega (arith, c .before .before .before .before .before .needed .ensures, count-some w (admission-sound 512 w (sym (a .ensures) ∙ is-admitted (a .result) (sym (c .before .before .before .before .before .before .before .admits .ensures) ∙ not-false _ (c .before .before .before .before .before .before .if1 .left)))))
+    omega (arith, c .before .before .before .before .before .needed .ensures, count-some w (admission-sound 512 w (sym (a .ensures) ∙ is-admitted (a .result) (sym (c .before .before .before .before .before .before .before .accepts .ensures) ∙ not-false _ (c .before .before .before .before .before .before .if1 .left)))))
 
 returns-3 : tie.Need-returns-3
 returns-3 c =
     let s = c .before .before .before .before .before .before .before .before .before .before .before in
     let w = s .args .table .now in
     let a = c .before .before .before .before .before .before .before .before .admit in
-    let h = (sym (a .ensures) ∙ is-admitted (a .result) (sym (c .before .before .before .before .before .before .before .admits .ensures) ∙ not-false _ (c .before .before .before .before .before .before .if1 .left))) in
+    let h = (sym (a .ensures) ∙ is-admitted (a .result) (sym (c .before .before .before .before .before .before .before .accepts .ensures) ∙ not-false _ (c .before .before .before .before .before .before .if1 .left))) in
     let n = c .before .before .before .before .before .needed .ensures in
     let g = c .before .before .fill in
     let full = subst (λ (k : ℕ). k * 6 ≤ length (s .args .room .now)) n (c .before .before .before .before .if2 .left) in
@@ -84,7 +84,7 @@ returns-3 c =
       is ∙ long-enough w (s .args .room .now) h full,
       (
         g .ensures .1 ∙ ap (λ (z : Finishing). roomAfter z w (s .args .room .now)) (sym is),
-        subst (λ (z : Finishing). Promise w (g .last .1 .0) z) (sym is) (subst (λ (l : List ℕ). Promise w l (Finished (extent w))) (sym (g .ensures .1)) (promise w (s .args .room .now) h)),
+        subst (λ (z : Finishing). FinishingPromise w (g .last .1 .0) z) (sym is) (subst (λ (l : List ℕ). FinishingPromise w l (Finished (extent w))) (sym (g .ensures .1)) (promise w (s .args .room .now) h)),
       ),
     )
 

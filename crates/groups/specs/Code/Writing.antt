@@ -1,14 +1,23 @@
 -- What writing the groups keeps and answers.
 -- Assumes nothing.
 use mathlib.Core.Path.{_≡_}
-use mathlib.Core.List.{List, map}
+use mathlib.Core.List.{List, [], _∷_, map}
 use Prim.Native.Nat.{ℕ, pred, suc, _+_, _≤_}
 use lib.ListN.{length}
 use Rattle.table.specs.declared.words.Term.{Term}
 use Rattle.table.specs.Terms.{terms}
+use Rattle.table.specs.Code.Writing.{placed}
 use Rattle.judge.specs.Conditions.{ownMarks}
 use Rattle.groups.specs.declared.groups.Written.{Written}
 use Rattle.groups.specs.Plans.{lastOf, next, plans, planAt}
+
+-- terms written into a room one after the other, as terms b + i, b + i + 1, ..
+unfoldable pub placedFrom : List ℕ → ℕ → ℕ → List Term → List ℕ
+placedFrom room b i [] = room
+placedFrom room b i (x ∷ xs) = placedFrom (placed room (b + i) x) b (suc i) xs
+
+abbrev pub placedAll : List ℕ → ℕ → List Term → List ℕ
+placedAll room b xs = placedFrom room b 0 xs
 
 -- the numbers of the conditions of the first k terms
 abbrev pub conditionNumbers : List ℕ → ℕ → List ℕ

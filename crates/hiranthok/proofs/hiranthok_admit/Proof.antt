@@ -1,13 +1,13 @@
 use mathlib.Core.Path.{ap, _∙_}
 use Rattle.hiranthok.specs.declared.replies.Reply.{Reply}
-use Rattle.hiranthok.specs.Replies.{row, admitted}
+use Rattle.hiranthok.specs.Replies.{row, admissionReply}
 use borrow.Author.Needs.{needs}
 use Rattle.hiranthok.proofs.hiranthok_admit.Statement.{statement}
 use Rattle.hiranthok.proofs.hiranthok_admit.Tie as tie
 
 returns : tie.Need-returns
 returns c =
-    let is = c .before .before .admitted .ensures ∙ ap admitted (c .before .before .before .admit .ensures) in
+    let is = c .before .before .admission-reply .ensures ∙ ap admissionReply (c .before .before .before .admit .ensures) in
     (c .deliver .ensures .0 ∙ ap (λ (r : Reply). r .number) is, c .deliver .ensures .1 ∙ ap row is)
 
 pub hiranthok-admit-spec : {M : Type 1} → statement M

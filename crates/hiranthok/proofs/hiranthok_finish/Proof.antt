@@ -2,9 +2,9 @@ use mathlib.Core.Path.{ap, subst, _∙_}
 use lib.ListN.{length}
 use Rattle.finish.specs.declared.Finishing.{Finishing}
 use Rattle.finish.specs.Finished.{finishing, roomAfter}
-use Rattle.finish.specs.Laws.{Promise}
+use Rattle.finish.specs.Laws.{FinishingPromise}
 use Rattle.hiranthok.specs.declared.replies.Reply.{Reply}
-use Rattle.hiranthok.specs.Replies.{row, finished}
+use Rattle.hiranthok.specs.Replies.{row, finishingReply}
 use Rattle.hiranthok.proofs.Across.{finished-for-records}
 use borrow.Author.Needs.{needs}
 use Rattle.hiranthok.proofs.hiranthok_finish.Statement.{statement}
@@ -14,8 +14,8 @@ returns : tie.Need-returns
 returns c =
     let a = c .before .before .before .before .before .before .before .before .before .args in
     let finish = c .before .before .before .before .before .finish in
-    let is = c .before .before .finished .ensures ∙ ap finished (finish .ensures .0) in
-    let promised = subst (Promise (a .table .now) (finish .last .1 .0)) (finish .ensures .0) (finish .ensures .1 .1) in (
+    let is = c .before .before .finishing-reply .ensures ∙ ap finishingReply (finish .ensures .0) in
+    let promised = subst (FinishingPromise (a .table .now) (finish .last .1 .0)) (finish .ensures .0) (finish .ensures .1 .1) in (
       c .deliver .ensures .0 ∙ ap (λ (r : Reply). r .number) is,
       (
         c .deliver .ensures .1 ∙ ap row is,

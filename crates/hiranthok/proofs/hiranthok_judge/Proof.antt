@@ -2,9 +2,9 @@ use mathlib.Core.Path.{ap, subst, _∙_}
 use lib.ListN.{length}
 use Rattle.judge.specs.declared.Judgement.{Judgement}
 use Rattle.judge.specs.Judgement.{roomAfter}
-use Rattle.judge.specs.Demand3.{Promise}
+use Rattle.judge.specs.Demand3.{JudgementPromise}
 use Rattle.records.proofs.Demand.{flat-demand3}
-use Rattle.hiranthok.specs.Replies.{row, judged}
+use Rattle.hiranthok.specs.Replies.{row, judgementReply}
 use borrow.Author.Needs.{needs}
 use Rattle.hiranthok.proofs.hiranthok_judge.Statement.{statement}
 use Rattle.hiranthok.proofs.hiranthok_judge.Tie as tie
@@ -14,13 +14,13 @@ returns c =
     let a = c .before .before .before .before .before .before .before .before .before .before .args in
     let is = c .before .before .before .before .judge .ensures .0 in
     let left = c .before .before .before .before .judge .ensures .1 in (
-      c .answer-judged .ensures .0 ∙ ap (λ (j : Judgement). judged j .number) is,
+      c .answer-judged .ensures .0 ∙ ap (λ (j : Judgement). judgementReply j .number) is,
       (
-        c .answer-judged .ensures .1 ∙ ap (λ (j : Judgement). row (judged j)) is,
+        c .answer-judged .ensures .1 ∙ ap (λ (j : Judgement). row (judgementReply j)) is,
         (
           left .0 ∙ ap (λ (j : Judgement). roomAfter j (a .table .now) (a .values .now) (a .cells .now) (a .work .now)) is,
           (
-            subst (Promise (a .table .now) (a .values .now) (a .cells .now)) is (left .1),
+            subst (JudgementPromise (a .table .now) (a .values .now) (a .cells .now)) is (left .1),
             flat-demand3 (a .table .now) (a .values .now) (a .cells .now) (a .allowance) (length (a .work .now)),
           ),
         ),

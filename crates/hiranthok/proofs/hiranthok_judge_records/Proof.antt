@@ -46,7 +46,7 @@ use Rattle.judge.proofs.Judgement as J
 use Rattle.judge.proofs.Judgement.Laws as J′
 use Rattle.records.specs.Answers.{judgement}
 use Rattle.records.specs.Answers as answers
-use Rattle.records.specs.Laws.{Promise}
+use Rattle.records.specs.Laws.{RecordJudgementPromise}
 use Rattle.records.proofs.Facts.{tells, together}
 use Rattle.records.proofs.judge_records as callee
 use Rattle.records.proofs.judge_records.Symbol as callee-def
@@ -148,10 +148,10 @@ module _ {M : Type 1} (𝓤 : URA M) (H : Heap 𝓤) (A : Atoms 𝓤) (W : Given
 
   -- what judge_records says of its answer a and of the work's last list z, and what the reply says of the number r and of the answer's last list y
   abbrev Said : Judgement → List ℕ → Type 0
-  Said a z = (a ≡ judgement w values cells allowance (length ws)) × ((z ≡ answers.judged a w values cells ws) × (Promise w values cells a))
+  Said a z = (a ≡ judgement w values cells allowance (length ws)) × ((z ≡ answers.judgementRoom a w values cells ws) × (RecordJudgementPromise w values cells a))
 
   abbrev Replied : Judgement → ℕ → List ℕ → Type 0
-  Replied a r y = (r ≡ replies.judged a .number) × (y ≡ row (replies.judged a))
+  Replied a r y = (r ≡ replies.judgementReply a .number) × (y ≡ row (replies.judgementReply a))
 
   -- what is had at the end
   abbrev Left : List ℕ → List ℕ → List (Item 𝓤)
@@ -160,8 +160,8 @@ module _ {M : Type 1} (𝓤 : URA M) (H : Heap 𝓤) (A : Atoms 𝓤) (W : Given
   exits : (a : Judgement) (z : List ℕ) → length z ≡ length ws → Said a z → (r : ℕ) (y : List ℕ) → r < 2 ^ 32 → Replied a r y → ent 𝓤 (⋆ 𝓤 H A (Left z y)) (Post (vint w32 r))
   exits a z long said r y fits replied =
       qed W (Left z y) ∵ suffices ! _ (ends-at 𝓤 H A entrance.ended stayed (entrance.clauses 𝓤 H A mem run) W bound (vint w32 r) r (tt, (tt, (tt, (tt, (z, (y, tt)))))) (tt, (tt, (tt, (tt, (long, (tt, tt))))))) $
-      tells ! (four 𝓤 (replied .0 ∙ ap (λ (e : Judgement). replies.judged e .number) (said .0)) (replied .1 ∙ ap (λ (e : Judgement). row (replies.judged e)) (said .0))
-      (said .1 .0 ∙ ap (λ (e : Judgement). answers.judged e w values cells ws) (said .0)) (subst (Promise w values cells) (said .0) (said .1 .1))) $
+      tells ! (four 𝓤 (replied .0 ∙ ap (λ (e : Judgement). replies.judgementReply e .number) (said .0)) (replied .1 ∙ ap (λ (e : Judgement). row (replies.judgementReply e)) (said .0))
+      (said .1 .0 ∙ ap (λ (e : Judgement). answers.judgementRoom e w values cells ws) (said .0)) (subst (RecordJudgementPromise w values cells) (said .0) (said .1 .1))) $
       move ! (2 ∷ []) $ split ! $ move ! (1 ∷ []) $ split ! $ move ! (1 ∷ []) $ split ! $ move ! (1 ∷ []) $ split ! $ move ! (0 ∷ 5 ∷ []) $ join ! $ move ! (2 ∷ 0 ∷ []) $ join ! $ move ! (2 ∷ 0 ∷ []) $ join ! $ move ! (2 ∷ 0 ∷ []) $ join ! $ frame ! $
       nothing ! $ move ! (2 ∷ 0 ∷ []) $ fjoin ! $ move ! (2 ∷ 0 ∷ []) $ fjoin ! $ nothing ! $ fjoin ! $ nothing ! $ fjoin ! $ nothing ! $ fjoin ! $ nothing ! $ fjoin ! $ frame ! $ keep ! [] $
       owned ! u32 (Is u32) (uint-makes 𝓤 H A W w32) r _ (refl, fits) $ done !
@@ -202,9 +202,9 @@ module _ {M : Type 1} (𝓤 : URA M) (H : Heap 𝓤) (A : Atoms 𝓤) (W : Given
       calls-at ! (fmOf 𝓤 H (W .laws) 𝓣) (Callee 𝓤 H A mem run) (known .callee) to-callee
       (and-then ! (load ! (from ! (stop !)) (look ! 21 refl)) (and-then ! (load ! (from ! (stop !)) (look ! 19 refl)) (and-then ! (load ! (from ! (stop !)) (look ! 17 refl)) (and-then ! (load ! (from ! (stop !)) (look ! 15 refl)) (and-then ! (load ! (from ! (stop !)) (look ! 5 refl)) (no-more !)))))) (λ u.
       use1 W (later (some (λ (a : Judgement). ((‵ (flft κ₀ q₀) ⊛ (‵ (flft κ₁ q₁) ⊛ (‵ (flft κ₂ q₂) ⊛ (‵ (flft κ₃ q₃) ⊛ ‵ ftrue)))) ⊛ ‵ (J.the-row .own a (u ∷ []))) ⊛ raw (ensured 𝓤 H A callee.ended (callee.clauses 𝓤 H A mem run) (κ₀, (κ₁, (κ₂, (κ₃, tt)))) passed tt a)))) (id⊢ 𝓤 _) $ await ! tt $ pick ! (λ a.
-      split ! $ move ! (1 ∷ []) $ use1 W (some (λ (zs : Unit {0} × (Unit {0} × (Unit {0} × (Unit {0} × (List ℕ × Unit {0}))))). ‵ (lasts callee.ended (κ₀, (κ₁, (κ₂, (κ₃, tt)))) passed zs) ⊛ raw (sep 𝓤 (fact 𝓤 (a ≡ judgement w values cells allowance (length ws))) (sep 𝓤 (fact 𝓤 (zs .1 .1 .1 .1 .0 ≡ answers.judged a w values cells ws)) (fact 𝓤 (Promise w values cells a)))))) (id⊢ 𝓤 _) $ pick ! (λ zs.
+      split ! $ move ! (1 ∷ []) $ use1 W (some (λ (zs : Unit {0} × (Unit {0} × (Unit {0} × (Unit {0} × (List ℕ × Unit {0}))))). ‵ (lasts callee.ended (κ₀, (κ₁, (κ₂, (κ₃, tt)))) passed zs) ⊛ raw (sep 𝓤 (fact 𝓤 (a ≡ judgement w values cells allowance (length ws))) (sep 𝓤 (fact 𝓤 (zs .1 .1 .1 .1 .0 ≡ answers.judgementRoom a w values cells ws)) (fact 𝓤 (RecordJudgementPromise w values cells a)))))) (id⊢ 𝓤 _) $ pick ! (λ zs.
       let z = zs .1 .1 .1 .1 .0 in
-      split ! $ move ! (1 ∷ []) $ use1 W (raw (fact 𝓤 (Said a z))) (together-three 𝓤 (a ≡ judgement w values cells allowance (length ws)) (z ≡ answers.judged a w values cells ws) (Promise w values cells a)) $ heard ! (Said a z) (λ said.
+      split ! $ move ! (1 ∷ []) $ use1 W (raw (fact 𝓤 (Said a z))) (together-three 𝓤 (a ≡ judgement w values cells allowance (length ws)) (z ≡ answers.judgementRoom a w values cells ws) (RecordJudgementPromise w values cells a)) $ heard ! (Said a z) (λ said.
       fsplit ! $ drop ! $ fsplit ! $ drop ! $ fsplit ! $ drop ! $ fsplit ! $ drop ! $ fsplit ! $ fsplit ! $ move ! (1 ∷ []) $ feqL ! (λ long.
       -- [the last list, said; true; the tokens and the answer; the answer's token; what it owns; _10; …]
       move ! (2 ∷ []) $ split ! $ move ! (1 ∷ []) $ peeks ! J.the-row (Is J.the-row) (shows 𝓤 H A J.the-row) a (u ∷ []) (λ is-a. land ! (from ! (stop !)) (init ! 12 refl (LE.lawful J.the-type J′.the-laws 𝓤 H A W tt .typed a _ is-a .0)) $
@@ -214,9 +214,9 @@ module _ {M : Type 1} (𝓤 : URA M) (H : Heap 𝓤) (A : Atoms 𝓤) (W : Given
       move ! (3 ∷ 4 ∷ []) $ use2 W (raw (ReplyC 𝓤 H A mem run .pre (to-reply a))) (goes-reply a (subst (Is J.the-row a) (J′.lowers .val-is a (u ∷ []) is-a) is-a)) $
       calls-at ! (fmOf 𝓤 H (W .laws) 𝓣) (ReplyC 𝓤 H A mem run) (known .reply) (to-reply a) (and-then ! (load ! (from ! (stop !)) (look ! 10 refl)) (and-then ! (load ! (from ! (stop !)) (look ! 4 refl)) (no-more !))) (λ u′.
       use1 W (later (some (λ (r : ℕ). ((‵ (flft κ₄ q₄) ⊛ ‵ ftrue) ⊛ ‵ (u32 .own r (u′ ∷ []))) ⊛ raw (ensured 𝓤 H A reply.ended (reply.clauses 𝓤 H A mem run) (κ₄, tt) (a, (x₄, tt)) tt r)))) (id⊢ 𝓤 _) $ await ! tt $ pick ! (λ r.
-      split ! $ move ! (1 ∷ []) $ use1 W (some (λ (ys : Unit {0} × (List ℕ × Unit {0})). ‵ (lasts reply.ended (κ₄, tt) (a, (x₄, tt)) ys) ⊛ raw (sep 𝓤 (fact 𝓤 (r ≡ replies.judged a .number)) (fact 𝓤 (ys .1 .0 ≡ row (replies.judged a)))))) (id⊢ 𝓤 _) $ pick ! (λ ys.
+      split ! $ move ! (1 ∷ []) $ use1 W (some (λ (ys : Unit {0} × (List ℕ × Unit {0})). ‵ (lasts reply.ended (κ₄, tt) (a, (x₄, tt)) ys) ⊛ raw (sep 𝓤 (fact 𝓤 (r ≡ replies.judgementReply a .number)) (fact 𝓤 (ys .1 .0 ≡ row (replies.judgementReply a)))))) (id⊢ 𝓤 _) $ pick ! (λ ys.
       let y = ys .1 .0 in
-      split ! $ move ! (1 ∷ []) $ use1 W (raw (fact 𝓤 (Replied a r y))) (together 𝓤 (r ≡ replies.judged a .number) (y ≡ row (replies.judged a))) $ heard ! (Replied a r y) (λ replied.
+      split ! $ move ! (1 ∷ []) $ use1 W (raw (fact 𝓤 (Replied a r y))) (together 𝓤 (r ≡ replies.judgementReply a .number) (y ≡ row (replies.judgementReply a))) $ heard ! (Replied a r y) (λ replied.
       fsplit ! $ drop ! $ fsplit ! $ move ! (2 ∷ []) $ split ! $ move ! (1 ∷ []) $
       -- [the number; the answer's token; its last list, said; true; the tokens; the work's last list, said; true; _10; …]
       peeks ! u32 (Is u32) (shows 𝓤 H A u32) r (u′ ∷ []) (λ is-r. land ! (from ! (stop !)) (init ! 27 refl (uint-lawful 𝓤 H A W w32 .typed r _ is-r .0)) $ rewrite ! 27 (λ (v : Val). ‵ (fat fullShare (tyInt w32) l₀ 0 v)) (ap only (is-r .0)) refl $ drop ! $

@@ -17,7 +17,7 @@ use Rattle.evaluate.proofs.Answers.{Passed, passed}
 use Rattle.judge.specs.declared.Judgement.{Judgement}
 use Rattle.judge.specs.Conditions.{ownMarks}
 use Rattle.judge.specs.Judgement.{ruleIn, ruleCondition, verdictBy, judgement, roomAfter}
-use Rattle.judge.specs.Demand3.{Promise}
+use Rattle.judge.specs.Demand3.{JudgementPromise}
 use Rattle.judge.proofs.Promises.{demand3}
 use Rattle.judge.proofs.Verdicts.{stands, room-kept, room-filled, rule-read, condition-read}
 use Rattle.judge.proofs.judge.Statement.{statement}
@@ -34,7 +34,7 @@ returns c =
       is,
       (
         room-kept (e .result) false false (a .table .now) (a .values .now) (a .cells .now) (a .work .now) off ∙ ap (λ (j : Judgement). roomAfter j (a .table .now) (a .values .now) (a .cells .now) (a .work .now)) (sym (c .answered .ensures)),
-        subst (Promise (a .table .now) (a .values .now) (a .cells .now)) (sym is) (demand3 ownMarks (a .table .now) (a .values .now) (a .cells .now) (a .allowance) (length (a .work .now))),
+        subst (JudgementPromise (a .table .now) (a .values .now) (a .cells .now)) (sym is) (demand3 ownMarks (a .table .now) (a .values .now) (a .cells .now) (a .allowance) (length (a .work .now))),
       ),
     )
 
@@ -77,7 +77,7 @@ returns-2 c =
       is,
       (
         filled ∙ room-filled (e .result) _ _ w (a .values .now) (a .cells .now) (a .work .now) on ∙ ap (λ (j : Judgement). roomAfter j w (a .values .now) (a .cells .now) (a .work .now)) (sym (c .answered2 .ensures)),
-        subst (Promise w (a .values .now) (a .cells .now)) (sym is) (demand3 ownMarks w (a .values .now) (a .cells .now) (a .allowance) (length (a .work .now))),
+        subst (JudgementPromise w (a .values .now) (a .cells .now)) (sym is) (demand3 ownMarks w (a .values .now) (a .cells .now) (a .allowance) (length (a .work .now))),
       ),
     )
 

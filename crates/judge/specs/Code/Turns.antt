@@ -6,18 +6,18 @@ use Prim.Native.Nat.{ℕ}
 use lib.Dec.{ltb}
 use lib.ListN.{getD, take, drop}
 use Rattle.table.specs.Terms.{termAt}
-use Rattle.table.specs.Faults.{reading}
+use Rattle.table.specs.Faults.{isRead}
 use Rattle.evaluate.specs.declared.turns.Turn.{Turn}
 use Rattle.evaluate.specs.Code.Reads.{bottomAt}
 use Rattle.evaluate.specs.Code.Turns as evaluating
-use Rattle.judge.specs.Code.Readings.{truthIn}
+use Rattle.judge.specs.Code.Labelled.{truthIn}
 
 -- a read whose index is free asks for the cell of the variable beneath it, by which its value and its truth are found along the
 -- chain; one whose index is not free has a false condition and asks for its value alone, as in evaluating, and so does any other term
 unfoldable pub turnOf : List ℕ → List ℕ → ℕ → ℕ → List ℕ → List ℕ → ℕ → Turn
 turnOf w row count terms front truths at =
     let x = termAt w at in
-    cond (reading x && truthIn truths (x .q)) (evaluating.turnBy false (bottomAt w (x .p)) row (ltb at terms) at count (getD front (x .q) 0))
+    cond (isRead x && truthIn truths (x .q)) (evaluating.turnBy false (bottomAt w (x .p)) row (ltb at terms) at count (getD front (x .q) 0))
     (evaluating.turnOf w row count terms front at)
 
 -- the same at a place of the room: the numbers before it stand at its front, the truths from number terms on

@@ -64,7 +64,7 @@ use Rattle.evaluate.proofs.step.Symbol as step-def
 use Rattle.evaluate.proofs.step.Symbol.{name as #step}
 use Rattle.evaluate.proofs.step.Met as step-thm
 use Rattle.records.specs.Rows.{recordAt}
-use Rattle.records.specs.Answers.{evaluation, evaluated}
+use Rattle.records.specs.Answers.{evaluation, evaluationRoom}
 use Rattle.records.specs.Code.Drive.{firstTurn}
 use Rattle.records.proofs.Again.{LentAgain, lends-again, comes-back}
 use Rattle.records.proofs.Facts.{two, three, tells, together, big-lit}
@@ -184,7 +184,7 @@ module _ {M : Type 1} (𝓤 : URA M) (H : Heap 𝓤) (A : Atoms 𝓤) (W : Given
   abbrev Front : List ℕ → List (Item 𝓤)
   Front l = ‵ (flft κ₀ q₀) ∷ ‵ (flft κ₁ q₁) ∷ ‵ (flft κ₂ q₂) ∷ ‵ (flft κ₃ q₃) ∷ ‵ Own₀ ∷ ‵ Own₁ ∷ ‵ Own₂ ∷ ‵ (Own₃ l (length ws)) ∷ []
 
-  exits : (e : Evaluation) → e ≡ evaluation w values cells allowance (length ws) → Is Ev.the-row e (Ev′.lowered e ∷ []) → (l : List ℕ) → length l ≡ length ws → l ≡ evaluated e w values cells ws → ent 𝓤 (⋆ 𝓤 H A (Front l)) (Post (Ev′.lowered e))
+  exits : (e : Evaluation) → e ≡ evaluation w values cells allowance (length ws) → Is Ev.the-row e (Ev′.lowered e ∷ []) → (l : List ℕ) → length l ≡ length ws → l ≡ evaluationRoom e w values cells ws → ent 𝓤 (⋆ 𝓤 H A (Front l)) (Post (Ev′.lowered e))
   exits e is low l long left =
       qed W (Front l) ∵
       suffices ! _ (ends-at 𝓤 H A entrance.ended stayed (entrance.clauses 𝓤 H A mem run) W bound (Ev′.lowered e) e (tt, (tt, (tt, (tt, (l, tt))))) (tt, (tt, (tt, (tt, (long, tt)))))) $ tells ! (two 𝓤 is left) $
@@ -306,9 +306,9 @@ module _ {M : Type 1} (𝓤 : URA M) (H : Heap 𝓤) (A : Atoms 𝓤) (W : Given
     Nearer-wf : WellFounded Nearer
     Nearer-wf = InvImage·wf (λ (k : Left). n - k .1 .0 .at) (Nat·lt-wfRel .wf)
 
-    next-driven : (k : Left) → Holds (k .1 .0 .on) → (v : ℕ) → v ≡ found-by (k .1 .0) → (z : List ℕ) (r : Turn) → next-turn n (k .1 .0) r z × next-work n (k .0) (k .1 .0) v z
+    next-driven : (k : Left) → Holds (k .1 .0 .pending) → (v : ℕ) → v ≡ found-by (k .1 .0) → (z : List ℕ) (r : Turn) → next-turn n (k .1 .0) r z × next-work n (k .0) (k .1 .0) v z
         → drive.Driven w values cells allowance ws e is-e n is-n z r × (n - r .at < n - k .1 .0 .at)
-    next-driven k on v found z r said = drive.turned w values cells allowance ws e is-e n is-n (k .0) (k .1 .0) (k .1 .1 .0) (taken (k .1 .0 .on) on) v found z r (said .0) (said .1)
+    next-driven k on v found z r said = drive.turned w values cells allowance ws e is-e n is-n (k .0) (k .1 .0) (k .1 .1 .0) (taken (k .1 .0 .pending) on) v found z r (said .0) (said .1)
 
     module _ (𝓣 : Tables 𝓤 H) (known : Known 𝓤 H A mem run 𝓣) (l₀ l₁ l₂ l₃ l₄ l₅ l₆ l₇ l₈ l₉ l₁₀ l₁₁ l₁₂ l₁₃ l₁₄ : ℕ) where
       abbrev C : Calls 𝓤 H
@@ -345,7 +345,7 @@ module _ {M : Type 1} (𝓤 : URA M) (H : Heap 𝓤) (A : Atoms 𝓤) (W : Given
           (λ on. skips ! $ exec ! C Λ En more (anyQ (Turned k)) $
           -- `look`, on a copy of what the row owns
           move ! (6 ∷ []) $ use1 W (‵ Own₂ ⊛ ‵ Own₂) (shr-slice-copy 𝓤 H A W (named 2) κ₂ T.the-row .twice x₂ (v₂ ∷ [])) $ split ! $ move ! (4 ∷ 0 ∷ []) $
-          use2 W (raw (Look 𝓤 H A mem run .pre (to-look t))) (goes-look t low (drive.most w values cells allowance ws e is-e n is-n l t driven (taken (t .on) on))) $
+          use2 W (raw (Look 𝓤 H A mem run .pre (to-look t))) (goes-look t low (drive.most w values cells allowance ws e is-e n is-n l t driven (taken (t .pending) on))) $
           calls-at ! (fmOf 𝓤 H (W .laws) 𝓣) (Look 𝓤 H A mem run) (known .looks) (to-look t)
           (and-then ! (load ! (from ! (stop !)) (look ! 30 refl)) (and-then ! (load ! (from ! (fld ! refl (stop !))) (look-in ! 18 (sub ! 2 refl (whole !)))) (and-then ! (load ! (from ! (fld ! refl (stop !))) (look-in ! 18 (sub ! 3 refl (whole !))))
           (and-then ! (load ! (from ! (fld ! refl (stop !))) (look-in ! 18 (sub ! 4 refl (whole !)))) (and-then ! (load ! (from ! (fld ! refl (stop !))) (look-in ! 18 (sub ! 5 refl (whole !)))) (no-more !)))))) (λ u.
@@ -362,7 +362,7 @@ module _ {M : Type 1} (𝓤 : URA M) (H : Heap 𝓤) (A : Atoms 𝓤) (W : Given
           -- [the work, lent; the lender's part; ν's token; the row's token; what the row owns; the two other tokens; what the two own; _14; …]: `step`
           move ! (7 ∷ []) $ use1 W (‵ Own₀ ⊛ ‵ Own₀) (shr-slice-copy 𝓤 H A W (named 0) κ₀ u32 .twice x₀ (v₀ ∷ [])) $ split ! $ move ! (9 ∷ []) $ use1 W (‵ Own₁ ⊛ ‵ Own₁) (shr-slice-copy 𝓤 H A W (named 1) κ₁ u32 .twice x₁ (v₁ ∷ [])) $ split ! $
           move ! (0 ∷ 4 ∷ []) $ join ! $ move ! (2 ∷ 0 ∷ []) $ join ! $ move ! (8 ∷ 4 ∷ []) $ join ! $ move ! (7 ∷ 0 ∷ []) $ join ! $
-          use2 W (raw (StepC 𝓤 H A mem run .pre (to-step n ν δ l t v))) (goes-step n ν δ l t v fits low (is-v .1) (drive.well w values cells allowance ws e is-e n is-n l t driven (taken (t .on) on)) (drive.every w values cells allowance ws e is-e n is-n l t driven (taken (t .on) on)) (drive.place w values cells allowance ws e is-e n is-n l t driven (taken (t .on) on))) $
+          use2 W (raw (StepC 𝓤 H A mem run .pre (to-step n ν δ l t v))) (goes-step n ν δ l t v fits low (is-v .1) (drive.well w values cells allowance ws e is-e n is-n l t driven (taken (t .pending) on)) (drive.every w values cells allowance ws e is-e n is-n l t driven (taken (t .pending) on)) (drive.place w values cells allowance ws e is-e n is-n l t driven (taken (t .pending) on))) $
           calls-at-last ! (fmOf 𝓤 H (W .laws) 𝓣) (StepC 𝓤 H A mem run) (known .step) (to-step n ν δ l t v)
           (and-then ! (load ! (from ! (stop !)) (look ! 32 refl)) (and-then ! (load ! (from ! (stop !)) (look ! 30 refl)) (and-then ! (load ! (from ! (stop !)) (look ! 20 refl)) (and-then ! (load ! (from ! (stop !)) (look ! 18 refl))
           (and-then ! (load ! (from ! (stop !)) (look ! 6 refl)) (and-then ! (load ! (from ! (stop !)) (look ! 16 refl)) (and-then ! (load ! (from ! (stop !)) (look ! 14 refl)) (no-more !)))))))) (λ u′.
@@ -385,7 +385,7 @@ module _ {M : Type 1} (𝓤 : URA M) (H : Heap 𝓤) (A : Atoms 𝓤) (W : Given
           assigns ! (of-opd ! (load ! (from ! (stop !)) (look ! 24 refl))) (from ! (stop !)) (init ! 36 refl (LE.lawful Ev.the-type Ev′.the-laws 𝓤 H A W tt .typed e _ low-e .0)) $
           returns ! (look ! 36 refl) $ forget ! 12 refl $ forget ! 14 refl $ forget ! 18 refl $ forget ! 20 refl $ forget ! 22 refl $ forget ! 24 refl $ forget ! 26 refl $ forget ! 28 refl $ forget ! 30 refl $ forget ! 32 refl $ forget ! 34 refl $ forget ! 36 refl $
           move ! (36 ∷ 37 ∷ []) $ free1 ! $ move ! (34 ∷ 35 ∷ []) $ free1 ! $ move ! (32 ∷ 33 ∷ []) $ free1 ! $ move ! (30 ∷ 31 ∷ []) $ free1 ! $ move ! (28 ∷ 29 ∷ []) $ free1 ! $ move ! (26 ∷ 27 ∷ []) $ free1 ! $ move ! (24 ∷ 25 ∷ []) $ free1 ! $ move ! (22 ∷ 23 ∷ []) $ free1 ! $ move ! (20 ∷ 21 ∷ []) $ free1 ! $ move ! (18 ∷ 19 ∷ []) $ free1 ! $ move ! (16 ∷ 17 ∷ []) $ free1 ! $ move ! (14 ∷ 15 ∷ []) $ free1 ! $ move ! (12 ∷ 13 ∷ []) $ free1 ! $ move ! (10 ∷ 11 ∷ []) $ free1 ! $ move ! (8 ∷ 9 ∷ []) $ free1 ! $ free0 ! $
-          by ! (exits e is-e low-e l long (drive.left w values cells allowance ws e is-e n is-n l t driven (passed-over (t .on) off))))
+          by ! (exits e is-e low-e l long (drive.left w values cells allowance ws e is-e n is-n l t driven (passed-over (t .pending) off))))
 
       starts : (t : Turn) (is-t : t ≡ firstTurn w values (length cells) n) (low : Is U.the-row t (U′.lowered t ∷ [])) → Sq W (At (ws, (t, (drive.started w values cells allowance ws e is-e n is-n t is-t, low)))) (runs C Λ En mirs.t-6 (atRet En Post))
       starts t is-t low = first ! $ blocks ! $ loops ! 𝓣 Nearer Nearer-wf At turns (ws, (t, (drive.started w values cells allowance ws e is-e n is-n t is-t, low)))

@@ -58,7 +58,7 @@ use Rattle.evaluate.specs.Code.Turns.{nextRead, onward}
 use Rattle.judge.specs.Code.Turns.{turnHere}
 use Rattle.judge.specs.declared.Judgement.{Judgement}
 use Rattle.judge.specs.Conditions.{ownMarks}
-use Rattle.judge.specs.Code.Readings.{noted}
+use Rattle.judge.specs.Code.Labelled.{noted}
 use Rattle.evaluate.proofs.Evaluation as Ev
 use Rattle.evaluate.proofs.Evaluation.Laws as Ev′
 use Rattle.evaluate.proofs.turns.Turn as U
@@ -71,8 +71,8 @@ use Rattle.judge.proofs.step.Symbol.{name as #step}
 use Rattle.judge.proofs.step.Met as step-thm
 use Rattle.records.specs.Rows.{recordAt}
 use Rattle.records.specs.Answers as answers
-use Rattle.records.specs.Answers.{judgement, judged}
-use Rattle.records.specs.Laws.{Promise}
+use Rattle.records.specs.Answers.{judgement, judgementRoom}
+use Rattle.records.specs.Laws.{RecordJudgementPromise}
 use Rattle.records.specs.Code.Drive.{firstTurn, verdictFrom}
 use Rattle.records.proofs.Again.{LentAgain, lends-again, comes-back}
 use Rattle.records.proofs.Facts.{two, three, tells, together}
@@ -201,10 +201,10 @@ module _ {M : Type 1} (𝓤 : URA M) (H : Heap 𝓤) (A : Atoms 𝓤) (W : Given
   abbrev Front : List ℕ → List (Item 𝓤)
   Front l = ‵ (flft κ₀ q₀) ∷ ‵ (flft κ₁ q₁) ∷ ‵ (flft κ₂ q₂) ∷ ‵ (flft κ₃ q₃) ∷ ‵ Own₀ ∷ ‵ Own₁ ∷ ‵ Own₂ ∷ ‵ (Own₃ l (length ws)) ∷ []
 
-  exits : (j : Judgement) → j ≡ judgement w values cells allowance (length ws) → Is J.the-row j (J′.lowered j ∷ []) → (l : List ℕ) → length l ≡ length ws → l ≡ judged j w values cells ws → ent 𝓤 (⋆ 𝓤 H A (Front l)) (Post (J′.lowered j))
+  exits : (j : Judgement) → j ≡ judgement w values cells allowance (length ws) → Is J.the-row j (J′.lowered j ∷ []) → (l : List ℕ) → length l ≡ length ws → l ≡ judgementRoom j w values cells ws → ent 𝓤 (⋆ 𝓤 H A (Front l)) (Post (J′.lowered j))
   exits j is low l long left =
       qed W (Front l) ∵
-      suffices ! _ (ends-at 𝓤 H A entrance.ended stayed (entrance.clauses 𝓤 H A mem run) W bound (J′.lowered j) j (tt, (tt, (tt, (tt, (l, tt))))) (tt, (tt, (tt, (tt, (long, tt)))))) $ tells ! (three 𝓤 is left (subst (Promise w values cells) (sym is) (record-demand3 w values cells allowance (length ws)))) $
+      suffices ! _ (ends-at 𝓤 H A entrance.ended stayed (entrance.clauses 𝓤 H A mem run) W bound (J′.lowered j) j (tt, (tt, (tt, (tt, (l, tt))))) (tt, (tt, (tt, (tt, (long, tt)))))) $ tells ! (three 𝓤 is left (subst (RecordJudgementPromise w values cells) (sym is) (record-demand3 w values cells allowance (length ws)))) $
       nothing ! $ move ! (4 ∷ 0 ∷ []) $ join ! $ move ! (3 ∷ 0 ∷ []) $ join ! $ move ! (2 ∷ 0 ∷ []) $ join ! $ move ! (1 ∷ 0 ∷ []) $ join ! $ frame ! $
       nothing ! $ move ! (4 ∷ 0 ∷ []) $ fjoin ! $ nothing ! $ fjoin ! $ nothing ! $ fjoin ! $ nothing ! $ fjoin ! $ nothing ! $ fjoin ! $ frame ! $ keep ! [] $
       owned ! J.the-row (Is J.the-row) (LE.makes J.the-type J′.the-plain 𝓤 H A) j _ low $ done !
@@ -335,16 +335,16 @@ module _ {M : Type 1} (𝓤 : URA M) (H : Heap 𝓤) (A : Atoms 𝓤) (W : Given
     Nearer-wf : WellFounded Nearer
     Nearer-wf = InvImage·wf (λ (k : Left). n - k .1 .0 .at) (Nat·lt-wfRel .wf)
 
-    next-driven : (k : Left) → Holds (k .1 .0 .on) → (v : ℕ) → v ≡ found-by (k .1 .0) → (z : List ℕ) (r : Turn) → next-turn n (k .1 .0) r z × next-work n (k .0) (k .1 .0) v z
+    next-driven : (k : Left) → Holds (k .1 .0 .pending) → (v : ℕ) → v ≡ found-by (k .1 .0) → (z : List ℕ) (r : Turn) → next-turn n (k .1 .0) r z × next-work n (k .0) (k .1 .0) v z
         → drive.Driven w values cells allowance ws e is-e n is-n z r × (n - r .at < n - k .1 .0 .at)
-    next-driven k on v found z r said = drive.turned w values cells allowance ws e is-e n is-n (k .0) (k .1 .0) (k .1 .1 .0) (taken (k .1 .0 .on) on) v found z r (said .0) (said .1)
+    next-driven k on v found z r said = drive.turned w values cells allowance ws e is-e n is-n (k .0) (k .1 .0) (k .1 .1 .0) (taken (k .1 .0 .pending) on) v found z r (said .0) (said .1)
 
     -- the loop is left: the verdict, and the work
-    answer-is : (k : Left) → Holds (not (k .1 .0 .on)) → (j : Judgement) → j ≡ verdictFrom e n (k .0) → j ≡ judgement w values cells allowance (length ws)
-    answer-is k off j is-j = is-j ∙ drive.verdict-is w values cells allowance ws e is-e n is-n (k .0) (k .1 .0) (k .1 .1 .0) (passed-over (k .1 .0 .on) off)
+    answer-is : (k : Left) → Holds (not (k .1 .0 .pending)) → (j : Judgement) → j ≡ verdictFrom e n (k .0) → j ≡ judgement w values cells allowance (length ws)
+    answer-is k off j is-j = is-j ∙ drive.verdict-is w values cells allowance ws e is-e n is-n (k .0) (k .1 .0) (k .1 .1 .0) (passed-over (k .1 .0 .pending) off)
 
-    room-is : (k : Left) → Holds (not (k .1 .0 .on)) → (j : Judgement) → j ≡ verdictFrom e n (k .0) → (z : List ℕ) → z ≡ k .0 → z ≡ judged j w values cells ws
-    room-is k off j is-j z is-z = is-z ∙ drive.left w values cells allowance ws e is-e n is-n (k .0) (k .1 .0) (k .1 .1 .0) (passed-over (k .1 .0 .on) off) ∙ ap (λ (y : Judgement). judged y w values cells ws) (sym is-j)
+    room-is : (k : Left) → Holds (not (k .1 .0 .pending)) → (j : Judgement) → j ≡ verdictFrom e n (k .0) → (z : List ℕ) → z ≡ k .0 → z ≡ judgementRoom j w values cells ws
+    room-is k off j is-j z is-z = is-z ∙ drive.left w values cells allowance ws e is-e n is-n (k .0) (k .1 .0) (k .1 .1 .0) (passed-over (k .1 .0 .pending) off) ∙ ap (λ (y : Judgement). judgementRoom y w values cells ws) (sym is-j)
 
     module _ (𝓣 : Tables 𝓤 H) (known : Known 𝓤 H A mem run 𝓣) (l₀ l₁ l₂ l₃ l₄ l₅ l₆ l₇ l₈ l₉ l₁₀ l₁₁ l₁₂ l₁₃ l₁₄ l₁₅ l₁₆ : ℕ) where
       abbrev C : Calls 𝓤 H
@@ -381,7 +381,7 @@ module _ {M : Type 1} (𝓤 : URA M) (H : Heap 𝓤) (A : Atoms 𝓤) (W : Given
           (λ on. skips ! $ exec ! C Λ En more (anyQ (Turned k)) $
           -- `look`, on a copy of what the row owns
           move ! (6 ∷ []) $ use1 W (‵ Own₂ ⊛ ‵ Own₂) (shr-slice-copy 𝓤 H A W (named 2) κ₂ T.the-row .twice x₂ (v₂ ∷ [])) $ split ! $ move ! (4 ∷ 0 ∷ []) $
-          use2 W (raw (Look 𝓤 H A mem run .pre (to-look t))) (goes-look t low (drive.most w values cells allowance ws e is-e n is-n l t driven (taken (t .on) on))) $
+          use2 W (raw (Look 𝓤 H A mem run .pre (to-look t))) (goes-look t low (drive.most w values cells allowance ws e is-e n is-n l t driven (taken (t .pending) on))) $
           calls-at ! (fmOf 𝓤 H (W .laws) 𝓣) (Look 𝓤 H A mem run) (known .looks) (to-look t)
           (and-then ! (load ! (from ! (stop !)) (look ! 34 refl)) (and-then ! (load ! (from ! (fld ! refl (stop !))) (look-in ! 22 (sub ! 2 refl (whole !)))) (and-then ! (load ! (from ! (fld ! refl (stop !))) (look-in ! 22 (sub ! 3 refl (whole !))))
           (and-then ! (load ! (from ! (fld ! refl (stop !))) (look-in ! 22 (sub ! 4 refl (whole !)))) (and-then ! (load ! (from ! (fld ! refl (stop !))) (look-in ! 22 (sub ! 5 refl (whole !)))) (no-more !)))))) (λ u.
@@ -398,7 +398,7 @@ module _ {M : Type 1} (𝓤 : URA M) (H : Heap 𝓤) (A : Atoms 𝓤) (W : Given
           -- [the work, lent; the lender's part; ν's token; the row's token; what the row owns; the two other tokens; what the two own; _14; …]: `step`
           move ! (7 ∷ []) $ use1 W (‵ Own₀ ⊛ ‵ Own₀) (shr-slice-copy 𝓤 H A W (named 0) κ₀ u32 .twice x₀ (v₀ ∷ [])) $ split ! $ move ! (9 ∷ []) $ use1 W (‵ Own₁ ⊛ ‵ Own₁) (shr-slice-copy 𝓤 H A W (named 1) κ₁ u32 .twice x₁ (v₁ ∷ [])) $ split ! $
           move ! (0 ∷ 4 ∷ []) $ join ! $ move ! (2 ∷ 0 ∷ []) $ join ! $ move ! (8 ∷ 4 ∷ []) $ join ! $ move ! (7 ∷ 0 ∷ []) $ join ! $
-          use2 W (raw (StepC 𝓤 H A mem run .pre (to-step n ν δ l t v))) (goes-step n ν δ l t v fits low (is-v .1) (drive.well w values cells allowance ws e is-e n is-n l t driven (taken (t .on) on)) (drive.every w values cells allowance ws e is-e n is-n l t driven (taken (t .on) on)) (drive.place w values cells allowance ws e is-e n is-n l t driven (taken (t .on) on))) $
+          use2 W (raw (StepC 𝓤 H A mem run .pre (to-step n ν δ l t v))) (goes-step n ν δ l t v fits low (is-v .1) (drive.well w values cells allowance ws e is-e n is-n l t driven (taken (t .pending) on)) (drive.every w values cells allowance ws e is-e n is-n l t driven (taken (t .pending) on)) (drive.place w values cells allowance ws e is-e n is-n l t driven (taken (t .pending) on))) $
           calls-at-last ! (fmOf 𝓤 H (W .laws) 𝓣) (StepC 𝓤 H A mem run) (known .step) (to-step n ν δ l t v)
           (and-then ! (load ! (from ! (stop !)) (look ! 36 refl)) (and-then ! (load ! (from ! (stop !)) (look ! 34 refl)) (and-then ! (load ! (from ! (stop !)) (look ! 24 refl)) (and-then ! (load ! (from ! (stop !)) (look ! 22 refl))
           (and-then ! (load ! (from ! (stop !)) (look ! 10 refl)) (and-then ! (load ! (from ! (stop !)) (look ! 20 refl)) (and-then ! (load ! (from ! (stop !)) (look ! 18 refl)) (no-more !)))))))) (λ u′.

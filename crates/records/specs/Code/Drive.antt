@@ -15,7 +15,7 @@ use Rattle.judge.specs.Judgement.{verdictBy}
 -- the turn of term 0, or none where there are no terms
 abbrev pub firstBy : Bool → List ℕ → List ℕ → ℕ → ℕ → Turn
 firstBy true w values count terms = turnOf w values count terms [] 0
-firstBy false w values count terms = record { on = false; at = 0; count = 0; slot = 0; index = 0; other = 0 }
+firstBy false w values count terms = record { pending = false; at = 0; count = 0; slot = 0; index = 0; other = 0 }
 
 abbrev pub firstTurn : List ℕ → List ℕ → ℕ → ℕ → Turn
 firstTurn w values count terms = firstBy (ltb 0 terms) w values count terms

@@ -4,7 +4,7 @@ use mathlib.Core.Bool.{true}
 use native.Mathlib.Omega.{arith}
 use borrow.Author.Needs.{needs}
 use borrow.Author.Tests.{not-true, not-false}
-use Rattle.table.specs.Faults.{chain, size, storing}
+use Rattle.table.specs.Faults.{chain, size, isStore}
 use Rattle.table.specs.Terms.{termAt}
 use Rattle.table.proofs.Chains.{chain-more, chain-none, chain-full}
 use Rattle.admission.proofs.faults.chain.Statement.{statement}
@@ -26,16 +26,16 @@ loop-less : tie.Need-loop-less Inv-loop μ-loop
 loop-less c = omega arith
 
 -- what the code tests is what the definition asks of the term that the walk has reached
-tested : (c : tie.After-storing Inv-loop μ-loop) →
-    storing (termAt (c .before .before .before .before .before .args .table .now) (c .before .before .before .loop .at)) ≡ c .storing .result
-tested c = sym (c .storing .ensures ∙ ap storing (c .before .term-at .ensures))
+tested : (c : tie.After-is-store Inv-loop μ-loop) →
+    isStore (termAt (c .before .before .before .before .before .args .table .now) (c .before .before .before .loop .at)) ≡ c .is-store .result
+tested c = sym (c .is-store .ensures ∙ ap isStore (c .before .term-at .ensures))
 
 loop-again : tie.Need-loop-again Inv-loop μ-loop
 loop-again c =
     let l = c .before .before .before .before .loop in
     let x = c .before .before .term-at in
     let t = c .before .before .before .before .before .before .args .table .now in
-    let test : storing (termAt t (l .at)) ≡ true = tested (c .before) ∙ not-false _ (c .if1 .left) in
+    let test : isStore (termAt t (l .at)) ≡ true = tested (c .before) ∙ not-false _ (c .if1 .left) in
     (omega arith, l .inv .1 ∙ chain-more t (l .at) (l .count) (omega arith) test ∙ rw (x .ensures))
 
 returns : tie.Need-returns Inv-loop μ-loop

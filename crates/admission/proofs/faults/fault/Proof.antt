@@ -50,7 +50,7 @@ short-requires c κs = c .before .before .before .before .before .before .before
 returns-4 : tie.Need-returns-4
 returns-4 c =
     let a = c .before .before .before .before .before .before .before .before .before .before .before .before .args in
-    rw (c .refuse2 .ensures, c .before .refuse .ensures, c .before .before .short .ensures)
+    rw (c .refuse-unless2 .ensures, c .before .refuse-unless .ensures, c .before .before .short .ensures)
     (left-to-8 (a .table .now) (a .i) (a .clashing) (known-here (c .before .before .before .before .before .before .before .before)) (sorted-here (c .before .before .before .before .before .before)) (c .before .before .before .before .rank-fault .result) (ranked-here (c .before .before .before .before)) (c .before .before .before .if3 .left))
 
 pub fault-spec : {M : Type 1} → statement M

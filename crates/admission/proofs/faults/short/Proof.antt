@@ -1,6 +1,6 @@
 use mathlib.Core.Path.{sym, ap, _∙_}
 use borrow.Author.Tests.{not-true}
-use Rattle.table.specs.Faults.{storing}
+use Rattle.table.specs.Faults.{isStore}
 use Rattle.table.proofs.Chains.{chain-short}
 use borrow.Author.Needs.{needs}
 use Rattle.admission.proofs.faults.short.Statement.{statement}
@@ -9,7 +9,7 @@ use Rattle.admission.proofs.faults.short.Tie as tie
 returns : tie.Need-returns
 returns c =
     let s = c .before .before .before in
-    sym (chain-short (s .args .table .now) (s .args .i) (ap storing (sym (s .pre)) ∙ sym (c .before .storing .ensures) ∙ not-true _ (c .if1 .taken)))
+    sym (chain-short (s .args .table .now) (s .args .i) (ap isStore (sym (s .pre)) ∙ sym (c .before .is-store .ensures) ∙ not-true _ (c .if1 .taken)))
 
 returns-2 : tie.Need-returns-2
 returns-2 c = rw (c .chain .ensures)

@@ -7,9 +7,9 @@ use borrow.Fn.PlainCycle.{Measures, is, falls, and}
 use Rattle.evaluate.proofs.reads.find.Reads as find
 use Rattle.evaluate.proofs.reads.find.Kinds as find-kinds
 use Rattle.evaluate.proofs.reads.+find.Lts-find as find-lts
-use Rattle.setting.proofs.number_at.Reads as number-at-reads
+use Rattle.table.proofs.number_at.Reads as number-at-reads
 use Rattle.table.proofs.SoundTerms.{store-below}
-use Rattle.table.proofs.storing.Reads as storing-reads
+use Rattle.table.proofs.is_store.Reads as is-store-reads
 use Rattle.table.proofs.term_at.Reads as term-at-reads
 use Rattle.evaluate.proofs.Chains.{beneath, found-end, found-hit, found-miss}
 use Rattle.evaluate.proofs.reads.+find.{statement}
@@ -29,8 +29,8 @@ pub +find-spec : {M : Type 1} → statement M
 +find-spec = close μ-find λ t. find-lts.spec (
   term-at-reads.Asked,
   term-at-reads.Learnt,
-  storing-reads.Asked,
-  storing-reads.Learnt,
+  is-store-reads.Asked,
+  is-store-reads.Learnt,
   number-at-reads.Asked,
   number-at-reads.Learnt,
   find-below t,
@@ -40,9 +40,9 @@ pub +find-spec : {M : Type 1} → statement M
     find.Post
     (λ c κs. search needs)
     (λ c κs. search needs)
-    (λ c. let s = c .before .before .before .before .before in let x = c .before .before .term-at in found-end (s .args .table .now) (store-below 80000 (s .args .table .now) (s .pre .1)) (s .args .a) (x .result) (x .ensures) (s .args .front .now) (s .args .j) (sym (c .before .storing .ensures) ∙ not-true _ (c .if1 .taken)))
+    (λ c. let s = c .before .before .before .before .before in let x = c .before .before .term-at in found-end (s .args .table .now) (store-below 80000 (s .args .table .now) (s .pre .1)) (s .args .a) (x .result) (x .ensures) (s .args .front .now) (s .args .j) (sym (c .before .is-store .ensures) ∙ not-true _ (c .if1 .taken)))
     (λ c κs. search needs)
     (λ c κs. search needs)
-    (λ c. let s = c .before .before .before .before .before .before .before .before in let x = c .before .before .before .before .before .term-at in rw (c .number-at2 .ensures) (found-hit (s .args .table .now) (store-below 80000 (s .args .table .now) (s .pre .1)) (s .args .a) (x .result) (x .ensures) (s .args .front .now) (s .args .j) (sym (c .before .before .before .before .storing .ensures) ∙ not-false _ (c .before .before .before .if1 .left)) (sym (c .before .before .number-at .ensures) ∙ c .before .if2 .taken)))
-    (λ c κs. let s = c .before .before .before .before .before .before .before in let x = c .before .before .before .before .term-at in (subst (λ (n : ℕ). x .result .p < n) (s .pre .0) (beneath (s .args .table .now) (store-below 80000 (s .args .table .now) (s .pre .1)) (s .args .a) (x .result) (x .ensures) (sym (c .before .before .before .storing .ensures) ∙ not-false _ (c .before .before .if1 .left))), s .pre .1))
-    (λ c. let s = c .before .before .before .before .before .before .before .before in let x = c .before .before .before .before .before .term-at in c .find .ensures ∙ found-miss (s .args .table .now) (store-below 80000 (s .args .table .now) (s .pre .1)) (s .args .a) (x .result) (x .ensures) (s .args .front .now) (s .args .j) (sym (c .before .before .before .before .storing .ensures) ∙ not-false _ (c .before .before .before .if1 .left)) (λ e. c .before .if2 .left (c .before .before .number-at .ensures ∙ e)))
+    (λ c. let s = c .before .before .before .before .before .before .before .before in let x = c .before .before .before .before .before .term-at in rw (c .number-at2 .ensures) (found-hit (s .args .table .now) (store-below 80000 (s .args .table .now) (s .pre .1)) (s .args .a) (x .result) (x .ensures) (s .args .front .now) (s .args .j) (sym (c .before .before .before .before .is-store .ensures) ∙ not-false _ (c .before .before .before .if1 .left)) (sym (c .before .before .number-at .ensures) ∙ c .before .if2 .taken)))
+    (λ c κs. let s = c .before .before .before .before .before .before .before in let x = c .before .before .before .before .term-at in (subst (λ (n : ℕ). x .result .p < n) (s .pre .0) (beneath (s .args .table .now) (store-below 80000 (s .args .table .now) (s .pre .1)) (s .args .a) (x .result) (x .ensures) (sym (c .before .before .before .is-store .ensures) ∙ not-false _ (c .before .before .if1 .left))), s .pre .1))
+    (λ c. let s = c .before .before .before .before .before .before .before .before in let x = c .before .before .before .before .before .term-at in c .find .ensures ∙ found-miss (s .args .table .now) (store-below 80000 (s .args .table .now) (s .pre .1)) (s .args .a) (x .result) (x .ensures) (s .args .front .now) (s .args .j) (sym (c .before .before .before .before .is-store .ensures) ∙ not-false _ (c .before .before .before .if1 .left)) (λ e. c .before .if2 .left (c .before .before .number-at .ensures ∙ e)))

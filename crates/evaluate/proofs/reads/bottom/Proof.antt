@@ -22,21 +22,21 @@ returns c =
     let s = c .before .before .before .before .before in
     let l = c .before .before .before .loop in
     let x = c .before .before .term-at in
-    bottom-end (s .args .table .now) (store-below 80000 (s .args .table .now) (s .pre)) (l .at) (x .result) (x .ensures) (sym (c .before .storing .ensures) ∙ not-true _ (c .if1 .taken))
+    bottom-end (s .args .table .now) (store-below 80000 (s .args .table .now) (s .pre)) (l .at) (x .result) (x .ensures) (sym (c .before .is-store .ensures) ∙ not-true _ (c .if1 .taken))
     ∙ sym (l .inv)
 
 loop-less : tie.Need-loop-less Inv-loop μ-loop
 loop-less c =
     let s = c .before .before .before .before .before in
     let x = c .before .before .term-at in
-    beneath (s .args .table .now) (store-below 80000 (s .args .table .now) (s .pre)) (c .before .before .before .loop .at) (x .result) (x .ensures) (sym (c .before .storing .ensures) ∙ not-false _ (c .if1 .left))
+    beneath (s .args .table .now) (store-below 80000 (s .args .table .now) (s .pre)) (c .before .before .before .loop .at) (x .result) (x .ensures) (sym (c .before .is-store .ensures) ∙ not-false _ (c .if1 .left))
 
 loop-again : tie.Need-loop-again Inv-loop μ-loop
 loop-again c =
     let s = c .before .before .before .before .before in
     let l = c .before .before .before .loop in
     let x = c .before .before .term-at in
-    l .inv ∙ bottom-on (s .args .table .now) (store-below 80000 (s .args .table .now) (s .pre)) (l .at) (x .result) (x .ensures) (sym (c .before .storing .ensures) ∙ not-false _ (c .if1 .left))
+    l .inv ∙ bottom-on (s .args .table .now) (store-below 80000 (s .args .table .now) (s .pre)) (l .at) (x .result) (x .ensures) (sym (c .before .is-store .ensures) ∙ not-false _ (c .if1 .left))
 
 pub bottom-spec : {M : Type 1} → statement M
 bottom-spec =

@@ -21,22 +21,22 @@ number-requires c κs =
     let long : length (take (a .turn .at) (a .work .now)) ≡ a .turn .at = sym (slice-aggregate-number (c .before)) in
     (s .pre .0, record { inside = subst (λ (k : ℕ). k < terms (a .table .now)) (sym long) (omega (arith, s .pre .1 .0, s .pre .1 .1)); is = c .term-at .ensures ∙ ap (termAt (a .table .now)) (sym long) })
 
-on-requires : tie.Need-on-requires
-on-requires c κs =
+advance-requires : tie.Need-advance-requires
+advance-requires c κs =
     let s = c .before .before .before .before .before .before .before in
     (s .pre .0, (s .pre .1 .0, (omega (arith, s .pre .1 .1), simp length-set (s .pre .1 .1 .1))))
 
 same-length : tie.Need-same-length
 same-length c =
     let a = c .before .before .before .before .before .before .before .before .before .before .args in
-    c .before .before .on .kept .1 .1 .1 .1 .0 ∙ length-set (a .work .now) (a .turn .at) (c .before .before .before .before .number .result)
+    c .before .before .advance .kept .1 .1 .1 .1 .0 ∙ length-set (a .work .now) (a .turn .at) (c .before .before .before .before .number .result)
 
 returns : tie.Need-returns
 returns c =
     let a = c .before .before .before .before .before .before .before .before .before .before .args in
     let value = c .before .before .before .before .number .ensures ∙ ap (λ (x : Term). numberOf (a .table .now) (a .values .now) (take (a .turn .at) (a .work .now)) x (a .answer)) (c .before .before .before .before .before .term-at .ensures) in (
-      c .before .before .on .ensures .0,
-      c .before .before .on .ensures .1 ∙ ap (λ (v : ℕ). onward (a .table .now) (numbered (a .table .now) (a .values .now) 0) (a .terms) (set (a .work .now) (a .turn .at) v) (a .turn .at + 1)) value,
+      c .before .before .advance .ensures .0,
+      c .before .before .advance .ensures .1 ∙ ap (λ (v : ℕ). onward (a .table .now) (numbered (a .table .now) (a .values .now) 0) (a .terms) (set (a .work .now) (a .turn .at) v) (a .turn .at + 1)) value,
     )
 
 pub step-spec : {M : Type 1} → statement M
@@ -51,6 +51,6 @@ step-spec =
     (λ c. search needs)
     (λ c. search needs)
     (λ c. search needs)
-    on-requires
+    advance-requires
     same-length
     returns)

@@ -1,4 +1,4 @@
-use Rattle.table.specs.Terms.{placed}
+use Rattle.table.specs.Code.Writing.{placed}
 use borrow.Author.Needs.{needs}
 use Rattle.examples.proofs.rules.as_first.Statement.{statement}
 use Rattle.examples.proofs.rules.as_first.Tie as tie

@@ -2,7 +2,7 @@ use mathlib.Core.Path.{_≡_, refl, _∙_}
 use Prim.Native.Nat.{ℕ}
 use lib.ListN.{replicate}
 use borrow.Author.Needs.{needs}
-use Rattle.table.specs.Terms.{placed}
+use Rattle.table.specs.Code.Writing.{placed}
 use Rattle.examples.specs.Tables.{termOf, asFourth}
 use Rattle.examples.proofs.Placing.{then}
 use Rattle.examples.proofs.rules.as_fourth.Statement.{statement}

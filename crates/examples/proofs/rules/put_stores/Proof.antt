@@ -4,7 +4,7 @@ use Prim.Native.Nat.{ℕ, _-_}
 use lib.ListN.{length}
 use native.Mathlib.Omega.{arith}
 use borrow.Author.Needs.{needs}
-use Rattle.table.specs.Terms.{placed}
+use Rattle.table.specs.Code.Writing.{placed}
 use Rattle.table.proofs.Places.{length-placed}
 use Rattle.examples.specs.Tables.{termOf, stacked}
 use Rattle.examples.proofs.Placing.{Stacked, begun, more, done}

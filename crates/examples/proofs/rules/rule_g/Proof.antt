@@ -1,4 +1,4 @@
-use Rattle.table.specs.Terms.{placed}
+use Rattle.table.specs.Code.Writing.{placed}
 use Rattle.examples.specs.Tables.{termOf}
 use Rattle.examples.proofs.Placing.{then}
 use borrow.Author.Needs.{needs}

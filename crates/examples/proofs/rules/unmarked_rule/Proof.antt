@@ -1,7 +1,7 @@
 use mathlib.Core.Path.{_≡_, refl, _∙_}
 use lib.ListN.{replicate}
 use borrow.Author.Needs.{needs}
-use Rattle.table.specs.Terms.{placed}
+use Rattle.table.specs.Code.Writing.{placed}
 use Rattle.finish.specs.Bench.{unmarkedRule}
 use Rattle.examples.specs.Tables.{termOf}
 use Rattle.examples.proofs.Placing.{then}

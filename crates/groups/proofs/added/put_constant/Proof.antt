@@ -1,5 +1,5 @@
 use mathlib.Core.Path.{ap, _∙_}
-use Rattle.table.specs.Terms.{placed}
+use Rattle.table.specs.Code.Writing.{placed}
 use borrow.Author.Needs.{needs}
 use Rattle.groups.proofs.added.put_constant.Statement.{statement}
 use Rattle.groups.proofs.added.put_constant.Tie as tie

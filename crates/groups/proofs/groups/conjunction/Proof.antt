@@ -1,12 +1,12 @@
 use mathlib.Core.Path.{refl, _∙_}
 use lib.Dec.{lit≤}
-use Rattle.groups.specs.Added.{laidFrom}
+use Rattle.groups.specs.Code.Writing.{placedFrom}
 use Rattle.groups.proofs.Laying.{fits, two-laid, three-laid}
 use Rattle.groups.proofs.groups.conjunction.Statement.{statement}
 use Rattle.groups.proofs.groups.conjunction.Tie as tie
 
 returns : tie.Need-returns
-unfolding laidFrom
+unfolding placedFrom
 returns c =
     let b = c .before .before .before .before .before .before .before .before .before .before .before .before .before .before .before .before .before .before .before .before .before .args .b in (
       c .grown .ensures,

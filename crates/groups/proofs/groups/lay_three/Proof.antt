@@ -1,11 +1,11 @@
 use native.Mathlib.Numerals.{add-one}
-use Rattle.groups.specs.Added.{laidFrom}
+use Rattle.groups.specs.Code.Writing.{placedFrom}
 use borrow.Author.Needs.{needs}
 use Rattle.groups.proofs.groups.lay_three.Statement.{statement}
 use Rattle.groups.proofs.groups.lay_three.Tie as tie
 
 returns : tie.Need-returns
-unfolding laidFrom
+unfolding placedFrom
 returns c =
     rw (
       c .before .before .lay-two .ensures,

@@ -7,7 +7,7 @@ use Rattle.hiranthok.proofs.replies.answer_evaluated.Tie as tie
 
 returns : tie.Need-returns
 returns c =
-    let is = c .before .before .evaluated .ensures in
+    let is = c .before .before .evaluation-reply .ensures in
     (c .deliver .ensures .0 ∙ ap (λ (r : Reply). r .number) is, c .deliver .ensures .1 ∙ ap row is)
 
 pub answer-evaluated-spec : {M : Type 1} → statement M

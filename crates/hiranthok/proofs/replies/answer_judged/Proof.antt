@@ -7,7 +7,7 @@ use Rattle.hiranthok.proofs.replies.answer_judged.Tie as tie
 
 returns : tie.Need-returns
 returns c =
-    let is = c .before .before .judged .ensures in
+    let is = c .before .before .judgement-reply .ensures in
     (c .deliver .ensures .0 ∙ ap (λ (r : Reply). r .number) is, c .deliver .ensures .1 ∙ ap row is)
 
 pub answer-judged-spec : {M : Type 1} → statement M

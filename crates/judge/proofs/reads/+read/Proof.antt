@@ -15,13 +15,13 @@ use Rattle.judge.proofs.reads.stored.Reads as stored-reads
 use Rattle.judge.proofs.reads.truth_at.Reads as truth-at-reads
 use Rattle.judge.proofs.reads.unfree.Reads as unfree-reads
 use Rattle.table.specs.declared.words.Term.{Term}
-use Rattle.table.specs.Faults.{storing}
+use Rattle.table.specs.Faults.{isStore}
 use Rattle.table.proofs.SoundTerms.{store-below}
-use Rattle.table.proofs.storing.Reads as storing-reads
+use Rattle.table.proofs.is_store.Reads as is-store-reads
 use Rattle.table.proofs.term_at.Reads as term-at-reads
 use Rattle.evaluate.proofs.Chains.{beneath}
-use Rattle.judge.specs.Code.Readings.{overlaid, shutBy, readingAt}
-use Rattle.judge.proofs.Chains.{reading-end, reading-store, overlaid-picked, reading-shut}
+use Rattle.judge.specs.Code.Labelled.{overlaid, shutBy, labelledAt}
+use Rattle.judge.proofs.Chains.{labelled-end, labelled-store, overlaid-picked, labelled-shut}
 use Rattle.judge.proofs.reads.+read.{statement}
 use Rattle.judge.proofs.reads.+read.Tie.{close}
 
@@ -38,8 +38,8 @@ pub +read-spec : {M : Type 1} → statement M
 +read-spec = close μ-read λ t. read-lts.spec (
   term-at-reads.Asked,
   term-at-reads.Learnt,
-  storing-reads.Asked,
-  storing-reads.Learnt,
+  is-store-reads.Asked,
+  is-store-reads.Learnt,
   truth-at-reads.Asked,
   truth-at-reads.Learnt,
   picked-reads.Asked,
@@ -60,13 +60,13 @@ pub +read-spec : {M : Type 1} → statement M
     (λ c κs. search needs)
     (λ c κs. search needs)
     (λ c κs. search needs)
-    (λ c. let s = c .before .before .before .before .before .before .before in let x = c .before .before .before .term-at in rw (c .truth-at .ensures) (reading-end (s .args .table .now) (s .args .front .now) (s .args .truths .now) (store-below 80000 (s .args .table .now) (s .pre .1)) (s .args .j) (s .args .cj) (s .args .cell) (s .args .a) (ap storing (sym (x .ensures)) ∙ sym (c .before .before .storing .ensures) ∙ not-true _ (c .before .if1 .taken))))
+    (λ c. let s = c .before .before .before .before .before .before .before in let x = c .before .before .before .term-at in rw (c .truth-at .ensures) (labelled-end (s .args .table .now) (s .args .front .now) (s .args .truths .now) (store-below 80000 (s .args .table .now) (s .pre .1)) (s .args .j) (s .args .cj) (s .args .cell) (s .args .a) (ap isStore (sym (x .ensures)) ∙ sym (c .before .before .is-store .ensures) ∙ not-true _ (c .before .if1 .taken))))
     (λ c κs. search needs)
     (λ c κs. search needs)
-    (λ c. let s = c .before .before .before .before .before .before .before .before .before in let x = c .before .before .before .before .before .term-at in c .stored .ensures ∙ overlaid-picked (s .args .front .now) (s .args .truths .now) (x .result) (s .args .j) (s .args .cj) (readingAt (s .args .table .now) (s .args .front .now) (s .args .truths .now) (x .result .p) (s .args .j) (s .args .cj) (s .args .cell)) (sym (c .before .before .picked .ensures) ∙ c .before .if2 .taken) ∙ ap (λ (y : Term). overlaid (s .args .front .now) (s .args .truths .now) y (s .args .j) (s .args .cj) (readingAt (s .args .table .now) (s .args .front .now) (s .args .truths .now) (y .p) (s .args .j) (s .args .cj) (s .args .cell))) (x .ensures) ∙ reading-store (s .args .table .now) (s .args .front .now) (s .args .truths .now) (store-below 80000 (s .args .table .now) (s .pre .1)) (s .args .j) (s .args .cj) (s .args .cell) (s .args .a) (ap storing (sym (x .ensures)) ∙ sym (c .before .before .before .before .storing .ensures) ∙ not-false _ (c .before .before .before .if1 .left)))
+    (λ c. let s = c .before .before .before .before .before .before .before .before .before in let x = c .before .before .before .before .before .term-at in c .stored .ensures ∙ overlaid-picked (s .args .front .now) (s .args .truths .now) (x .result) (s .args .j) (s .args .cj) (labelledAt (s .args .table .now) (s .args .front .now) (s .args .truths .now) (x .result .p) (s .args .j) (s .args .cj) (s .args .cell)) (sym (c .before .before .picked .ensures) ∙ c .before .if2 .taken) ∙ ap (λ (y : Term). overlaid (s .args .front .now) (s .args .truths .now) y (s .args .j) (s .args .cj) (labelledAt (s .args .table .now) (s .args .front .now) (s .args .truths .now) (y .p) (s .args .j) (s .args .cj) (s .args .cell))) (x .ensures) ∙ labelled-store (s .args .table .now) (s .args .front .now) (s .args .truths .now) (store-below 80000 (s .args .table .now) (s .pre .1)) (s .args .j) (s .args .cj) (s .args .cell) (s .args .a) (ap isStore (sym (x .ensures)) ∙ sym (c .before .before .before .before .is-store .ensures) ∙ not-false _ (c .before .before .before .if1 .left)))
     (λ c κs. search needs)
     (λ c κs. search needs)
-    (λ c. let s = c .before .before .before .before .before .before .before .before .before .before .before in let x = c .before .before .before .before .before .before .before .term-at in c .unfree .ensures ∙ reading-shut (s .args .table .now) (s .args .front .now) (s .args .truths .now) (store-below 80000 (s .args .table .now) (s .pre .1)) (s .args .j) (s .args .cj) (s .args .cell) (s .args .a) (ap storing (sym (x .ensures)) ∙ sym (c .before .before .before .before .before .before .storing .ensures) ∙ not-false _ (c .before .before .before .before .before .if1 .left)) (ap (λ (y : Term). shutBy (s .args .truths .now) y (s .args .cj)) (sym (x .ensures)) ∙ sym (c .before .before .shut .ensures) ∙ c .before .if3 .taken))
-    (λ c κs. let s = c .before .before .before .before .before .before .before .before .before .before in let x = c .before .before .before .before .before .before .term-at in (subst (λ (n : ℕ). x .result .p < n) (s .pre .0) (beneath (s .args .table .now) (store-below 80000 (s .args .table .now) (s .pre .1)) (s .args .a) (x .result) (x .ensures) (sym (c .before .before .before .before .before .storing .ensures) ∙ not-false _ (c .before .before .before .before .if1 .left))), s .pre .1))
+    (λ c. let s = c .before .before .before .before .before .before .before .before .before .before .before in let x = c .before .before .before .before .before .before .before .term-at in c .unfree .ensures ∙ labelled-shut (s .args .table .now) (s .args .front .now) (s .args .truths .now) (store-below 80000 (s .args .table .now) (s .pre .1)) (s .args .j) (s .args .cj) (s .args .cell) (s .args .a) (ap isStore (sym (x .ensures)) ∙ sym (c .before .before .before .before .before .before .is-store .ensures) ∙ not-false _ (c .before .before .before .before .before .if1 .left)) (ap (λ (y : Term). shutBy (s .args .truths .now) y (s .args .cj)) (sym (x .ensures)) ∙ sym (c .before .before .shut .ensures) ∙ c .before .if3 .taken))
+    (λ c κs. let s = c .before .before .before .before .before .before .before .before .before .before in let x = c .before .before .before .before .before .before .term-at in (subst (λ (n : ℕ). x .result .p < n) (s .pre .0) (beneath (s .args .table .now) (store-below 80000 (s .args .table .now) (s .pre .1)) (s .args .a) (x .result) (x .ensures) (sym (c .before .before .before .before .before .is-store .ensures) ∙ not-false _ (c .before .before .before .before .if1 .left))), s .pre .1))
     (λ c κs. search needs)
-    (λ c. let s = c .before .before .before .before .before .before .before .before .before .before .before .before in let x = c .before .before .before .before .before .before .before .before .term-at in c .overlay .ensures ∙ ap (overlaid (s .args .front .now) (s .args .truths .now) (x .result) (s .args .j) (s .args .cj)) (c .before .read .ensures) ∙ ap (λ (y : Term). overlaid (s .args .front .now) (s .args .truths .now) y (s .args .j) (s .args .cj) (readingAt (s .args .table .now) (s .args .front .now) (s .args .truths .now) (y .p) (s .args .j) (s .args .cj) (s .args .cell))) (x .ensures) ∙ reading-store (s .args .table .now) (s .args .front .now) (s .args .truths .now) (store-below 80000 (s .args .table .now) (s .pre .1)) (s .args .j) (s .args .cj) (s .args .cell) (s .args .a) (ap storing (sym (x .ensures)) ∙ sym (c .before .before .before .before .before .before .before .storing .ensures) ∙ not-false _ (c .before .before .before .before .before .before .if1 .left)))
+    (λ c. let s = c .before .before .before .before .before .before .before .before .before .before .before .before in let x = c .before .before .before .before .before .before .before .before .term-at in c .overlay .ensures ∙ ap (overlaid (s .args .front .now) (s .args .truths .now) (x .result) (s .args .j) (s .args .cj)) (c .before .read .ensures) ∙ ap (λ (y : Term). overlaid (s .args .front .now) (s .args .truths .now) y (s .args .j) (s .args .cj) (labelledAt (s .args .table .now) (s .args .front .now) (s .args .truths .now) (y .p) (s .args .j) (s .args .cj) (s .args .cell))) (x .ensures) ∙ labelled-store (s .args .table .now) (s .args .front .now) (s .args .truths .now) (store-below 80000 (s .args .table .now) (s .pre .1)) (s .args .j) (s .args .cj) (s .args .cell) (s .args .a) (ap isStore (sym (x .ensures)) ∙ sym (c .before .before .before .before .before .before .before .is-store .ensures) ∙ not-false _ (c .before .before .before .before .before .before .if1 .left)))

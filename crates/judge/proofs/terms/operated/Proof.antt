@@ -5,13 +5,13 @@ use Rattle.table.proofs.SoundTerms.{n-most-at}
 use Rattle.judge.proofs.terms.operated.Statement.{statement}
 use Rattle.judge.proofs.terms.operated.Tie as tie
 
-apply-requires : tie.Need-apply-requires
-apply-requires c κs =
+apply-number-requires : tie.Need-apply-number-requires
+apply-number-requires c κs =
     let s = c .before .before .before .before .before .before .before .before .before .before .before .before .before .before .before in
     rw (c .before .before .before .before .before .before .before .before .before .before .before .sort-in .ensures) (n-most-at 80000 (s .args .table .now) (s .pre .0) (s .args .x .p))
 
 returns : tie.Need-returns
-returns c = rw (c .before .settles .ensures, c .apply .ensures, c .before .before .before .before .before .before .before .before .before .before .before .op-of .ensures, c .before .before .before .before .before .before .before .before .before .before .before .before .sort-in .ensures)
+returns c = rw (c .before .settles .ensures, c .apply-number .ensures, c .before .before .before .before .before .before .before .before .before .before .before .op-of .ensures, c .before .before .before .before .before .before .before .before .before .before .before .before .sort-in .ensures)
 
 pub operated-spec : {M : Type 1} → statement M
 operated-spec =
@@ -35,5 +35,5 @@ operated-spec =
     (λ c. search needs)
     (λ c. search needs)
     (λ c κs. search needs)
-    apply-requires
+    apply-number-requires
     returns)

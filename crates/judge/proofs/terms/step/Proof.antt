@@ -7,12 +7,13 @@ use native.Mathlib.Omega.{arith}
 use lib.Dec.{eqb}
 use lib.ListN.{length}
 use borrow.Author.Needs.{needs}
-use Rattle.table.specs.Faults.{reading, firstFrom}
+use Rattle.table.specs.Faults.{isRead}
+use Rattle.table.specs.Folds.{firstFrom}
 use Rattle.evaluate.specs.Code.Turns.{onFrom}
 use Rattle.evaluate.proofs.Onward.{Going, set-out, go-on, stopped, passed}
-use Rattle.judge.specs.declared.reads.Reading.{Reading}
+use Rattle.judge.specs.declared.reads.Labelled.{Labelled}
 use Rattle.judge.specs.Conditions.{ownMarks}
-use Rattle.judge.specs.Code.Readings.{written, noted}
+use Rattle.judge.specs.Code.Labelled.{entered, noted}
 use Rattle.judge.specs.Code.Turns.{turnHere}
 use Rattle.judge.proofs.Steps.{stopsAfter, step-next, step-room}
 use Rattle.judge.proofs.terms.step.Statement.{statement}
@@ -34,8 +35,8 @@ loop-holds c =
 enough : (c : tie.In-loop Inv-loop μ-loop) → c .before .before .before .before .before .args .terms + c .before .before .before .before .before .args .terms ≤ length (c .before .loop .work)
 enough c = omega (arith, c .before .loop .inv .1, c .before .before .before .before .before .pre .1 .1 .1)
 
-reading-here-requires : tie.Need-reading-here-requires Inv-loop μ-loop
-reading-here-requires c κs =
+labelled-here-requires : tie.Need-labelled-here-requires Inv-loop μ-loop
+labelled-here-requires c κs =
     let s = c .before .before .before .before .before .before .before .before .before in
     let inside = c .before .before .before .before .loop-test .taken in
     (s .pre .0, (s .pre .1 .0, (inside, omega (arith, enough (c .before .before .before .before), inside))))
@@ -50,8 +51,8 @@ loop-again : tie.Need-loop-again Inv-loop μ-loop
 loop-again c =
     let a = c .before .before .before .before .before .before .before .before .before .before .before .before .before .before .args in
     let l = c .before .before .before .before .before .before .before .before .before .before .loop in
-    let plain : stopsAfter (a .table .now) (a .values .now) (a .terms) (a .turn .at) (a .answer) (l .i) ≡ false = sym (ap (λ (b : Bool). not (eqb (l .i) (a .turn .at)) && b) (c .before .before .before .before .before .before .before .reading .ensures ∙ ap reading (c .before .before .before .before .before .before .before .before .term-at .ensures))) ∙ c .before .before .before .before .before .before .if1 .left in
-    let wrote = c .before .before .note .ensures ∙ ap (λ (r : Reading). written r (a .terms) (l .work) (l .i)) (c .before .before .before .before .reading-here .ensures) in (
+    let plain : stopsAfter (a .table .now) (a .values .now) (a .terms) (a .turn .at) (a .answer) (l .i) ≡ false = sym (ap (λ (b : Bool). not (eqb (l .i) (a .turn .at)) && b) (c .before .before .before .before .before .before .before .is-read .ensures ∙ ap isRead (c .before .before .before .before .before .before .before .before .term-at .ensures))) ∙ c .before .before .before .before .before .before .if1 .left in
+    let wrote = c .before .before .note .ensures ∙ ap (λ (r : Labelled). entered r (a .terms) (l .work) (l .i)) (c .before .before .before .before .labelled-here .ensures) in (
       subst (Going (stopsAfter (a .table .now) (a .values .now) (a .terms) (a .turn .at) (a .answer)) (noted (a .table .now) ownMarks (a .values .now) (a .terms) (a .answer)) (a .terms) (a .turn .at) (a .work .now) _) (sym wrote) (go-on (stopsAfter (a .table .now) (a .values .now) (a .terms) (a .turn .at) (a .answer)) (noted (a .table .now) ownMarks (a .values .now) (a .terms) (a .answer)) (a .terms) (a .turn .at) (a .work .now) (l .i) (l .work) (l .inv .0) (c .before .before .before .before .before .before .before .before .before .loop-test .taken) plain),
       c .before .before .note .kept .0 ∙ l .inv .1,
     )
@@ -66,7 +67,7 @@ arrives c =
     let l = c .before .loop in
     ⊎-elim
     (λ e. passed (stopsAfter (a .table .now) (a .values .now) (a .terms) (a .turn .at) (a .answer)) (noted (a .table .now) ownMarks (a .values .now) (a .terms) (a .answer)) (a .terms) (a .turn .at) (a .work .now) (l .i) (l .work) (l .inv .0) (e .left))
-    (λ e. stopped (stopsAfter (a .table .now) (a .values .now) (a .terms) (a .turn .at) (a .answer)) (noted (a .table .now) ownMarks (a .values .now) (a .terms) (a .answer)) (a .terms) (a .turn .at) (a .work .now) (l .i) (l .work) (l .inv .0) (e .0 .taken) (sym (ap (λ (b : Bool). not (eqb (l .i) (a .turn .at)) && b) (e .2 .ensures ∙ ap reading (e .1 .ensures))) ∙ e .3 .taken))
+    (λ e. stopped (stopsAfter (a .table .now) (a .values .now) (a .terms) (a .turn .at) (a .answer)) (noted (a .table .now) ownMarks (a .values .now) (a .terms) (a .answer)) (a .terms) (a .turn .at) (a .work .now) (l .i) (l .work) (l .inv .0) (e .0 .taken) (sym (ap (λ (b : Bool). not (eqb (l .i) (a .turn .at)) && b) (e .2 .ensures ∙ ap isRead (e .1 .ensures))) ∙ e .3 .taken))
     (c .loop-test .came)
 
 turn-here-requires : tie.Need-turn-here-requires Inv-loop μ-loop
@@ -96,7 +97,7 @@ step-spec =
     loop-holds
     (λ c κs. search needs)
     (λ c κs. search needs)
-    reading-here-requires
+    labelled-here-requires
     note-requires
     (λ c. search needs)
     loop-less

@@ -46,14 +46,14 @@ use denote.Triple.Table.{entered, cited}
 use denote.Triple.Walked.{says, Stays, stay-none-slice, stay-none-ref, stay-dropped, walkOf, goes-none-slice, goes-none-ref, goes-dropped, Walks, ends-at, walked, walk-meets}
 use denote.Triple.Clauses.{ensured, lasts}
 use denote.Exit.{yes}
-use Rattle.table.specs.declared.Admission.{Admission}
-use Rattle.table.specs.declared.Admission.the-variants.{Admitted}
+use Rattle.table.specs.declared.Acceptance.{Acceptance}
+use Rattle.table.specs.declared.Acceptance.the-variants.{Accepted}
 use Rattle.table.specs.Terms.{terms}
 use Rattle.table.specs.Admission.{refusedBy, scan}
-use Rattle.table.proofs.Admission as E
-use Rattle.table.proofs.Admission.Laws as E′
+use Rattle.table.proofs.Acceptance as E
+use Rattle.table.proofs.Acceptance.Laws as E′
 use Rattle.setting.specs.declared.cells.Cell.{Cell}
-use Rattle.setting.specs.Arrays.{Entries}
+use Rattle.setting.specs.Code.Entries.{Entries}
 use Rattle.setting.specs.Check.{cellFault}
 use Rattle.records.proofs.Backward.{Known, at-end, one-before, at-start}
 use Rattle.setting.proofs.cells.Cell as T
@@ -100,10 +100,10 @@ module _ {M : Type 1} (𝓤 : URA M) (H : Heap 𝓤) (A : Atoms 𝓤) (W : Given
   faults k = cellFault (now x₀) (recordAt (now x₂) k)
 
   -- what the cells from k on say, and its machine value
-  abbrev R : ℕ → Admission
-  R k = scan faults (n - k) k Admitted
+  abbrev R : ℕ → Acceptance
+  R k = scan faults (n - k) k Accepted
 
-  abbrev low : Admission → Val
+  abbrev low : Acceptance → Val
   low a = E′.lowered a
 
   abbrev v₀ : Val
@@ -136,7 +136,7 @@ module _ {M : Type 1} (𝓤 : URA M) (H : Heap 𝓤) (A : Atoms 𝓤) (W : Given
   abbrev Post : Val → SProp 𝓤
   Post = walkOf 𝓤 H A checking.ended stayed (checking.clauses 𝓤 H A mem run) .post bound
 
-  exits : (r : Admission) → r ≡ scan faults n 0 Admitted → Is E.the-row r (low r ∷ []) → ent 𝓤 (⋆ 𝓤 H A (‵ (flft κ₀ q₀) ∷ ‵ (flft κ₁ q₁) ∷ ‵ (flft κ₂ q₂) ∷ ‵ Own₀ ∷ ‵ Own₁ ∷ ‵ Own₂ ∷ [])) (Post (low r))
+  exits : (r : Acceptance) → r ≡ scan faults n 0 Accepted → Is E.the-row r (low r ∷ []) → ent 𝓤 (⋆ 𝓤 H A (‵ (flft κ₀ q₀) ∷ ‵ (flft κ₁ q₁) ∷ ‵ (flft κ₂ q₂) ∷ ‵ Own₀ ∷ ‵ Own₁ ∷ ‵ Own₂ ∷ [])) (Post (low r))
   exits r e is =
       qed W (‵ (flft κ₀ q₀) ∷ ‵ (flft κ₁ q₁) ∷ ‵ (flft κ₂ q₂) ∷ ‵ Own₀ ∷ ‵ Own₁ ∷ ‵ Own₂ ∷ []) ∵
       suffices ! _ (ends-at 𝓤 H A checking.ended stayed (checking.clauses 𝓤 H A mem run) W bound (low r) r (tt, (tt, (tt, (tt, tt)))) (tt, (tt, (tt, (tt, tt))))) $ says ! e $
@@ -155,24 +155,24 @@ module _ {M : Type 1} (𝓤 : URA M) (H : Heap 𝓤) (A : Atoms 𝓤) (W : Given
   said-record : (k : ℕ) (r : Cell) → ent 𝓤 (ensured 𝓤 H A record-at.ended (record-at.clauses 𝓤 H A mem run) (κ₂, tt) (x₂, (k, tt)) tt r) (fact 𝓤 (r ≡ recordAt (now x₂) k))
   said-record k r = exE 𝓤 _ (λ ws. snd∗ 𝓤 (sem 𝓤 H A (lasts record-at.ended (κ₂, tt) (x₂, (k, tt)) ws)) (fact 𝓤 (r ≡ recordAt (now x₂) k)))
 
-  abbrev passed : Cell → ℕ → Admission → RefT (List ℕ) × (RefT (List ℕ) × (Cell × (ℕ × (Admission × Unit {0}))))
+  abbrev passed : Cell → ℕ → Acceptance → RefT (List ℕ) × (RefT (List ℕ) × (Cell × (ℕ × (Acceptance × Unit {0}))))
   passed c k rest = (x₀, (x₁, (c, (k, (rest, tt)))))
 
-  abbrev to-checked : Cell → Val → ℕ → Admission → CheckedCell 𝓤 H A mem run .Ghost
+  abbrev to-checked : Cell → Val → ℕ → Acceptance → CheckedCell 𝓤 H A mem run .Ghost
   to-checked c u k rest = (((κ₀, (κ₁, tt)), (q₀, (q₁, tt)), tt, passed c k rest, (v₀ ∷ [], (v₁ ∷ [], (u ∷ [], (vint w64 k ∷ [], (low rest ∷ [], tt)))))), tt)
 
-  goes-checked : (c : Cell) (u : Val) (k : ℕ) (rest : Admission) → k < 2 ^ 64 → Is E.the-row rest (low rest ∷ []) → 0 < n
+  goes-checked : (c : Cell) (u : Val) (k : ℕ) (rest : Acceptance) → k < 2 ^ 64 → Is E.the-row rest (low rest ∷ []) → 0 < n
       → ent 𝓤 (⋆ 𝓤 H A ((‵ (flft κ₀ q₀) ⊛ ‵ (flft κ₁ q₁)) ∷ (‵ Own₀ ⊛ ‵ Own₁) ∷ ‵ (T.the-row .own c (u ∷ [])) ∷ [])) (CheckedCell 𝓤 H A mem run .pre (to-checked c u k rest))
   goes-checked c u k rest fits is any =
       qed W ((‵ (flft κ₀ q₀) ⊛ ‵ (flft κ₁ q₁)) ∷ (‵ Own₀ ⊛ ‵ Own₁) ∷ ‵ (T.the-row .own c (u ∷ [])) ∷ []) ∵ says ! (entries any) $ split ! $ nothing ! $ move ! (2 ∷ 0 ∷ []) $ join ! $ move ! (1 ∷ 0 ∷ []) $ join ! $ frame ! $
       split ! $ nothing ! $ owned ! E.the-row (Is E.the-row) (LE.makes E.the-type E′.the-plain 𝓤 H A) rest _ is $ fjoin ! $ owned ! u64 (Is u64) (uint-makes 𝓤 H A W w64) k _ (refl, fits) $ fjoin ! $
       move ! (3 ∷ 0 ∷ []) $ fjoin ! $ move ! (2 ∷ 0 ∷ []) $ fjoin ! $ move ! (1 ∷ 0 ∷ []) $ fjoin ! $ done !
 
-  said-checked : (c : Cell) (k : ℕ) (rest r : Admission) → ent 𝓤 (ensured 𝓤 H A checked-cell.ended (checked-cell.clauses 𝓤 H A mem run) (κ₀, (κ₁, tt)) (passed c k rest) tt r) (fact 𝓤 (r ≡ refusedBy (cellFault (now x₀) c) k rest))
+  said-checked : (c : Cell) (k : ℕ) (rest r : Acceptance) → ent 𝓤 (ensured 𝓤 H A checked-cell.ended (checked-cell.clauses 𝓤 H A mem run) (κ₀, (κ₁, tt)) (passed c k rest) tt r) (fact 𝓤 (r ≡ refusedBy (cellFault (now x₀) c) k rest))
   said-checked c k rest r = exE 𝓤 _ (λ ws. snd∗ 𝓤 (sem 𝓤 H A (lasts checked-cell.ended (κ₀, (κ₁, tt)) (passed c k rest) ws)) (fact 𝓤 (r ≡ refusedBy (cellFault (now x₀) c) k rest)))
 
-  begun : Admitted ≡ R n
-  begun = at-end faults n Admitted .is
+  begun : Accepted ≡ R n
+  begun = at-end faults n Accepted .is
 
   -- the loop's variant
   abbrev Left : Type 0
@@ -185,7 +185,7 @@ module _ {M : Type 1} (𝓤 : URA M) (H : Heap 𝓤) (A : Atoms 𝓤) (W : Given
   Nearer-wf = InvImage·wf (λ (k : Left). k .0) (Nat·lt-wfRel .wf)
 
   begins : Is E.the-row (R n) (low (R n) ∷ [])
-  begins = subst (λ (a : Admission). Is E.the-row a (low a ∷ [])) begun (LE.owes E.the-type E′.the-laws Admitted tt)
+  begins = subst (λ (a : Acceptance). Is E.the-row a (low a ∷ [])) begun (LE.owes E.the-type E′.the-laws Accepted tt)
 
   abbrev start : Left
   start = (n, (le-refl n, begins))
@@ -241,20 +241,20 @@ module _ {M : Type 1} (𝓤 : URA M) (H : Heap 𝓤) (A : Atoms 𝓤) (W : Given
         use3 W (raw (CheckedCell 𝓤 H A mem run .pre (to-checked r u (k .0 - 1) (R (k .0))))) (goes-checked r u (k .0 - 1) (R (k .0)) next-fits (k .1 .1) (omega (arith, within less, k .1 .0, ltb→lt 0 (k .0) less))) $
         calls-at-last ! (fmOf 𝓤 H (W .laws) 𝓣) (CheckedCell 𝓤 H A mem run) known-checked (to-checked r u (k .0 - 1) (R (k .0)))
         (and-then ! (load ! (from ! (stop !)) (look ! 21 refl)) (and-then ! (load ! (from ! (stop !)) (look ! 19 refl)) (and-then ! (load ! (from ! (stop !)) (look ! 7 refl)) (and-then ! (load ! (from ! (stop !)) (look ! 5 refl)) (and-then ! (load ! (from ! (stop !)) (look ! 13 refl)) (no-more !)))))) (λ u′.
-        use1 W (later (some (λ (f : Admission). ((‵ (flft κ₀ q₀) ⊛ (‵ (flft κ₁ q₁) ⊛ ‵ ftrue)) ⊛ ‵ (E.the-row .own f (u′ ∷ []))) ⊛ raw (ensured 𝓤 H A checked-cell.ended (checked-cell.clauses 𝓤 H A mem run) (κ₀, (κ₁, tt)) (passed r (k .0 - 1) (R (k .0))) tt f)))) (id⊢ 𝓤 _) $ await ! tt $ pick ! (λ f.
+        use1 W (later (some (λ (f : Acceptance). ((‵ (flft κ₀ q₀) ⊛ (‵ (flft κ₁ q₁) ⊛ ‵ ftrue)) ⊛ ‵ (E.the-row .own f (u′ ∷ []))) ⊛ raw (ensured 𝓤 H A checked-cell.ended (checked-cell.clauses 𝓤 H A mem run) (κ₀, (κ₁, tt)) (passed r (k .0 - 1) (R (k .0))) tt f)))) (id⊢ 𝓤 _) $ await ! tt $ pick ! (λ f.
         split ! $ move ! (1 ∷ []) $ use1 W (raw (fact 𝓤 (f ≡ refusedBy (cellFault (now x₀) r) (k .0 - 1) (R (k .0))))) (said-checked r (k .0 - 1) (R (k .0)) f) $ heard ! (f ≡ refusedBy (cellFault (now x₀) r) (k .0 - 1) (R (k .0))) (λ e′. split ! $ move ! (1 ∷ []) $
         -- [what the cells say now; the tokens; what entries and table own; the row's token; what the row owns; _9; …]
         peeks ! E.the-row (Is E.the-row) (shows 𝓤 H A E.the-row) f (u′ ∷ []) (λ is′. land-last ! (from ! (stop !)) (store ! 14 refl (LE.lawful E.the-type E′.the-laws 𝓤 H A W tt .typed f _ is′ .0)) $
         rewrite ! 14 (λ (w : Val). ‵ (fat fullShare E′.mir l₅ 0 w)) (ap only (E′.lowers .val-is f (u′ ∷ []) is′) ∙ ap low (found less r f e e′)) refl $ drop ! $ forget ! 5 refl $ forget ! 7 refl $ forget ! 9 refl $
         split ! $ move ! (1 ∷ []) $ split ! $ move ! (5 ∷ []) $ split ! $ keep ! (4 ∷ 2 ∷ 0 ∷ 6 ∷ 5 ∷ 7 ∷ 8 ∷ 9 ∷ 10 ∷ 11 ∷ 12 ∷ 13 ∷ 14 ∷ 15 ∷ 16 ∷ 17 ∷ 18 ∷ 19 ∷ 20 ∷ 21 ∷ 22 ∷ 23 ∷ 24 ∷ 25 ∷ 26 ∷ 27 ∷ []) $
-        again ! Nearer At k (k .0 - 1, (omega (arith, k .1 .0), subst (λ (a : Admission). Is E.the-row a (low a ∷ [])) (found less r f e e′) (subst (Is E.the-row f) (E′.lowers .val-is f (u′ ∷ []) is′) is′))) (omega (arith, ltb→lt 0 (k .0) less)))))))))))
+        again ! Nearer At k (k .0 - 1, (omega (arith, k .1 .0), subst (λ (a : Acceptance). Is E.the-row a (low a ∷ [])) (found less r f e e′) (subst (Is E.the-row f) (E′.lowers .val-is f (u′ ∷ []) is′) is′))) (omega (arith, ltb→lt 0 (k .0) less)))))))))))
         (λ over. jumps ! $ exec ! C Λ En mirs.t-4 (atRet En Post) $
         assigns ! (of-opd ! (load ! (from ! (stop !)) (look ! 14 refl))) (from ! (stop !)) (init ! 24 refl (LE.lawful E.the-type E′.the-laws 𝓤 H A W tt .typed (R (k .0)) _ (k .1 .1) .0)) $
         returns ! (look ! 24 refl) $ forget ! 10 refl $ forget ! 12 refl $ forget ! 14 refl $ forget ! 16 refl $ forget ! 18 refl $ forget ! 20 refl $ forget ! 22 refl $ forget ! 24 refl $
         move ! (24 ∷ 25 ∷ []) $ free1 ! $ move ! (22 ∷ 23 ∷ []) $ free1 ! $ move ! (20 ∷ 21 ∷ []) $ free1 ! $ move ! (18 ∷ 19 ∷ []) $ free1 ! $ move ! (16 ∷ 17 ∷ []) $ free1 ! $ move ! (14 ∷ 15 ∷ []) $ free1 ! $ move ! (12 ∷ 13 ∷ []) $ free1 ! $
-        move ! (10 ∷ 11 ∷ []) $ free1 ! $ move ! (8 ∷ 9 ∷ []) $ free1 ! $ move ! (6 ∷ 7 ∷ []) $ free1 ! $ free0 ! $ by ! (exits (R (k .0)) (at-start faults n Admitted (R (k .0)) (k .0) (nltb→le 0 (k .0) over) (here k)) (k .1 .1)))
+        move ! (10 ∷ 11 ∷ []) $ free1 ! $ move ! (8 ∷ 9 ∷ []) $ free1 ! $ move ! (6 ∷ 7 ∷ []) $ free1 ! $ free0 ! $ by ! (exits (R (k .0)) (at-start faults n Accepted (R (k .0)) (k .0) (nltb→le 0 (k .0) over) (here k)) (k .1 .1)))
       where
-        here : (j : Left) → Known faults n Admitted (j .0) (R (j .0))
+        here : (j : Left) → Known faults n Accepted (j .0) (R (j .0))
         here j = record { within = j .1 .0; is = refl }
 
         next-fits : k .0 - 1 < 2 ^ 64
@@ -263,8 +263,8 @@ module _ {M : Type 1} (𝓤 : URA M) (H : Heap 𝓤) (A : Atoms 𝓤) (W : Given
         within : Holds (ltb 0 (k .0)) → k .0 - 1 < length (now x₂)
         within less = omega (arith, ltb→lt 0 (k .0) less, k .1 .0, all)
 
-        found : Holds (ltb 0 (k .0)) → (r : Cell) (f : Admission) → r ≡ recordAt (now x₂) (k .0 - 1) → f ≡ refusedBy (cellFault (now x₀) r) (k .0 - 1) (R (k .0)) → f ≡ R (k .0 - 1)
-        found less r f e e′ = one-before faults n Admitted (k .0) (R (k .0)) f (ltb→lt 0 (k .0) less) (here k) (e′ ∙ ap (λ (c : Cell). refusedBy (cellFault (now x₀) c) (k .0 - 1) (R (k .0))) e) .is
+        found : Holds (ltb 0 (k .0)) → (r : Cell) (f : Acceptance) → r ≡ recordAt (now x₂) (k .0 - 1) → f ≡ refusedBy (cellFault (now x₀) r) (k .0 - 1) (R (k .0)) → f ≡ R (k .0 - 1)
+        found less r f e e′ = one-before faults n Accepted (k .0) (R (k .0)) f (ltb→lt 0 (k .0) less) (here k) (e′ ∙ ap (λ (c : Cell). refusedBy (cellFault (now x₀) c) (k .0 - 1) (R (k .0))) e) .is
 
     starts : Sq W (At start) (runs C Λ En mirs.t-3 (atRet En Post))
     starts = first ! $ blocks ! $ loops ! 𝓣 Nearer Nearer-wf At turns start
@@ -277,7 +277,7 @@ module _ {M : Type 1} (𝓤 : URA M) (H : Heap 𝓤) (A : Atoms 𝓤) (W : Given
       pass1 ! (init ! 16 refl (tt, (tt, (record { fits = room₀ .0 }, tt)))) $ pass1 ! (init ! 14 refl (tt, tt)) $ pass1 ! (init ! 12 refl (tt, (tt, (record { fits = room₂ .0 }, tt)))) $ pass1 ! (init ! 10 refl (tt, record { fits = fn })) $ pass0 ! $
       assigns ! (agg ! (and-then ! (lit ! tt) (no-more !))) (from ! (stop !)) (init ! 8 refl (tt, (record { fits = lit< tt }, tt))) $
       assigns ! (of-opd ! (load ! (from ! (stop !)) (look ! 10 refl))) (from ! (stop !)) (init ! 6 refl (tt, record { fits = fn })) $
-      rewrite ! 8 (λ (a : Admission). ‵ (fat fullShare E′.mir l₅ 0 (low a))) begun refl $
+      rewrite ! 8 (λ (a : Acceptance). ‵ (fat fullShare E′.mir l₅ 0 (low a))) begun refl $
       move ! (21 ∷ []) $ fsplit ! $ move ! (1 ∷ []) $ fsplit ! $ move ! (1 ∷ []) $ fsplit ! $ move ! (24 ∷ []) $ split ! $ move ! (1 ∷ []) $ split ! $ move ! (1 ∷ []) $ split ! $
       -- [the row's token; true; the entries' token; the table's token; what the row owns; …; what the entries own; what the table owns; _9; …]
       keep ! (3 ∷ 2 ∷ 0 ∷ 7 ∷ 6 ∷ 4 ∷ 8 ∷ 9 ∷ 10 ∷ 11 ∷ 12 ∷ 13 ∷ 14 ∷ 15 ∷ 16 ∷ 17 ∷ 18 ∷ 19 ∷ 20 ∷ 21 ∷ 22 ∷ 23 ∷ 24 ∷ 25 ∷ 26 ∷ 27 ∷ []) $

@@ -41,23 +41,24 @@ use denote.Triple.Table.{entered, cited}
 use denote.Triple.Walked.{says, Stays, stay-dropped, walkOf, goes-dropped, Walks, ends-at, walked, walk-meets}
 use denote.Triple.Clauses.{ensured, lasts}
 use denote.Exit.{yes}
-use Rattle.table.specs.declared.Admission.{Admission}
-use Rattle.table.specs.declared.Admission.the-variants.{Admitted}
+use Rattle.table.specs.declared.Acceptance.{Acceptance}
+use Rattle.table.specs.declared.Acceptance.the-variants.{Accepted}
 use Rattle.table.specs.Terms.{terms, termAt}
-use Rattle.table.specs.Admission.{admissionWithin, scan}
+use Rattle.table.specs.Admission.{andThen, admissionWithin, scan, accepts}
+use Rattle.evaluate.specs.declared.Evaluation.the-variants.{NotEvaluated}
 use Rattle.table.specs.WellFormed.{WellFormed}
-use Rattle.table.proofs.Admission as E
-use Rattle.table.proofs.Admission.Laws as E′
+use Rattle.table.proofs.Acceptance as E
+use Rattle.table.proofs.Acceptance.Laws as E′
 use Rattle.admission.proofs.admit_within as admit-within
 use Rattle.admission.proofs.admit_within.Symbol as admit-within-def
 use Rattle.admission.proofs.admit_within.Symbol.{name as #admit-within}
 use Rattle.admission.proofs.admit_within.Met as admit-within-thm
 use Rattle.setting.specs.declared.cells.Cell.{Cell}
-use Rattle.setting.specs.Arrays.{Entries}
+use Rattle.setting.specs.Code.Entries.{Entries}
 use Rattle.setting.specs.Check.{variableFault, cellFault}
 use Rattle.setting.proofs.cells.Cell as T
 use Rattle.evaluate.specs.declared.Evaluation.{Evaluation}
-use Rattle.evaluate.specs.Evaluation.{admits, andThen, afford}
+use Rattle.evaluate.specs.Evaluation.{afford}
 use Rattle.evaluate.proofs.Evaluation as Ev
 use Rattle.evaluate.proofs.Evaluation.Laws as Ev′
 use Rattle.records.specs.Rows.{recordAt}
@@ -187,17 +188,17 @@ module _ {M : Type 1} (𝓤 : URA M) (H : Heap 𝓤) (A : Atoms 𝓤) (W : Given
   goes-admit : ent 𝓤 (⋆ 𝓤 H A (‵ (flft κ₀ q₀) ∷ ‵ Own₀ ∷ [])) (AdmitWithin 𝓤 H A mem run .pre to-admit)
   goes-admit = qed W (‵ (flft κ₀ q₀) ∷ ‵ Own₀ ∷ []) ∵ nothing ! $ move ! (1 ∷ 0 ∷ []) $ join ! $ nothing ! $ owned ! u32 (Is u32) (uint-makes 𝓤 H A W w32) limit _ (refl, fl) $ fjoin ! $ move ! (2 ∷ 0 ∷ []) $ fjoin ! $ move ! (1 ∷ 0 ∷ []) $ join ! $ frame ! $ done !
 
-  said-admit : (r : Admission) → ent 𝓤 (ensured 𝓤 H A admit-within.ended (admit-within.clauses 𝓤 H A mem run) (κ₀, tt) (x₀, (limit, tt)) tt r) (fact 𝓤 (r ≡ admissionWithin limit w))
+  said-admit : (r : Acceptance) → ent 𝓤 (ensured 𝓤 H A admit-within.ended (admit-within.clauses 𝓤 H A mem run) (κ₀, tt) (x₀, (limit, tt)) tt r) (fact 𝓤 (r ≡ admissionWithin limit w))
   said-admit r = exE 𝓤 _ (λ ws. snd∗ 𝓤 (sem 𝓤 H A (lasts admit-within.ended (κ₀, tt) (x₀, (limit, tt)) ws)) (fact 𝓤 (r ≡ admissionWithin limit w)))
 
-  abbrev to-count : Admission → CountWhen 𝓤 H A mem run .Ghost
+  abbrev to-count : Acceptance → CountWhen 𝓤 H A mem run .Ghost
   to-count a = ((tt, tt, tt, (a, (length cells, tt)), (E′.lowered a ∷ [], (vint w64 (length cells) ∷ [], tt))), tt)
 
-  goes-count : (a : Admission) → Is E.the-row a (E′.lowered a ∷ []) → ent 𝓤 (emp 𝓤) (CountWhen 𝓤 H A mem run .pre (to-count a))
+  goes-count : (a : Acceptance) → Is E.the-row a (E′.lowered a ∷ []) → ent 𝓤 (emp 𝓤) (CountWhen 𝓤 H A mem run .pre (to-count a))
   goes-count a is = qed W [] ∵ nothing ! $ nothing ! $ owned ! usize (Is usize) (uint-makes 𝓤 H A W w64) (length cells) _ (refl, room₂ .0) $ fjoin ! $ owned ! E.the-row (Is E.the-row) (LE.makes E.the-type E′.the-plain 𝓤 H A) a _ is $ fjoin ! $ nothing ! $ join ! $ frame ! $ done !
 
-  said-count : (a : Admission) (r : ℕ) → ent 𝓤 (ensured 𝓤 H A count-when.ended (count-when.clauses 𝓤 H A mem run) tt (a, (length cells, tt)) tt r) (fact 𝓤 (r ≡ cond (admits a) (length cells) 0))
-  said-count a r = exE 𝓤 _ (λ ws. snd∗ 𝓤 (sem 𝓤 H A (lasts count-when.ended tt (a, (length cells, tt)) ws)) (fact 𝓤 (r ≡ cond (admits a) (length cells) 0)))
+  said-count : (a : Acceptance) (r : ℕ) → ent 𝓤 (ensured 𝓤 H A count-when.ended (count-when.clauses 𝓤 H A mem run) tt (a, (length cells, tt)) tt r) (fact 𝓤 (r ≡ cond (accepts a) (length cells) 0))
+  said-count a r = exE 𝓤 _ (λ ws. snd∗ 𝓤 (sem 𝓤 H A (lasts count-when.ended tt (a, (length cells, tt)) ws)) (fact 𝓤 (r ≡ cond (accepts a) (length cells) 0)))
 
   abbrev to-entries : ℕ → EntriesWhen 𝓤 H A mem run .Ghost
   to-entries n = (((κ₀, tt), (q₀, tt), tt, (x₀, (n, tt)), (v₀ ∷ [], (vint w64 n ∷ [], tt))), tt)
@@ -208,8 +209,8 @@ module _ {M : Type 1} (𝓤 : URA M) (H : Heap 𝓤) (A : Atoms 𝓤) (W : Given
   said-entries : (n : ℕ) (r : List ℕ) → ent 𝓤 (ensured 𝓤 H A entries-when.ended (entries-when.clauses 𝓤 H A mem run) (κ₀, tt) (x₀, (n, tt)) tt r) (fact 𝓤 (0 < n → Entries w (terms w) r))
   said-entries n r = exE 𝓤 _ (λ ws. snd∗ 𝓤 (sem 𝓤 H A (lasts entries-when.ended (κ₀, tt) (x₀, (n, tt)) ws)) (fact 𝓤 (0 < n → Entries w (terms w) r)))
 
-  abbrev said-cells-of : ℕ → Admission
-  said-cells-of n = scan (λ k. cellFault w (recordAt cells k)) n 0 Admitted
+  abbrev said-cells-of : ℕ → Acceptance
+  said-cells-of n = scan (λ k. cellFault w (recordAt cells k)) n 0 Accepted
 
   -- `cells_checked` is passed the entries at l under the name γ, for the lifetime ν of the call
   abbrev passed : ℕ → GName → List ℕ → ℕ → RefT (List ℕ) × (RefT (List ℕ) × (RefT (List Cell) × (ℕ × Unit {0})))
@@ -229,16 +230,16 @@ module _ {M : Type 1} (𝓤 : URA M) (H : Heap 𝓤) (A : Atoms 𝓤) (W : Given
       split ! $ move ! (1 ∷ []) $ split ! $ move ! (1 ∷ []) $ nothing ! $ move ! (1 ∷ 0 ∷ []) $ join ! $ move ! (1 ∷ 0 ∷ []) $ join ! $ move ! (1 ∷ 0 ∷ []) $ join ! $ frame ! $
       split ! $ move ! (1 ∷ []) $ split ! $ move ! (1 ∷ []) $ nothing ! $ owned ! usize (Is usize) (uint-makes 𝓤 H A W w64) n _ (refl, fits) $ fjoin ! $ move ! (1 ∷ 0 ∷ []) $ fjoin ! $ move ! (1 ∷ 0 ∷ []) $ fjoin ! $ move ! (1 ∷ 0 ∷ []) $ fjoin ! $ done !
 
-  said-cells : (ν l : ℕ) (γ : GName) (es : List ℕ) (n : ℕ) (r : Admission) → ent 𝓤 (ensured 𝓤 H A cells-checked.ended (cells-checked.clauses 𝓤 H A mem run) (κ₀, (ν ∷ [], (κ₂, tt))) (passed l γ es n) tt r) (fact 𝓤 (r ≡ said-cells-of n))
+  said-cells : (ν l : ℕ) (γ : GName) (es : List ℕ) (n : ℕ) (r : Acceptance) → ent 𝓤 (ensured 𝓤 H A cells-checked.ended (cells-checked.clauses 𝓤 H A mem run) (κ₀, (ν ∷ [], (κ₂, tt))) (passed l γ es n) tt r) (fact 𝓤 (r ≡ said-cells-of n))
   said-cells ν l γ es n r = exE 𝓤 _ (λ ws. snd∗ 𝓤 (sem 𝓤 H A (lasts cells-checked.ended (κ₀, (ν ∷ [], (κ₂, tt))) (passed l γ es n) ws)) (fact 𝓤 (r ≡ said-cells-of n)))
 
-  abbrev given-of : Admission → Admission → RefT (List ℕ) × (RefT (List ℕ) × (Admission × (Admission × (ℕ × (ℕ × (ℕ × Unit {0}))))))
+  abbrev given-of : Acceptance → Acceptance → RefT (List ℕ) × (RefT (List ℕ) × (Acceptance × (Acceptance × (ℕ × (ℕ × (ℕ × Unit {0}))))))
   given-of a c = (x₀, (x₁, (a, (c, (each, (allowance, (space, tt)))))))
 
-  abbrev to-afforded : Admission → Admission → Afforded 𝓤 H A mem run .Ghost
+  abbrev to-afforded : Acceptance → Acceptance → Afforded 𝓤 H A mem run .Ghost
   to-afforded a c = (((κ₀, (κ₁, tt)), (q₀, (q₁, tt)), tt, given-of a c, (v₀ ∷ [], (v₁ ∷ [], (E′.lowered a ∷ [], (E′.lowered c ∷ [], (vint w32 each ∷ [], (vint w64 allowance ∷ [], (vint w64 space ∷ [], tt)))))))), tt)
 
-  goes-afforded : (a c : Admission) → Is E.the-row a (E′.lowered a ∷ []) → Is E.the-row c (E′.lowered c ∷ []) → (admits a ≡ true → WellFormed 80000 w)
+  goes-afforded : (a c : Acceptance) → Is E.the-row a (E′.lowered a ∷ []) → Is E.the-row c (E′.lowered c ∷ []) → (accepts a ≡ true → WellFormed 80000 w)
       → ent 𝓤 (⋆ 𝓤 H A ((‵ (flft κ₀ q₀) ⊛ ‵ (flft κ₁ q₁)) ∷ (‵ Own₀ ⊛ ‵ Own₁) ∷ [])) (Afforded 𝓤 H A mem run .pre (to-afforded a c))
   goes-afforded a c is-a is-c f =
       qed W ((‵ (flft κ₀ q₀) ⊛ ‵ (flft κ₁ q₁)) ∷ (‵ Own₀ ⊛ ‵ Own₁) ∷ []) ∵
@@ -247,13 +248,13 @@ module _ {M : Type 1} (𝓤 : URA M) (H : Heap 𝓤) (A : Atoms 𝓤) (W : Given
       nothing ! $ owned ! usize (Is usize) (uint-makes 𝓤 H A W w64) space _ (refl, fr) $ fjoin ! $ owned ! u64 (Is u64) (uint-makes 𝓤 H A W w64) allowance _ (refl, fa) $ fjoin ! $ owned ! u32 (Is u32) (uint-makes 𝓤 H A W w32) each _ (refl, fe) $ fjoin ! $
       owned ! E.the-row (Is E.the-row) (LE.makes E.the-type E′.the-plain 𝓤 H A) c _ is-c $ fjoin ! $ owned ! E.the-row (Is E.the-row) (LE.makes E.the-type E′.the-plain 𝓤 H A) a _ is-a $ fjoin ! $ move ! (2 ∷ 0 ∷ []) $ fjoin ! $ move ! (1 ∷ 0 ∷ []) $ fjoin ! $ done !
 
-  abbrev afforded-by : Admission → Admission → Evaluation
-  afforded-by a c = andThen a (andThen (scan (λ k. variableFault values (termAt w k)) (terms w) 0 c) (afford w each allowance space))
+  abbrev afforded-by : Acceptance → Acceptance → Evaluation
+  afforded-by a c = andThen NotEvaluated a (andThen NotEvaluated (scan (λ k. variableFault values (termAt w k)) (terms w) 0 c) (afford w each allowance space))
 
-  said-afforded : (a c : Admission) (r : Evaluation) → ent 𝓤 (ensured 𝓤 H A afforded.ended (afforded.clauses 𝓤 H A mem run) (κ₀, (κ₁, tt)) (given-of a c) tt r) (fact 𝓤 (r ≡ afforded-by a c))
+  said-afforded : (a c : Acceptance) (r : Evaluation) → ent 𝓤 (ensured 𝓤 H A afforded.ended (afforded.clauses 𝓤 H A mem run) (κ₀, (κ₁, tt)) (given-of a c) tt r) (fact 𝓤 (r ≡ afforded-by a c))
   said-afforded a c r = exE 𝓤 _ (λ ws. snd∗ 𝓤 (sem 𝓤 H A (lasts afforded.ended (κ₀, (κ₁, tt)) (given-of a c) ws)) (fact 𝓤 (r ≡ afforded-by a c)))
 
-  lowers : (r : Admission) (u : Val) → Is E.the-row r (u ∷ []) → Is E.the-row r (E′.lowered r ∷ [])
+  lowers : (r : Acceptance) (u : Val) → Is E.the-row r (u ∷ []) → Is E.the-row r (E′.lowered r ∷ [])
   lowers r u is = subst (Is E.the-row r) (E′.lowers .val-is r (u ∷ []) is) is
 
   module _ (𝓣 : Tables 𝓤 H) (known : Known 𝓤 H A mem run 𝓣) (l₀ l₁ l₂ l₃ l₄ l₅ l₆ l₇ l₈ l₉ l₁₀ l₁₁ l₁₂ l₁₃ l₁₄ : ℕ) where
@@ -290,7 +291,7 @@ module _ {M : Type 1} (𝓤 : URA M) (H : Heap 𝓤) (A : Atoms 𝓤) (W : Given
         -- `admit_within`
         move ! (3 ∷ []) $ use1 W (‵ Own₀ ⊛ ‵ Own₀) (shr-slice-copy 𝓤 H A W (named 0) κ₀ u32 .twice x₀ (v₀ ∷ [])) $ split ! $ move ! (2 ∷ 0 ∷ []) $ use2 W (raw (AdmitWithin 𝓤 H A mem run .pre to-admit)) goes-admit $
         calls-at ! (fmOf 𝓤 H (W .laws) 𝓣) (AdmitWithin 𝓤 H A mem run) (known .admit-within) to-admit (and-then ! (load ! (from ! (stop !)) (look ! 32 refl)) (and-then ! (load ! (from ! (stop !)) (look ! 30 refl)) (no-more !))) (λ u-a.
-        use1 W (later (some (λ (r : Admission). ((‵ (flft κ₀ q₀) ⊛ ‵ ftrue) ⊛ ‵ (E.the-row .own r (u-a ∷ []))) ⊛ raw (ensured 𝓤 H A admit-within.ended (admit-within.clauses 𝓤 H A mem run) (κ₀, tt) (x₀, (limit, tt)) tt r)))) (id⊢ 𝓤 _) $ await ! tt $ pick ! (λ a.
+        use1 W (later (some (λ (r : Acceptance). ((‵ (flft κ₀ q₀) ⊛ ‵ ftrue) ⊛ ‵ (E.the-row .own r (u-a ∷ []))) ⊛ raw (ensured 𝓤 H A admit-within.ended (admit-within.clauses 𝓤 H A mem run) (κ₀, tt) (x₀, (limit, tt)) tt r)))) (id⊢ 𝓤 _) $ await ! tt $ pick ! (λ a.
         split ! $ move ! (1 ∷ []) $ use1 W (raw (fact 𝓤 (a ≡ admissionWithin limit w))) (said-admit a) $ heard ! (a ≡ admissionWithin limit w) (λ e-a. split ! $ move ! (1 ∷ []) $
         peeks ! E.the-row (Is E.the-row) (shows 𝓤 H A E.the-row) a (u-a ∷ []) (λ was-a. land ! (from ! (stop !)) (init ! 19 refl (LE.lawful E.the-type E′.the-laws 𝓤 H A W tt .typed a _ was-a .0)) $
         rewrite ! 19 (λ (z : Val). ‵ (fat fullShare E′.mir l₈ 0 z)) (ap only (E′.lowers .val-is a (u-a ∷ []) was-a)) refl $ drop ! $ split ! $ move ! (1 ∷ []) $ drop ! $
@@ -299,7 +300,7 @@ module _ {M : Type 1} (𝓤 : URA M) (H : Heap 𝓤) (A : Atoms 𝓤) (W : Given
         use0 W (raw (CountWhen 𝓤 H A mem run .pre (to-count a))) (goes-count a (lowers a u-a was-a)) $
         calls-at ! (fmOf 𝓤 H (W .laws) 𝓣) (CountWhen 𝓤 H A mem run) (known .count-when) (to-count a) (and-then ! (load ! (from ! (stop !)) (look ! 19 refl)) (and-then ! (load ! (from ! (stop !)) (look ! 11 refl)) (no-more !))) (λ u-n.
         use1 W (later (some (λ (n : ℕ). (‵ ftrue ⊛ ‵ (usize .own n (u-n ∷ []))) ⊛ raw (ensured 𝓤 H A count-when.ended (count-when.clauses 𝓤 H A mem run) tt (a, (length cells, tt)) tt n)))) (id⊢ 𝓤 _) $ await ! tt $ pick ! (λ n.
-        split ! $ move ! (1 ∷ []) $ use1 W (raw (fact 𝓤 (n ≡ cond (admits a) (length cells) 0))) (said-count a n) $ heard ! (n ≡ cond (admits a) (length cells) 0) (λ e-n. split ! $ drop ! $
+        split ! $ move ! (1 ∷ []) $ use1 W (raw (fact 𝓤 (n ≡ cond (accepts a) (length cells) 0))) (said-count a n) $ heard ! (n ≡ cond (accepts a) (length cells) 0) (λ e-n. split ! $ drop ! $
         peeks ! usize (Is usize) (shows 𝓤 H A usize) n (u-n ∷ []) (λ is-n. land ! (from ! (stop !)) (init ! 17 refl (uint-lawful 𝓤 H A W w64 .typed n _ is-n .0)) $
         rewrite ! 17 (λ (z : Val). ‵ (fat fullShare (tyInt w64) l₉ 0 z)) (ap only (is-n .0)) refl $ drop ! $
         -- `entries_when`
@@ -321,7 +322,7 @@ module _ {M : Type 1} (𝓤 : URA M) (H : Heap 𝓤) (A : Atoms 𝓤) (W : Given
         use2 W (raw (CellsChecked 𝓤 H A mem run .pre (to-cells ν l₁₀ γ es n))) (goes-cells ν l₁₀ γ es n (is-n .1) (e-e, counted-most a (length cells) n e-n)) $
         calls-at ! (fmOf 𝓤 H (W .laws) 𝓣) (CellsChecked 𝓤 H A mem run) (known .cells-checked) (to-cells ν l₁₀ γ es n)
         (and-then ! (load ! (from ! (stop !)) (look ! 31 refl)) (and-then ! (load ! (from ! (stop !)) (look ! 6 refl)) (and-then ! (load ! (from ! (stop !)) (look ! 25 refl)) (and-then ! (load ! (from ! (stop !)) (look ! 15 refl)) (no-more !))))) (λ u-c.
-        use1 W (later (some (λ (c : Admission). ((‵ (flft κ₀ q₀) ⊛ (‵ (flft (ν ∷ []) fullShare) ⊛ (‵ (flft κ₂ q₂) ⊛ ‵ ftrue))) ⊛ ‵ (E.the-row .own c (u-c ∷ []))) ⊛ raw (ensured 𝓤 H A cells-checked.ended (cells-checked.clauses 𝓤 H A mem run) (κ₀, (ν ∷ [], (κ₂, tt))) (passed l₁₀ γ es n) tt c)))) (id⊢ 𝓤 _) $ await ! tt $ pick ! (λ c.
+        use1 W (later (some (λ (c : Acceptance). ((‵ (flft κ₀ q₀) ⊛ (‵ (flft (ν ∷ []) fullShare) ⊛ (‵ (flft κ₂ q₂) ⊛ ‵ ftrue))) ⊛ ‵ (E.the-row .own c (u-c ∷ []))) ⊛ raw (ensured 𝓤 H A cells-checked.ended (cells-checked.clauses 𝓤 H A mem run) (κ₀, (ν ∷ [], (κ₂, tt))) (passed l₁₀ γ es n) tt c)))) (id⊢ 𝓤 _) $ await ! tt $ pick ! (λ c.
         split ! $ move ! (1 ∷ []) $ use1 W (raw (fact 𝓤 (c ≡ said-cells-of n))) (said-cells ν l₁₀ γ es n c) $ heard ! (c ≡ said-cells-of n) (λ e-c. split ! $ move ! (1 ∷ []) $
         peeks ! E.the-row (Is E.the-row) (shows 𝓤 H A E.the-row) c (u-c ∷ []) (λ was-c. land ! (from ! (stop !)) (init ! 13 refl (LE.lawful E.the-type E′.the-laws 𝓤 H A W tt .typed c _ was-c .0)) $
         rewrite ! 13 (λ (z : Val). ‵ (fat fullShare E′.mir l₁₁ 0 z)) (ap only (E′.lowers .val-is c (u-c ∷ []) was-c)) refl $ drop ! $ split ! $ move ! (1 ∷ []) $ split ! $

@@ -4,7 +4,7 @@ use mathlib.Core.List.{List}
 use native.Mathlib.Omega.{arith}
 use borrow.Author.Needs.{needs}
 use borrow.Author.Tests.{not-true, not-false}
-use Rattle.setting.specs.Arrays.{Entries}
+use Rattle.setting.specs.Code.Entries.{Entries}
 use Rattle.setting.proofs.Latest.{none-yet, passed, noted, low-slot}
 use Rattle.setting.proofs.arrays.fill_entries.Statement.{statement}
 use Rattle.setting.proofs.arrays.fill_entries.Tie as tie

@@ -3,7 +3,7 @@ use mathlib.Core.Path.{_≡_, refl, ap, _∙_}
 use native.Mathlib.Omega.{arith}
 use lib.ListN.{length}
 use borrow.Author.Needs.{needs}
-use Rattle.table.specs.declared.Admission.the-variants.{Admitted}
+use Rattle.table.specs.declared.Acceptance.the-variants.{Accepted}
 use Rattle.table.proofs.Scans.{Scanned, begun, on, stop, through}
 use Rattle.setting.specs.Cells.{cellAt}
 use Rattle.setting.specs.Check.{cellFault}
@@ -11,7 +11,7 @@ use Rattle.setting.proofs.cells.cells_checked.Statement.{statement}
 use Rattle.setting.proofs.cells.cells_checked.Tie as tie
 
 abbrev Inv-loop : tie.InvT-loop
-Inv-loop table cells entries listed k₀ k = Scanned (λ i. cellFault table (cellAt cells i)) (length cells / 3) Admitted k
+Inv-loop table cells entries listed k₀ k = Scanned (λ i. cellFault table (cellAt cells i)) (length cells / 3) Accepted k
 
 abbrev μ-loop : tie.MeasureT-loop
 μ-loop table cells entries listed k₀ k = listed - k
@@ -22,7 +22,7 @@ fill-entries-requires c κs = (c .before .before .before .pre, refl)
 loop-holds : tie.Need-loop-holds Inv-loop μ-loop
 loop-holds c =
     let a = c .before .before .before .before .args in
-    begun (λ i. cellFault (a .table .now) (cellAt (a .cells .now) i)) (length (a .cells .now) / 3) Admitted
+    begun (λ i. cellFault (a .table .now) (cellAt (a .cells .now) i)) (length (a .cells .now) / 3) Accepted
 
 cell-at-requires : tie.Need-cell-at-requires Inv-loop μ-loop
 cell-at-requires c κs = omega (arith, c .before .loop-test .taken)
@@ -41,21 +41,21 @@ returns c =
     let a = c .before .before .before .before .before .before .before .before .before .before .before .args in
     let l = c .before .before .before .before .before .before .loop in
     c .refused .ensures
-    ∙ stop (λ i. cellFault (a .table .now) (cellAt (a .cells .now) i)) (length (a .cells .now) / 3) Admitted (l .k) (l .inv) (c .before .before .before .before .before .loop-test .taken)
+    ∙ stop (λ i. cellFault (a .table .now) (cellAt (a .cells .now) i)) (length (a .cells .now) / 3) Accepted (l .k) (l .inv) (c .before .before .before .before .before .loop-test .taken)
     (c .before .before .cell-fault .result) (tested (c .before .before)) (c .before .if1 .taken)
 
 loop-again : tie.Need-loop-again Inv-loop μ-loop
 loop-again c =
     let a = c .before .before .before .before .before .before .before .before .before .before .args in
     let l = c .before .before .before .before .before .loop in
-    on (λ i. cellFault (a .table .now) (cellAt (a .cells .now) i)) (length (a .cells .now) / 3) Admitted (l .k) (l .inv) (c .before .before .before .before .loop-test .taken)
+    on (λ i. cellFault (a .table .now) (cellAt (a .cells .now) i)) (length (a .cells .now) / 3) Accepted (l .k) (l .inv) (c .before .before .before .before .loop-test .taken)
     (c .before .cell-fault .result) (tested (c .before)) (c .if1 .left)
 
 returns-2 : tie.Need-returns-2 Inv-loop μ-loop
 returns-2 c =
     let a = c .before .before .before .before .before .before .args in
     let l = c .before .loop in
-    through (λ i. cellFault (a .table .now) (cellAt (a .cells .now) i)) (length (a .cells .now) / 3) Admitted (l .k) (l .inv) (c .loop-test .left)
+    through (λ i. cellFault (a .table .now) (cellAt (a .cells .now) i)) (length (a .cells .now) / 3) Accepted (l .k) (l .inv) (c .loop-test .left)
 
 pub cells-checked-spec : {M : Type 1} → statement M
 cells-checked-spec =

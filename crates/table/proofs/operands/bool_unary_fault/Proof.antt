@@ -24,7 +24,7 @@ sort-in-requires : tie.Need-sort-in-requires
 sort-in-requires c κs = in-table (c .before)
 
 returns-2 : tie.Need-returns-2
-returns-2 c = rw (c .refuse .ensures, c .before .boolean2 .ensures, c .before .before .boolean .ensures, c .before .before .before .sort-in .ensures, in-place (c .before .before .before .before .before))
+returns-2 c = rw (c .refuse-unless .ensures, c .before .boolean2 .ensures, c .before .before .boolean .ensures, c .before .before .before .sort-in .ensures, in-place (c .before .before .before .before .before))
 
 pub bool-unary-fault-spec : {M : Type 1} → statement M
 bool-unary-fault-spec =

@@ -27,7 +27,7 @@ sort-in-requires-2 : tie.Need-sort-in-requires-2
 sort-in-requires-2 c κs = in-table (c .before .before) .1
 
 returns-2 : tie.Need-returns-2
-returns-2 c = rw (c .refuse .ensures, c .before .same-sort2 .ensures, c .before .before .same-sort .ensures, c .before .before .before .vector .ensures, c .before .before .before .before .sort-in2 .ensures, c .before .before .before .before .before .sort-in .ensures, in-place (c .before .before .before .before .before .before .before))
+returns-2 c = rw (c .refuse-unless .ensures, c .before .same-sort2 .ensures, c .before .before .same-sort .ensures, c .before .before .before .vector .ensures, c .before .before .before .before .sort-in2 .ensures, c .before .before .before .before .before .sort-in .ensures, in-place (c .before .before .before .before .before .before .before))
 
 pub bv-binary-fault-spec : {M : Type 1} → statement M
 bv-binary-fault-spec =

@@ -24,7 +24,7 @@ sort-in-requires : tie.Need-sort-in-requires
 sort-in-requires c κs = in-table (c .before)
 
 returns-2 : tie.Need-returns-2
-returns-2 c = rw (c .refuse .ensures, c .before .same-sort .ensures, c .before .before .vector .ensures, c .before .before .before .sort-in .ensures, in-place (c .before .before .before .before .before))
+returns-2 c = rw (c .refuse-unless .ensures, c .before .same-sort .ensures, c .before .before .vector .ensures, c .before .before .before .sort-in .ensures, in-place (c .before .before .before .before .before))
 
 pub bv-unary-fault-spec : {M : Type 1} → statement M
 bv-unary-fault-spec =

@@ -36,7 +36,7 @@ returns-11 : tie.Need-returns-11
 returns-11 c = rw (c .write-fault .ensures, c .before .enum-told11 .given .1)
 
 returns-12 : tie.Need-returns-12
-returns-12 c = rw (c .refuse .ensures, c .before .three .ensures, c .before .before .enum-told12 .given .1)
+returns-12 c = rw (c .refuse-unless .ensures, c .before .three .ensures, c .before .before .enum-told12 .given .1)
 
 pub rank-fault-spec : {M : Type 1} → statement M
 rank-fault-spec =

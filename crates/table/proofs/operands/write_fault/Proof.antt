@@ -30,7 +30,7 @@ sort-in-requires-3 : tie.Need-sort-in-requires-3
 sort-in-requires-3 c κs = in-table (c .before .before .before) .2
 
 returns-2 : tie.Need-returns-2
-returns-2 c = rw (c .refuse .ensures, c .before .vector-of2 .ensures, c .before .before .vector-of .ensures, c .before .before .before .same-sort .ensures, c .before .before .before .before .array .ensures, c .before .before .before .before .before .sort-in3 .ensures, c .before .before .before .before .before .before .sort-in2 .ensures, c .before .before .before .before .before .before .before .sort-in .ensures, in-place (c .before .before .before .before .before .before .before .before .before))
+returns-2 c = rw (c .refuse-unless .ensures, c .before .vector-of2 .ensures, c .before .before .vector-of .ensures, c .before .before .before .same-sort .ensures, c .before .before .before .before .array .ensures, c .before .before .before .before .before .sort-in3 .ensures, c .before .before .before .before .before .before .sort-in2 .ensures, c .before .before .before .before .before .before .before .sort-in .ensures, in-place (c .before .before .before .before .before .before .before .before .before))
 
 pub write-fault-spec : {M : Type 1} → statement M
 write-fault-spec =

@@ -1,4 +1,4 @@
-use Rattle.table.specs.Terms.{placed}
+use Rattle.table.specs.Code.Writing.{placed}
 use borrow.Author.Tests.{le-leb, lt-leb}
 use lib.ListN.{length-set}
 use native.Mathlib.Omega.{arith}

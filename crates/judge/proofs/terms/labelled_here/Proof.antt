@@ -1,5 +1,5 @@
 use Rattle.judge.specs.Conditions.{ownMarks}
-use Rattle.judge.specs.Code.Readings.{readingOf}
+use Rattle.judge.specs.Code.Labelled.{labelledOf}
 use Rattle.table.specs.Terms.{terms, termAt}
 use Rattle.table.specs.declared.words.Term.{Term}
 use lib.Seq.{length-take-le}
@@ -8,14 +8,14 @@ use native.Mathlib.Omega.{arith}
 use mathlib.Core.Path.{_≡_, sym, ap, subst, _∙_}
 use Prim.Native.Nat.{ℕ, _+_, _-_, _<_}
 use borrow.Author.Needs.{needs}
-use Rattle.judge.proofs.terms.reading_here.Statement.{statement}
-use Rattle.judge.proofs.terms.reading_here.Tie as tie
+use Rattle.judge.proofs.terms.labelled_here.Statement.{statement}
+use Rattle.judge.proofs.terms.labelled_here.Tie as tie
 
-slice-aggregate-reading-of : tie.Need-slice-aggregate-reading-of
-slice-aggregate-reading-of c = sym (length-take-le (c .before .before .before .before .before .args .at) (c .before .before .before .before .before .args .room .now) (omega (arith, c .before .before .before .before .before .pre .1 .1)))
+slice-aggregate-labelled-of : tie.Need-slice-aggregate-labelled-of
+slice-aggregate-labelled-of c = sym (length-take-le (c .before .before .before .before .before .args .at) (c .before .before .before .before .before .args .room .now) (omega (arith, c .before .before .before .before .before .pre .1 .1)))
 
-reading-of-requires : tie.Need-reading-of-requires
-reading-of-requires c κs =
+labelled-of-requires : tie.Need-labelled-of-requires
+labelled-of-requires c κs =
     let s = c .before .before .before .before .before .before in
     let a = s .args in
     let front : length (take (a .at) (a .room .now)) ≡ a .at = length-take-le (a .at) (a .room .now) (omega (arith, s .pre .1 .1)) in
@@ -27,20 +27,20 @@ returns : tie.Need-returns
 returns c =
     let a = c .before .before .before .before .before .before .before .args in
     let e : a .terms + a .at - a .terms ≡ a .at = omega arith in
-    c .reading-of .ensures
-    ∙ ap (λ (n : ℕ). readingOf (a .table .now) ownMarks (a .values .now) (take (a .at) (a .room .now)) (take n (drop (a .terms) (a .room .now))) (c .before .before .before .term-at .result) (a .answer)) e
-    ∙ ap (λ (x : Term). readingOf (a .table .now) ownMarks (a .values .now) (take (a .at) (a .room .now)) (take (a .at) (drop (a .terms) (a .room .now))) x (a .answer)) (c .before .before .before .term-at .ensures)
+    c .labelled-of .ensures
+    ∙ ap (λ (n : ℕ). labelledOf (a .table .now) ownMarks (a .values .now) (take (a .at) (a .room .now)) (take n (drop (a .terms) (a .room .now))) (c .before .before .before .term-at .result) (a .answer)) e
+    ∙ ap (λ (x : Term). labelledOf (a .table .now) ownMarks (a .values .now) (take (a .at) (a .room .now)) (take (a .at) (drop (a .terms) (a .room .now))) x (a .answer)) (c .before .before .before .term-at .ensures)
 
-pub reading-here-spec : {M : Type 1} → statement M
-reading-here-spec =
+pub labelled-here-spec : {M : Type 1} → statement M
+labelled-here-spec =
     tie.close
     (tie.spec
     (λ c. search needs)
     (λ c κs. search needs)
-    slice-aggregate-reading-of
+    slice-aggregate-labelled-of
     (λ c. search needs)
     (λ c. search needs)
     (λ c. search needs)
     (λ c. search needs)
-    reading-of-requires
+    labelled-of-requires
     returns)

@@ -1,6 +1,6 @@
 use borrow.Author.Needs.{needs}
-use Rattle.hiranthok.proofs.replies.judged.Statement.{statement}
-use Rattle.hiranthok.proofs.replies.judged.Tie as tie
+use Rattle.hiranthok.proofs.replies.judgement_reply.Statement.{statement}
+use Rattle.hiranthok.proofs.replies.judgement_reply.Tie as tie
 
 returns : tie.Need-returns
 returns c = rw (c .results .ensures, c .before .bit2 .ensures, c .before .before .bit .ensures, c .before .before .before .before .answer .given .1)
@@ -8,8 +8,8 @@ returns c = rw (c .results .ensures, c .before .bit2 .ensures, c .before .before
 returns-2 : tie.Need-returns-2
 returns-2 c = rw (c .refusal .ensures, c .before .before .answer2 .given .1)
 
-pub judged-spec : {M : Type 1} → statement M
-judged-spec =
+pub judgement-reply-spec : {M : Type 1} → statement M
+judgement-reply-spec =
     tie.close
     (tie.spec
     (λ c. search needs)

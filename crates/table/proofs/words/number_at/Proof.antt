@@ -1,8 +1,8 @@
 use lib.ListN.{List·getD-eq-default}
 use mathlib.Core.Path.{sym}
 use borrow.Author.Needs.{needs}
-use Rattle.setting.proofs.variables.number_at.Statement.{statement}
-use Rattle.setting.proofs.variables.number_at.Tie as tie
+use Rattle.table.proofs.words.number_at.Statement.{statement}
+use Rattle.table.proofs.words.number_at.Tie as tie
 
 returns-2 : tie.Need-returns-2
 returns-2 c = sym (List·getD-eq-default (c .before .args .row .now) 0 (c .if1 .left))

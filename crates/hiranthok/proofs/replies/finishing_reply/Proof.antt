@@ -1,6 +1,6 @@
 use borrow.Author.Needs.{needs}
-use Rattle.hiranthok.proofs.replies.finished.Statement.{statement}
-use Rattle.hiranthok.proofs.replies.finished.Tie as tie
+use Rattle.hiranthok.proofs.replies.finishing_reply.Statement.{statement}
+use Rattle.hiranthok.proofs.replies.finishing_reply.Tie as tie
 
 returns : tie.Need-returns
 returns c = rw (c .results .ensures, c .before .before .before .before .before .answer .given .1)
@@ -8,8 +8,8 @@ returns c = rw (c .results .ensures, c .before .before .before .before .before .
 returns-2 : tie.Need-returns-2
 returns-2 c = rw (c .refusal .ensures, c .before .before .answer2 .given .1)
 
-pub finished-spec : {M : Type 1} → statement M
-finished-spec =
+pub finishing-reply-spec : {M : Type 1} → statement M
+finishing-reply-spec =
     tie.close
     (tie.spec
     (λ c. search needs)

@@ -9,14 +9,15 @@ use lib.Seq.{length-take-le}
 use borrow.Author.Needs.{needs}
 use Rattle.table.specs.declared.words.Term.{Term}
 use Rattle.table.specs.Terms.{terms, termAt}
-use Rattle.table.specs.Faults.{reading, firstFrom}
-use Rattle.evaluate.specs.Code.Turns.{turnOf, numberOf, onFrom, readingAt, numbered}
+use Rattle.table.specs.Faults.{isRead}
+use Rattle.table.specs.Folds.{firstFrom}
+use Rattle.evaluate.specs.Code.Turns.{turnOf, numberOf, onFrom, isReadAt, numbered}
 use Rattle.evaluate.proofs.Onward.{Going, set-out, go-on, stopped, passed}
-use Rattle.evaluate.proofs.turns.on.Statement.{statement}
-use Rattle.evaluate.proofs.turns.on.Tie as tie
+use Rattle.evaluate.proofs.turns.advance.Statement.{statement}
+use Rattle.evaluate.proofs.turns.advance.Tie as tie
 
 abbrev Inv-loop : tie.InvT-loop
-Inv-loop table values count terms work₀ at i₀ work i = Going (readingAt table) (numbered table values 0) terms at work₀ i work × (length work ≡ length work₀)
+Inv-loop table values count terms work₀ at i₀ work i = Going (isReadAt table) (numbered table values 0) terms at work₀ i work × (length work ≡ length work₀)
 
 abbrev μ-loop : tie.MeasureT-loop
 μ-loop table values count terms work₀ at i₀ work i = terms - i
@@ -24,7 +25,7 @@ abbrev μ-loop : tie.MeasureT-loop
 loop-holds : tie.Need-loop-holds Inv-loop μ-loop
 loop-holds c =
     let s = c .before .before .before in
-    (set-out (readingAt (s .args .table .now)) (numbered (s .args .table .now) (s .args .values .now) 0) (s .args .terms) (s .args .at) (s .args .work .now) (s .pre .1 .1 .0), refl)
+    (set-out (isReadAt (s .args .table .now)) (numbered (s .args .table .now) (s .args .values .now) 0) (s .args .terms) (s .args .at) (s .args .work .now) (s .pre .1 .1 .0), refl)
 
 slice-reshare-prefix-number : tie.Need-slice-reshare-prefix-number Inv-loop μ-loop
 slice-reshare-prefix-number c = omega (arith, c .before .before .before .before .loop .inv .1, c .before .before .before .before .before .before .before .before .pre .1 .1 .1, c .before .before .before .loop-test .taken)
@@ -53,11 +54,11 @@ loop-again c =
     let a = c .before .before .before .before .before .before .before .before .before .before .args in
     let l = c .before .before .before .before .before .before .loop in
     let x = c .before .before .before .before .term-at in
-    let plain : readingAt (a .table .now) (l .i) ≡ false = sym (c .before .before .before .reading .ensures ∙ ap reading (x .ensures)) ∙ c .before .before .if1 .left in
+    let plain : isReadAt (a .table .now) (l .i) ≡ false = sym (c .before .before .before .is-read .ensures ∙ ap isRead (x .ensures)) ∙ c .before .before .if1 .left in
     let wrote : set (l .work) (l .i) (c .number .result) ≡ numbered (a .table .now) (a .values .now) 0 (l .work) (l .i) =
     ap (set (l .work) (l .i)) (c .number .ensures ∙ ap (λ (y : Term). numberOf (a .table .now) (a .values .now) (take (l .i) (l .work)) y 0) (x .ensures)) in (
-      subst (Going (readingAt (a .table .now)) (numbered (a .table .now) (a .values .now) 0) (a .terms) (a .at) (a .work .now) _) (sym wrote)
-          (go-on (readingAt (a .table .now)) (numbered (a .table .now) (a .values .now) 0) (a .terms) (a .at) (a .work .now) (l .i) (l .work) (l .inv .0) (c .before .before .before .before .before .loop-test .taken) plain),
+      subst (Going (isReadAt (a .table .now)) (numbered (a .table .now) (a .values .now) 0) (a .terms) (a .at) (a .work .now) _) (sym wrote)
+          (go-on (isReadAt (a .table .now)) (numbered (a .table .now) (a .values .now) 0) (a .terms) (a .at) (a .work .now) (l .i) (l .work) (l .inv .0) (c .before .before .before .before .before .loop-test .taken) plain),
       length-set (l .work) (l .i) (c .number .result) ∙ l .inv .1,
     )
 
@@ -65,14 +66,14 @@ loop-again c =
 arrives : (c : tie.Left-loop Inv-loop μ-loop) →
     let a = c .before .before .before .before .before .args in
     let l = c .before .loop in
-    (l .i ≡ firstFrom (readingAt (a .table .now)) (a .terms - a .at) (a .at)) × (l .work ≡ onFrom (readingAt (a .table .now)) (numbered (a .table .now) (a .values .now) 0) (a .terms - a .at) (a .work .now) (a .at))
+    (l .i ≡ firstFrom (isReadAt (a .table .now)) (a .terms - a .at) (a .at)) × (l .work ≡ onFrom (isReadAt (a .table .now)) (numbered (a .table .now) (a .values .now) 0) (a .terms - a .at) (a .work .now) (a .at))
 arrives c =
     let a = c .before .before .before .before .before .args in
     let l = c .before .loop in
     ⊎-elim
-    (λ e. passed (readingAt (a .table .now)) (numbered (a .table .now) (a .values .now) 0) (a .terms) (a .at) (a .work .now) (l .i) (l .work) (l .inv .0) (e .left))
-    (λ e. stopped (readingAt (a .table .now)) (numbered (a .table .now) (a .values .now) 0) (a .terms) (a .at) (a .work .now) (l .i) (l .work) (l .inv .0) (e .0 .taken)
-    (sym (e .2 .ensures ∙ ap reading (e .1 .ensures)) ∙ e .3 .taken))
+    (λ e. passed (isReadAt (a .table .now)) (numbered (a .table .now) (a .values .now) 0) (a .terms) (a .at) (a .work .now) (l .i) (l .work) (l .inv .0) (e .left))
+    (λ e. stopped (isReadAt (a .table .now)) (numbered (a .table .now) (a .values .now) 0) (a .terms) (a .at) (a .work .now) (l .i) (l .work) (l .inv .0) (e .0 .taken)
+    (sym (e .2 .ensures ∙ ap isRead (e .1 .ensures)) ∙ e .3 .taken))
     (c .loop-test .came)
 
 slice-reshare-prefix-turn-at : tie.Need-slice-reshare-prefix-turn-at Inv-loop μ-loop
@@ -97,8 +98,8 @@ returns c =
       there .1,
     )
 
-pub on-spec : {M : Type 1} → statement M
-on-spec =
+pub advance-spec : {M : Type 1} → statement M
+advance-spec =
     tie.close
     (tie.spec
     Inv-loop

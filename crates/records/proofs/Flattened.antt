@@ -14,19 +14,19 @@ use Rattle.evaluate.proofs.UnusedSlots.{unused-unevaluated}
 use Rattle.judge.specs.Conditions.{ownMarks}
 use Rattle.judge.specs.Judgement as judges
 use Rattle.judge.proofs.Answers.{unused-unjudged}
-use Rattle.records.specs.Rows.{recordAt, look, laid}
+use Rattle.records.specs.Rows.{recordAt, look, flattened}
 use Rattle.records.specs.Answers.{check, inRecords, evaluation, judgement}
 use Rattle.records.specs.Laws.{EqualAnswers, WholeRowsAreLaid, UnusedUnseen}
 
 -- Of the cells laid flat: three numbers a cell
-laid-length : (cells : List Cell) → length (laid cells) ≡ length cells * 3
-unfolding laid
+laid-length : (cells : List Cell) → length (flattened cells) ≡ length cells * 3
+unfolding flattened
 laid-length [] = refl
-laid-length (c ∷ cells) = let e : length (laid cells) ≡ length cells * 3 = laid-length cells in omega arith
+laid-length (c ∷ cells) = let e : length (flattened cells) ≡ length cells * 3 = laid-length cells in omega arith
 
 -- cell k is that of the records, past the end too
-laid-cell : (cells : List Cell) (k : ℕ) → flat.cellAt (laid cells) k ≡ recordAt cells k
-unfolding laid
+laid-cell : (cells : List Cell) (k : ℕ) → flat.cellAt (flattened cells) k ≡ recordAt cells k
+unfolding flattened
 laid-cell [] k = refl
 laid-cell (c ∷ cells) zero = refl
 laid-cell (c ∷ cells) (suc k) =
@@ -36,30 +36,30 @@ laid-cell (c ∷ cells) (suc k) =
     rw (value, index, slot) (laid-cell cells k)
 
 module _ (cells : List Cell) where
-  laid-count : flat.cellCount (laid cells) ≡ length cells
-  laid-count = let e : length (laid cells) ≡ length cells * 3 = laid-length cells in omega arith
+  laid-count : flat.cellCount (flattened cells) ≡ length cells
+  laid-count = let e : length (flattened cells) ≡ length cells * 3 = laid-length cells in omega arith
 
-  laid-cells : flat.cellAt (laid cells) ≡ recordAt cells
+  laid-cells : flat.cellAt (flattened cells) ≡ recordAt cells
   laid-cells = λ i k. laid-cell cells k i
 
-  laid-whole : length (laid cells) % 3 ≡ 0
-  laid-whole = let e : length (laid cells) ≡ length cells * 3 = laid-length cells in omega arith
+  laid-whole : length (flattened cells) % 3 ≡ 0
+  laid-whole = let e : length (flattened cells) ≡ length cells * 3 = laid-length cells in omega arith
 
-  pub laid-look : flat.look (laid cells) ≡ look cells
+  pub laid-look : flat.look (flattened cells) ≡ look cells
   laid-look = λ i. flat.lookFrom (laid-cells i) (laid-count i) 0
 
-  pub laid-interpret : (values : List ℕ) → interpret values (flat.look (laid cells)) ≡ inRecords values cells
+  pub laid-interpret : (values : List ℕ) → interpret values (flat.look (flattened cells)) ≡ inRecords values cells
   laid-interpret values = ap (interpret values) laid-look
 
-  pub laid-check : (w values : List ℕ) → checks.check w values (laid cells) ≡ check w values cells
+  pub laid-check : (w values : List ℕ) → checks.check w values (flattened cells) ≡ check w values cells
   unfolding checks.check
   laid-check w values = rw laid-whole (λ i. checks.checkCells w values (laid-cells i) (laid-count i))
 
 module _ (w values : List ℕ) (cells : List Cell) (allowance : ℕ) where
-  pub equal-evaluation : (room : ℕ) → evaluation w values cells allowance room ≡ evaluates.evaluation w values (laid cells) allowance room
+  pub equal-evaluation : (room : ℕ) → evaluation w values cells allowance room ≡ evaluates.evaluation w values (flattened cells) allowance room
   equal-evaluation room = ap (λ c. evaluates.readyBy 80000 w c 1 allowance room) (sym (laid-check cells w values))
 
-  pub equal-judgement : (room : ℕ) → judgement w values cells allowance room ≡ judges.judgement w values (laid cells) allowance room
+  pub equal-judgement : (room : ℕ) → judgement w values cells allowance room ≡ judges.judgement w values (flattened cells) allowance room
   equal-judgement room =
       ap₂ (λ c I. judges.verdict (evaluates.readyBy 512 w c 2 allowance room) w ownMarks I) (sym (laid-check cells w values)) (sym (laid-interpret cells values))
 
@@ -78,7 +78,7 @@ equal-answers w values cells allowance room =
 -- Each row of whole cells is that of some records
 
 pub whole-rows-are-laid : WholeRowsAreLaid
-unfolding laid
+unfolding flattened
 whole-rows-are-laid [] h = record { records = []; is = refl }
 whole-rows-are-laid (a ∷ []) h = absurd (omega arith)
 whole-rows-are-laid (a ∷ b ∷ []) h = absurd (omega arith)
@@ -92,8 +92,8 @@ pub unused-unseen : UnusedUnseen
 unused-unseen w values values′ cells allowance room one =
     let laid-first = equal-answers w values cells allowance room in
     let laid-second = equal-answers w values′ cells allowance room in
-    let evaluation = unused-unevaluated w values values′ (laid cells) allowance room one in
-    let judgement = unused-unjudged w values values′ (laid cells) allowance room one in
+    let evaluation = unused-unevaluated w values values′ (flattened cells) allowance room one in
+    let judgement = unused-unjudged w values values′ (flattened cells) allowance room one in
     record {
       answer = laid-first .answer ∙ evaluation .answer ∙ sym (laid-second .answer);
       answer-room = laid-first .answer-room ∙ evaluation .left ∙ sym (laid-second .answer-room);

@@ -12,7 +12,7 @@ use table::sorted;
 use table::term_at;
 use table::term_in;
 
-// The stores from term k inward, counted up to 17.
+// The stores from term `k` inward, counted up to 17.
 pub fn chain(table: &[u32], k: u32) -> u32
     ensures { λ r. ⌜ r ≡ size (now (table .entry)) k ⌝ }
 {
@@ -36,7 +36,7 @@ fn known(x: Term) -> bool
     x.op <= 16
 }
 
-// 9: at most 16 stores from term i, x, inward. Only a store has any.
+// 9: at most 16 stores from term `i`, `x`, inward. Only a store has any.
 fn short(table: &[u32], i: u32, x: Term) -> bool
     requires { ⌜ x ≡ termAt (now table) i ⌝ }
     ensures { λ r. ⌜ r ≡ leb (size (now (table .entry)) i) 16 ⌝ }
@@ -47,7 +47,7 @@ fn short(table: &[u32], i: u32, x: Term) -> bool
     chain(table, i) <= 16
 }
 
-// The lowest number, 3 to 9, that refuses term i, and 0 where none does; whether it clashes is known.
+// The lowest number, 3 to 9, that refuses term `i`, and 0 where none does; whether it clashes is known.
 pub fn fault(table: &[u32], i: u32, clashing: bool) -> u32
     requires { ⌜ HasTerm (now table) i ⌝ }
     ensures { λ r. ⌜ r ≡ faultIf (now (table .entry)) i clashing ⌝ }

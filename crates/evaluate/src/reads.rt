@@ -10,8 +10,8 @@ pub struct Found {
     pub number: u32,
 }
 
-// What the array term a holds at index j, the outermost store first; where its index differs, the same question goes
-// to the array beneath.
+// What the array term `a` holds at index `j`, the outermost store first; where its index differs, the same question
+// goes to the array beneath.
 pub fn find(table: &[u32], front: &[u32], a: u32, j: u32) -> Found
     requires { ⌜ WellFormed 80000 (now table) ⌝ }
     ensures { λ r. ⌜ r ≡ foundAt (now (table .entry)) (now (front .entry)) a j ⌝ }
@@ -32,7 +32,7 @@ pub fn find(table: &[u32], front: &[u32], a: u32, j: u32) -> Found
     find(table, front, x.p, j)
 }
 
-// The slot of the variable beneath the stores of the array term a.
+// The slot of the variable beneath the stores of the array term `a`.
 pub fn bottom(table: &[u32], a: u32) -> u32
     requires { ⌜ WellFormed 80000 (now table) ⌝ }
     ensures { λ r. ⌜ r ≡ bottomAt (now (table .entry)) a ⌝ }

@@ -34,7 +34,7 @@ fn told(pending: bool, at: u32, other: u32) -> Turn
     }
 }
 
-// What term at asks: of a read its value, which only a variable's cell is sought for.
+// What term `at` asks: of a read its value, which only a variable's cell is sought for.
 pub fn turn_at(
     table: &[u32],
     values: &[u32],

@@ -67,21 +67,21 @@ pub fn less_term(p: u32, q: u32) -> Term
     bool_term(14, p, q, 0)
 }
 
-// Of width n, which is 0 for a Boolean.
+// Of width `n`, which is 0 for a Boolean.
 pub fn constant_term(n: u32, value: u32) -> Term
     ensures { λ t. ⌜ t ≡ constantT n value ⌝ }
 {
     vector_term(0, n, value, 0)
 }
 
-// Of width n: array p at index q.
+// Of width `n`: array `p` at index `q`.
 pub fn read_term(n: u32, p: u32, q: u32) -> Term
     ensures { λ t. ⌜ t ≡ readT n p q ⌝ }
 {
     vector_term(15, n, p, q)
 }
 
-// Written as term k.
+// Written as term `k`.
 pub fn put_and(room: &mut [u32], k: u32, p: u32, q: u32)
     ensures { λ _. ⌜ now (room .exit) ≡ placed (now (room .entry)) k (andT p q) ⌝ }
 {

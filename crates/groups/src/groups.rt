@@ -23,7 +23,7 @@ pub struct Written {
     pub next: u32,
 }
 
-// After a group of so many terms from b on: its last is the condition.
+// After a group of so many terms from `b` on: its last is the condition.
 fn grown(b: u32, size: u32) -> Written
     requires { ⌜ (b ≤ 80000) × ((0 < size) × (size ≤ 9)) ⌝ }
     ensures { λ r. ⌜ r ≡ record { condition = b + pred size; next = b + size } ⌝ }
@@ -34,7 +34,7 @@ fn grown(b: u32, size: u32) -> Written
     }
 }
 
-// Two terms of a group that starts at b: its terms i and i + 1.
+// Two terms of a group that starts at `b`: its terms `i` and `i` + 1.
 fn lay_two(room: &mut [u32], b: u32, i: u32, x: Term, y: Term)
     requires { ⌜ (b ≤ 80000) × (i ≤ 9) ⌝ }
     ensures { λ _. ⌜ now (room .exit) ≡ placedFrom (now (room .entry)) b i (x ∷ y ∷ []) ⌝ }
@@ -43,7 +43,7 @@ fn lay_two(room: &mut [u32], b: u32, i: u32, x: Term, y: Term)
     put(room, b + (i + 1), y);
 }
 
-// Three terms: i, i + 1 and i + 2.
+// Three terms: `i`, `i` + 1 and `i` + 2.
 fn lay_three(room: &mut [u32], b: u32, i: u32, x: Term, y: Term, z: Term)
     requires { ⌜ (b ≤ 80000) × (i ≤ 8) ⌝ }
     ensures { λ _. ⌜ now (room .exit) ≡ placedFrom (now (room .entry)) b i (x ∷ y ∷ z ∷ []) ⌝ }
@@ -107,7 +107,7 @@ pub fn implication(room: &mut [u32], b: u32, p: u32, q: u32, cp: u32, cq: u32) -
     grown(b, 6)
 }
 
-// Vector and, product, vector or: value is the constant of width n that settles.
+// Vector and, product, vector or: value is the constant of width `n` that settles.
 pub fn absorbing(
     room: &mut [u32],
     b: u32,
@@ -199,7 +199,7 @@ pub fn choice(
     grown(b, 6)
 }
 
-// A store of e at i over array a, of width n, read at j; d is the D beneath it.
+// A store of `e` at `i` over array `a`, of width `n`, read at `j`; `d` is the D beneath it.
 pub fn store(
     room: &mut [u32],
     b: u32,

@@ -11,7 +11,7 @@ use crate::groups::store;
 use crate::groups::strict;
 use table::number_at;
 
-// The group of a read of array a at index j, whose condition is cj, from number b on.
+// The group of a read of array `a` at index `j`, whose condition is `cj`, from number `b` on.
 pub fn read_group(
     table: &[u32],
     conditions: &[u32],

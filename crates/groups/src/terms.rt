@@ -22,7 +22,7 @@ use crate::reads::read_group;
 use table::Term;
 use table::number_at;
 
-// Nothing added before number b: C(t) is the term of this number.
+// Nothing added before number `b`: C(t) is the term of this number.
 fn taken(c: u32, b: u32) -> Written
     ensures { λ r. ⌜ r ≡ record { condition = c; next = b } ⌝ }
 {
@@ -40,7 +40,7 @@ fn input(x: Term, yes: u32) -> u32
     if x.q == 1 { yes + 1 } else { yes }
 }
 
-// The group of term i, from number b on; conditions has the numbers of the conditions before it.
+// The group of term `i`, from number `b` on; conditions has the numbers of the conditions before it.
 pub fn write_group(
     table: &[u32],
     conditions: &[u32],

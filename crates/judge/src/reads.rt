@@ -19,7 +19,7 @@ pub fn truth_at(truths: &[u32], k: u32) -> bool
     number_at(truths, k) == 1
 }
 
-// A store over what is read beneath it, at index j whose condition is cj.
+// A store over what is read beneath it, at index `j` whose condition is `cj`.
 fn overlay(front: &[u32], truths: &[u32], x: Term, j: u32, cj: bool, below: Labelled) -> Labelled
     ensures { λ r. ⌜ r ≡ overlaid (now (front .entry)) (now (truths .entry)) x j cj below ⌝ }
 {
@@ -75,7 +75,7 @@ fn unfree(table: &[u32], front: &[u32], a: u32, j: u32, cell: u32) -> Labelled
     }
 }
 
-// The read of the array term a at index j, whose condition is cj, the outermost store first; cell is that of the
+// The read of the array term `a` at index `j`, whose condition is `cj`, the outermost store first; cell is that of the
 // variable beneath the stores. Below a store that is picked nothing counts, below one that is shut values alone.
 pub fn read(
     table: &[u32],

@@ -115,7 +115,7 @@ fn labelled_here(
     labelled_of(table, values, &room[..end], &room[start..last], x, answer)
 }
 
-// Writes value and truth of term at.
+// Writes value and truth of term `at`.
 fn note(work: &mut [u32], terms: u32, at: u32, r: Labelled)
     requires { ⌜ (at < terms) × (terms + terms ≤ length (now work)) ⌝ }
     ensures { λ _. ⌜ now (work .exit) ≡ entered r terms (now (work .entry)) at ⌝ }

@@ -67,14 +67,14 @@ pub fn bit(b: bool) -> u32
     if b { 1 } else { 0 }
 }
 
-// v modulo 2^n.
+// `v` modulo 2^`n`.
 fn reduce(n: u32, v: u32) -> u32
     ensures { λ r. ⌜ r ≡ v % 2 ^ n ⌝ }
 {
     if n < 32 { v % (1u32 << n) } else { v }
 }
 
-// The vector of n ones.
+// The vector of `n` ones.
 pub fn ones(n: u32) -> u32
     requires { ⌜ n ≤ 32 ⌝ }
     ensures { λ r. ⌜ r ≡ 2 ^ n - 1 ⌝ }
@@ -82,7 +82,7 @@ pub fn ones(n: u32) -> u32
     if n < 32 { (1u32 << n) - 1 } else { 4294967295 }
 }
 
-// Whether x is the vector of n ones; over 32 it is none.
+// Whether `x` is the vector of `n` ones; over 32 it is none.
 fn all_ones(n: u32, x: u32) -> bool
     ensures { λ r. ⌜ r ≡ eqb x (2 ^ n - 1) ⌝ }
 {
@@ -226,7 +226,7 @@ pub fn settles(op: Op, n: u32, x: u32, y: u32, z: u32, c: bool, d: bool, e: bool
     }
 }
 
-// Whether v fits width n, which is 0 for a Boolean.
+// Whether `v` fits width `n`, which is 0 for a Boolean.
 pub fn fits(n: u32, v: u32) -> bool
     ensures { λ r. ⌜ r ≡ fits n v ⌝ }
 {

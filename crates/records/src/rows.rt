@@ -7,7 +7,7 @@ ghost use Rattle.setting.specs.Cells.{matches, lookFrom};
 ghost use Rattle.records.specs.Rows.{recordAt};
 use setting::Cell;
 
-// Cell k of a row.
+// Cell `k` of a row.
 pub fn record_at(cells: &[Cell], k: usize) -> Cell
     requires { ⌜ k < length (now cells) ⌝ }
     ensures { λ r. ⌜ r ≡ recordAt (now (cells .entry)) k ⌝ }

@@ -21,7 +21,7 @@ pub struct Cell {
     pub value: u32,
 }
 
-// Cell k of a row of numbers.
+// Cell `k` of a row of numbers.
 fn cell_at(cells: &[u32], k: usize) -> Cell
     requires { ⌜ k * 3 + 3 ≤ length (now cells) ⌝ }
     ensures { λ r. ⌜ r ≡ cellAt (now (cells .entry)) k ⌝ }
@@ -64,7 +64,7 @@ fn cell_fault(table: &[u32], entries: &[u32; 256], c: Cell) -> u32
     refuse_unless(14, table::array(sort), refuse_unless(15, fitting, 0))
 }
 
-// Cell k is checked before the rest.
+// Cell `k` is checked before the rest.
 pub fn checked_cell(
     table: &[u32],
     entries: &[u32; 256],

@@ -16,14 +16,14 @@ use crate::sorts::vector_of;
 use crate::words::Term;
 use crate::words::sort_in;
 
-// number unless ok, else rest.
+// number unless `ok`, else rest.
 pub fn refuse_unless(number: u32, ok: bool, rest: u32) -> u32
     ensures { λ r. ⌜ r ≡ refuseUnless number ok rest ⌝ }
 {
     if ok { rest } else { number }
 }
 
-// One operand below term i, no other field.
+// One operand below term `i`, no other field.
 fn one(i: u32, x: Term) -> bool
     ensures { λ r. ⌜ r ≡ placedAs One i x ⌝ }
 {
@@ -182,7 +182,7 @@ fn write_fault(table: &[u32], i: u32, x: Term) -> u32
     )
 }
 
-// The lowest of 5 to 7 that refuses term i, x, of this rank, and 0 where none does.
+// The lowest of 5 to 7 that refuses term `i`, `x`, of this rank, and 0 where none does.
 pub fn rank_fault(table: &[u32], rank: Rank, i: u32, x: Term) -> u32
     requires { ⌜ HasTerm (now table) i ⌝ }
     ensures { λ r. ⌜ r ≡ rankFault (now (table .entry)) rank i x ⌝ }

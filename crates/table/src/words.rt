@@ -29,7 +29,7 @@ pub fn number_at(row: &[u32], k: u32) -> u32
     if at < row.len() { row[at] } else { 0 }
 }
 
-// Number j of term k, 0 past the table's end.
+// Number `j` of term `k`, 0 past the table's end.
 fn word(table: &[u32], k: u32, j: u32) -> u32
     ensures { λ r. ⌜ r ≡ wordAt (now (table .entry)) k j ⌝ }
 {
@@ -37,7 +37,7 @@ fn word(table: &[u32], k: u32, j: u32) -> u32
     if at < table.len() { table[at] } else { 0 }
 }
 
-// The sort of term k, which the table has.
+// The sort of term `k`, which the table has.
 pub fn sort_in(table: &[u32], k: u32) -> Sort
     requires { ⌜ HasSort (now table) k ⌝ }
     ensures { λ r. ⌜ r ≡ sortAt (now (table .entry)) k ⌝ }
@@ -49,7 +49,7 @@ pub fn sort_in(table: &[u32], k: u32) -> Sort
     }
 }
 
-// Term k, which the table has whole.
+// Term `k`, which the table has whole.
 pub fn term_in(table: &[u32], k: u32) -> Term
     requires { ⌜ HasTerm (now table) k ⌝ }
     ensures { λ r. ⌜ r ≡ termAt (now (table .entry)) k ⌝ }
@@ -67,7 +67,7 @@ pub fn term_in(table: &[u32], k: u32) -> Term
     }
 }
 
-// The sort of term k, 0 for each number past the table's end.
+// The sort of term `k`, 0 for each number past the table's end.
 pub fn sort_at(table: &[u32], k: u32) -> Sort
     ensures { λ r. ⌜ r ≡ sortAt (now (table .entry)) k ⌝ }
 {
@@ -80,7 +80,7 @@ pub fn sort_at(table: &[u32], k: u32) -> Sort
     }
 }
 
-// Term k, likewise.
+// Term `k`, likewise.
 pub fn term_at(table: &[u32], k: u32) -> Term
     ensures { λ r. ⌜ r ≡ termAt (now (table .entry)) k ⌝ }
 {
@@ -96,7 +96,7 @@ pub fn term_at(table: &[u32], k: u32) -> Term
     }
 }
 
-// Writes term k of a table: op, m, n, p, q, r. Past the table's end nothing is written.
+// Writes term `k` of a table: op, m, n, p, q, r. Past the table's end nothing is written.
 pub fn put(table: &mut [u32], k: u32, x: Term)
     ensures { λ _. ⌜ now (table .exit) ≡ placed (now (table .entry)) k x ⌝ }
 {

@@ -1,7 +1,7 @@
 -- What a test of a byte and a number shows.
 -- Assumes nothing.
 use mathlib.Core.Path.{_≡_, sym, ap, _∙_}
-use mathlib.Core.Bool.{Bool, true, false, cond, _&&_}
+use mathlib.Core.Bool.{Bool, true, _&&_}
 use Prim.Native.Nat.{ℕ, _≤_, _<_}
 use lib.Dec.{leb, ltb}
 use borrow.Author.Tests.{leb-true, ltb-true}
@@ -16,7 +16,3 @@ between low high b n m p =
     let h = and-parts (leb low b && leb b high) (ltb n m) p in
     let g = and-parts (leb low b) (leb b high) (h .0) in
     (leb-true low b (g .0), leb-true b high (g .1), ltb-true n m (h .1))
-
-pub cond-within : (t : Bool) (x y k : ℕ) → x ≤ k → y ≤ k → cond t x y ≤ k
-cond-within true x y k a b = a
-cond-within false x y k a b = b

@@ -1,9 +1,10 @@
--- The parts that routines are called with, in one row of numbers. Number k is part k's own; of values (6), cells (7) and
--- table (8) it counts their numbers, which stand further on.
+-- The parts that routines are called with, in one row of numbers. Number k counts part k's numbers, which stand from
+-- 64 * k on. Parts of one number: 1 allowance, 2 room, 3 finished, 4 limit, 5 constants. Parts of more: 6 values,
+-- 7 cells, 8 table.
 -- Assumes nothing.
-use mathlib.Core.Bool.{cond, _&&_}
+use mathlib.Core.Bool.{cond, _&&_, _||_}
 use mathlib.Core.List.{List, []}
-use Prim.Native.Nat.{ℕ, zero, suc, _+_, _-_, _*_}
+use Prim.Native.Nat.{ℕ, _+_, _*_}
 use lib.Dec.{eqb, leb, ltb}
 use lib.ListN.{length, take, drop, getD, set}
 use Rattle.examples.specs.declared.tokens.Token.{Token}
@@ -21,7 +22,7 @@ partOf word =
     (cond (eqb word (spelt "room")) 2
     (cond (eqb word (spelt "finished")) 3
     (cond (eqb word (spelt "limit")) 4
-    (cond (eqb word (spelt "repeat")) 5
+    (cond (eqb word (spelt "constants")) 5
     (cond (eqb word (spelt "values")) 6
     (cond (eqb word (spelt "cells")) 7
     (cond (eqb word (spelt "table")) 8
@@ -33,70 +34,43 @@ partOf word =
     (cond (eqb word (spelt "extent")) 14
     wrong)))))))))))))
 
--- where the numbers of values, cells or table stand, and how many there may be
-abbrev pub rowFrom : ℕ → ℕ
-rowFrom part = cond (eqb part 8) 144 (cond (eqb part 7) 80 16)
+-- the most numbers of a part
+abbrev pub most : ℕ → ℕ
+most part = cond (eqb part 8) 6144 (cond (eqb part 6 || eqb part 7) 64 (cond (eqb part 0 || ltb 8 part) 0 1))
 
-abbrev pub rowMost : ℕ → ℕ
-rowMost part = cond (eqb part 8) 480012 64
+-- so many numbers from a place on; none where there are fewer
+abbrev pub rowOf : List ℕ → ℕ → ℕ → List ℕ
+rowOf ns from count = cond (leb (from + count) (length ns)) (take count (drop from ns)) []
 
-abbrev pub rowOf : List ℕ → ℕ → List ℕ
-rowOf ns part = cond (leb (rowFrom part + getD ns part 0) (length ns)) (take (getD ns part 0) (drop (rowFrom part) ns)) []
+-- the table: its own numbers, or so many constants, six zeros each, where they were given last
+abbrev pub tableOf : List ℕ → List ℕ
+tableOf ns = cond (eqb (getD ns 5 0) 0) (rowOf ns 512 (getD ns 8 0)) (rowOf ns 8192 (getD ns 320 0 * 6))
 
--- a part by its word: wrong before the one number of another part was given
-abbrev pub opened : ℕ → ℕ → ℕ
-opened part next = cond (ltb 0 part && ltb part 6) wrong next
+-- a part by its word: wrong before the one number of another part was given; a table ends the constants
+abbrev pub opened : List ℕ → ℕ → ℕ → ℕ
+opened ns part next = cond ((ltb 0 part && ltb part 6) && eqb (getD ns part 0) 0) wrong next
 
--- one number more of values, cells or table: wrong past the most
+abbrev pub begun : List ℕ → ℕ → List ℕ
+begun ns next = set (set ns (cond (eqb next 8) 5 next) 0) next 0
+
+-- one number more: wrong past the most
 abbrev pub partAdded : List ℕ → ℕ → ℕ
-partAdded ns part = cond (leb (rowMost part) (getD ns part 0)) wrong part
+partAdded ns part = cond (leb (most part) (getD ns part 0)) wrong part
 
 unfoldable pub added : List ℕ → ℕ → ℕ → List ℕ
 added ns part v =
-    cond (leb (rowMost part) (getD ns part 0)) ns
-    (set (set ns (rowFrom part + getD ns part 0) v) part (getD ns part 0 + 1))
-
--- so many numbers of the row, from a place on, added to the table
-unfoldable pub copied : List ℕ → ℕ → ℕ → List ℕ
-copied ns from zero = ns
-copied ns from (suc k) = let before = copied ns from k in added before 8 (getD before (from + k) 0)
-
--- the table's last term so many times more: wrong where there is none, and past the most
-abbrev pub partRepeated : List ℕ → ℕ → ℕ
-partRepeated ns times = cond (ltb (getD ns 8 0) 6) wrong (cond (ltb 480012 (getD ns 8 0 + times * 6)) wrong 8)
-
-abbrev pub repeated : List ℕ → ℕ → List ℕ
-repeated ns times =
-    cond (ltb (getD ns 8 0) 6) ns
-    (cond (ltb 480012 (getD ns 8 0 + times * 6)) ns
-    (copied ns (138 + getD ns 8 0) (times * 6)))
-
--- a number: to a part of one number, which is then complete; to the table by repeating; to values, cells or table
-unfoldable pub partNumbered : List ℕ → ℕ → ℕ → ℕ
-partNumbered ns part v =
-    cond (eqb part 0) wrong
-    (cond (ltb part 5) 0
-    (cond (eqb part 5) (partRepeated ns v)
-    (cond (ltb 8 part) wrong
-    (partAdded ns part))))
-
-unfoldable pub numbered : List ℕ → ℕ → ℕ → List ℕ
-numbered ns part v =
-    cond (eqb part 0) ns
-    (cond (ltb part 5) (set ns part v)
-    (cond (eqb part 5) (repeated ns v)
-    (cond (ltb 8 part) ns
-    (added ns part v))))
+    cond (leb (most part) (getD ns part 0)) ns
+    (set (set ns (part * 64 + getD ns part 0) v) part (getD ns part 0 + 1))
 
 -- a token: the part that the next number goes to, and the row of numbers
 abbrev pub partAfter : List ℕ → ℕ → Token → ℕ
 partAfter ns part Nothing = part
-partAfter ns part (Number v) = cond (ltb v 4294967296) (partNumbered ns part v) wrong
-partAfter ns part (Word w) = opened part (partOf w)
+partAfter ns part (Number v) = cond (ltb v 4294967296) (partAdded ns part) wrong
+partAfter ns part (Word w) = opened ns part (partOf w)
 partAfter ns part Unknown = wrong
 
 abbrev pub after : List ℕ → ℕ → Token → List ℕ
 after ns part Nothing = ns
-after ns part (Number v) = cond (ltb v 4294967296) (numbered ns part v) ns
-after ns part (Word w) = set ns (partOf w) 0
+after ns part (Number v) = cond (ltb v 4294967296) (added ns part v) ns
+after ns part (Word w) = begun ns (partOf w)
 after ns part Unknown = ns

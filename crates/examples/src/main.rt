@@ -1,5 +1,5 @@
-// Runs the worked examples of paper 01, and our own, that standard input describes, and prints a line for each. The file
-// stdin says how they are written; what is printed is held to the file stdout.
+// Runs the worked examples of paper 01, and our own, that standard input describes, and prints a line for each. The
+// file stdin says how they are written; what is printed is held to the file stdout.
 mod parts; // what a routine is called with
 mod routines; // calling a routine, and printing what it answers
 mod shows; // printing answers and rooms

@@ -2,12 +2,12 @@
 ghost use Prim.Native.Nat.{_≤_, min};
 ghost use mathlib.Core.Path.{_≡_};
 ghost use lib.ListN.{length, replicate};
+use crate::parts;
 use crate::parts::ALLOWANCE;
 use crate::parts::CELLS;
 use crate::parts::FINISHED;
 use crate::parts::LIMIT;
 use crate::parts::ROOM;
-use crate::parts::TABLE;
 use crate::parts::VALUES;
 use crate::parts::WRONG;
 use crate::parts::row;
@@ -35,43 +35,18 @@ fn within(count: u32) -> usize
     if count < 256 { count as usize } else { 256 }
 }
 
-fn evaluate_table(table: &[u32], values: &[u32], cells: &[u32], allowance: u64, room: &mut [u32]) {
+fn evaluate(numbers: &[u32], table: &[u32], room: &mut [u32]) {
+    let values = row(numbers, VALUES);
+    let cells = row(numbers, CELLS);
+    let allowance = number_at(numbers, 64 * ALLOWANCE) as u64;
     show_evaluation(evaluate::evaluate(table, values, cells, allowance, room));
     show_room(room);
 }
 
-// Evaluates what finish leaves of a table in a room.
-fn evaluate_finished(
-    table: &[u32],
-    values: &[u32],
-    cells: &[u32],
-    allowance: u64,
-    finished: &mut [u32],
-    room: &mut [u32],
-) {
-    finish::finish(table, finished);
-    evaluate_table(finished, values, cells, allowance, room);
-}
-
-// Evaluates the table, where no numbers are for the finished one.
-fn evaluate(
-    table: &[u32],
-    values: &[u32],
-    cells: &[u32],
-    allowance: u64,
-    count: u32,
-    room: &mut [u32],
-) {
-    if count == 0 {
-        evaluate_table(table, values, cells, allowance, room);
-        return;
-    }
-    let mut finished = sevens();
-    let lent = within(count);
-    evaluate_finished(table, values, cells, allowance, &mut finished[..lent], room);
-}
-
-fn judge(table: &[u32], values: &[u32], cells: &[u32], allowance: u64, room: &mut [u32]) {
+fn judge(numbers: &[u32], table: &[u32], room: &mut [u32]) {
+    let values = row(numbers, VALUES);
+    let cells = row(numbers, CELLS);
+    let allowance = number_at(numbers, 64 * ALLOWANCE) as u64;
     show_judgement(judge::judge(table, values, cells, allowance, room));
     show_room(room);
 }
@@ -85,38 +60,45 @@ fn finish(table: &[u32], room: &mut [u32], shown: bool) {
 }
 
 // Calls a routine by its number.
-fn call(numbers: &[u32], routine: u32, room: &mut [u32]) {
-    let table = row(numbers, TABLE);
-    let values = row(numbers, VALUES);
-    let cells = row(numbers, CELLS);
-    let allowance = number_at(numbers, ALLOWANCE) as u64;
+fn call(numbers: &[u32], table: &[u32], routine: u32, room: &mut [u32]) {
     match routine {
         9 => show_admission(admission::admit(table)),
-        10 => show_admission(admission::admit_within(table, number_at(numbers, LIMIT))),
-        11 => evaluate(
-            table,
-            values,
-            cells,
-            allowance,
-            number_at(numbers, FINISHED),
-            room,
-        ),
-        12 => judge(table, values, cells, allowance, room),
+        10 => show_admission(admission::admit_within(table, number_at(numbers, 64 * LIMIT))),
+        11 => evaluate(numbers, table, room),
+        12 => judge(numbers, table, room),
         13 => finish(table, room, true),
         _ => finish(table, room, false),
     }
 }
 
+// The same with what finish leaves of the table in a room.
+fn call_finished(numbers: &[u32], routine: u32, finished: &mut [u32], room: &mut [u32]) {
+    finish::finish(parts::table(numbers), finished);
+    call(numbers, finished, routine, room);
+}
+
+// With the table as it is, where no numbers are for the finished one.
+fn call_either(numbers: &[u32], routine: u32, count: u32, room: &mut [u32]) {
+    if count == 0 {
+        call(numbers, parts::table(numbers), routine, room);
+        return;
+    }
+    let mut finished = sevens();
+    let lent = within(count);
+    call_finished(numbers, routine, &mut finished[..lent], room);
+}
+
 // Runs an example and prints its line. A room of more than 256 numbers is wrong.
 pub fn run(numbers: &[u32], routine: u32, name: &[u8]) -> u32 {
-    let length = number_at(numbers, ROOM);
-    if (routine == WRONG) | (256 < length) | (256 < number_at(numbers, FINISHED)) {
+    let length = number_at(numbers, 64 * ROOM);
+    let count = number_at(numbers, 64 * FINISHED);
+    if (routine == WRONG) | (256 < length) | (256 < count) {
         return WRONG;
     }
     let mut room = sevens();
     let lent = within(length);
     say(name);
-    call(numbers, routine, &mut room[..lent]);
+    call_either(numbers, routine, count, &mut room[..lent]);
     say(b"\n");
     0
 }

@@ -1,6 +1,8 @@
 pub mod Operands
-pub mod Chains
-pub mod Blames
+pub mod Sources
 pub mod Ways
+pub mod Repairs
+pub mod Settlers
 pub mod Laws
+pub mod SettlerLaws
 pub mod Bench

@@ -1,29 +1,31 @@
 -- The terms on the way down from the rule: the rule, where it is not free, and what each term on the way blames.
 -- Assumes nothing.
 use mathlib.Core.Bool.{Bool, cond, not, _&&_}
-use mathlib.Core.List.{List}
+use mathlib.Core.List.{List, [], _∷_}
 use Prim.Native.Nat.{ℕ, zero, suc, pred}
 use lib.Dec.{ltb}
 use lib.ListN.{getD, set, replicate}
 use Rattle.ops.specs.Meaning.{holds}
+use Rattle.table.specs.Terms.{termAt}
 use Rattle.judge.specs.Code.Labelled.{truthIn}
-use Rattle.explain.specs.declared.answers.Blame.{Blame}
-use Rattle.explain.specs.Blames.{blameAt}
+use Rattle.explain.specs.declared.answers.Source.{Source}
+use Rattle.explain.specs.Sources.{termOf, support}
 
--- term k is marked, where on
+-- number k of a row is marked, where on; past its end none is
 abbrev pub marked : Bool → ℕ → List ℕ → List ℕ
-marked on k marks = cond (on && ltb k 512) (set marks k 1) marks
+marked on k row = cond on (set row k 1) row
 
 abbrev pub onWay : List ℕ → ℕ → Bool
-onWay marks k = ltb k 512 && holds (getD marks k 0)
+onWay marks k = holds (getD marks k 0)
 
--- the terms of a blame are marked, where on
-abbrev pub blamed : Bool → Blame → List ℕ → List ℕ
-blamed on b marks = marked (on && ltb 1 (b .count)) (b .second) (marked (on && ltb 0 (b .count)) (b .first) marks)
+-- of some sources those that are not free are marked
+unfoldable pub blamed : List ℕ → List Source → List ℕ → List ℕ
+blamed truths [] marks = marks
+blamed truths (s ∷ rest) marks = blamed truths rest (marked (not (truthIn truths (termOf s))) (termOf s) marks)
 
 -- what term k blames is marked, where it is on the way
 unfoldable pub lookedAt : List ℕ → List ℕ → List ℕ → ℕ → List ℕ → List ℕ
-lookedAt w values truths k marks = blamed (onWay marks k) (blameAt w values truths k) marks
+lookedAt w values truths k marks = cond (onWay marks k) (blamed truths (support w values (termAt w k)) marks) marks
 
 -- so for the terms below k, the highest first
 unfoldable pub wayDown : List ℕ → List ℕ → List ℕ → ℕ → List ℕ → List ℕ

@@ -1,4 +1,4 @@
-// What is answered of a read and of a term.
+// What is answered of a term.
 
 // A store, and its index or value.
 pub struct Held {
@@ -6,17 +6,40 @@ pub struct Held {
     pub term: u32,
 }
 
-// The index of a store, which is not free; the value that a store holds at the read's index; the array at the chain's
-// end.
-pub enum Culprit {
-    Index(Held),
-    Stored(Held),
-    Variable(u32),
-}
-
-// So many terms, 0 to 2: first and second, 0 where there is none.
-pub struct Blame {
-    pub count: u32,
+// Two terms.
+pub struct Pair {
     pub first: u32,
     pub second: u32,
+}
+
+// One thing that a term's value comes from: none; an operand of its own; of a read also the index of a store, the
+// value that a store holds, the array at the chain's end.
+pub enum Source {
+    Nothing,
+    Operand(u32),
+    Index(Held),
+    Stored(Held),
+    Array(u32),
+}
+
+// A term by its operands: none to look at, one, two; a test and two branches; an array and an index.
+pub enum Shape {
+    Leaf,
+    Unary,
+    Binary,
+    Branches,
+    Cell,
+}
+
+// What settled a term that is free though an operand is not: nothing to tell; this operand alone; the test and the
+// branch that it picks; two branches that are equal; of a read the store at its index, a store whose value equals what
+// is read beneath it, the variable at the chain's end.
+pub enum Settled {
+    Untold,
+    Alone(u32),
+    Picked(Pair),
+    Equal(Pair),
+    AtIndex(Held),
+    EqualBeneath(Held),
+    Unmarked(u32),
 }

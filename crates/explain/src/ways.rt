@@ -1,45 +1,47 @@
 // The terms on the way down from the rule.
 ghost use mathlib.Core.Path.{_≡_};
 ghost use Prim.Native.Nat.{pred};
-ghost use Rattle.explain.specs.Ways.{marked, onWay, blamed, lookedAt, wayOf};
-use crate::answers::Blame;
-use crate::blames::blame;
+ghost use Rattle.explain.specs.Ways.{marked, onWay, lookedAt, wayOf};
 use crate::operands::free_at;
+use crate::sources::source_at;
+use crate::sources::term_of;
+use crate::sources::there;
+use table::number_at;
 
-// Marks term k, where on; terms past 511 have no mark.
-fn mark(marks: &mut [u32; 512], on: bool, k: u32)
-    ensures { λ _. ⌜ now (marks .exit) ≡ marked on k (now (marks .entry)) ⌝ }
+// Marks number k of a row, where on; past its end there is none.
+pub fn mark(row: &mut [u32], on: bool, k: u32)
+    ensures { λ _. ⌜ now (row .exit) ≡ marked on k (now (row .entry)) ⌝ }
 {
-    if on & (k < 512) {
-        marks[k as usize] = 1;
+    let at = k as usize;
+    if on & (at < row.len()) {
+        row[at] = 1;
     }
 }
 
 // Whether term k is on the way.
-fn on_way(marks: &[u32; 512], k: u32) -> bool
+pub fn on_way(marks: &[u32], k: u32) -> bool
     ensures { λ r. ⌜ r ≡ onWay (now (marks .entry)) k ⌝ }
 {
-    if k < 512 {
-        return marks[k as usize] == 1;
-    }
-    false
+    number_at(marks, k) == 1
 }
 
-// Marks the terms of a blame, where on.
-fn mark_blamed(marks: &mut [u32; 512], on: bool, b: Blame)
-    ensures { λ _. ⌜ now (marks .exit) ≡ blamed on b (now (marks .entry)) ⌝ }
-{
-    mark(marks, on & (0 < b.count), b.first);
-    mark(marks, on & (1 < b.count), b.second);
-}
-
-// Marks what term k blames, where it is on the way.
-fn look_at(table: &[u32], values: &[u32], truths: &[u32], k: u32, marks: &mut [u32; 512])
+// Marks what term k blames, where it is on the way: of its sources those that are not free.
+fn look_at(table: &[u32], values: &[u32], truths: &[u32], k: u32, marks: &mut [u32])
     ensures { λ _. ⌜ now (marks .exit)
         ≡ lookedAt (now (table .entry)) (now (values .entry)) (now (truths .entry)) k (now (marks .entry)) ⌝ }
 {
-    let on = on_way(marks, k);
-    mark_blamed(marks, on, blame(table, values, truths, k));
+    if !on_way(marks, k) {
+        return;
+    }
+    let x = table::term_at(table, k);
+    let mut i = 0usize;
+    let mut s = source_at(table, values, x, i);
+    while there(s) {
+        let term = term_of(s);
+        mark(marks, !free_at(truths, term), term);
+        i += 1;
+        s = source_at(table, values, x, i);
+    }
 }
 
 fn before(k: u32) -> u32

@@ -168,7 +168,7 @@ module _ (w : List ℕ) (marked : Term → Bool) (I : Interpretation) where
   pub condition-below : (k i : ℕ) → i < k → conditionIn (conditions w marked I k) i ≡ conditionAt w marked I i
   condition-below k i b = fold-below (λ cs j. conditionFrom w marked (valueIn (values w I j)) (conditionIn cs) (termAt w j)) (plain false) k i b
 
-  condition-past : (k i : ℕ) → (i < k → ⊥) → conditionIn (conditions w marked I k) i ≡ plain false
+  pub condition-past : (k i : ℕ) → (i < k → ⊥) → conditionIn (conditions w marked I k) i ≡ plain false
   condition-past k i b = fold-past (λ cs j. conditionFrom w marked (valueIn (values w I j)) (conditionIn cs) (termAt w j)) (plain false) k i b
 
 -- The table, term by term

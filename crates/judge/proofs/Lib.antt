@@ -1,4 +1,5 @@
 pub mod Alike
+pub mod Marks
 pub mod Promises
 pub mod Chains
 pub mod Meaning

@@ -5,3 +5,4 @@ pub mod Widths
 pub mod Absorption
 pub mod Fitting
 pub mod Independence
+pub mod Monotone

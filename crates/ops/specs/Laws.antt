@@ -1,5 +1,5 @@
--- What is proved of every operator, as named statements. The proofs are in proofs/Fitting, proofs/Absorption and
--- proofs/Independence.
+-- What is proved of every operator, as named statements. The proofs are in proofs/Fitting, proofs/Absorption,
+-- proofs/Independence and proofs/Monotone.
 -- Assumes nothing.
 use mathlib.Core.Path.{_≡_}
 use mathlib.Core.Bool.{Bool, true, false, cond}
@@ -88,3 +88,18 @@ abbrev pub ChoiceIndependence : Type 0
 ChoiceIndependence =
     (test test′ : Bool) (y y′ z z′ : ℕ) (c c′ d d′ e e′ : Bool) → c ≡ c′ → (c ≡ true → test ≡ test′) → Agree d d′ y y′ → Agree e e′ z z′
     → Agree (chosen c test d e (eqb y z)) (chosen c′ test′ d′ e′ (eqb y′ z′)) (cond test y z) (cond test′ y′ z′)
+
+-- One condition is true wherever another is.
+abbrev pub Implied : Bool → Bool → Type 0
+Implied c c′ = c ≡ true → c′ ≡ true
+
+-- An operator's condition is monotone in its operands' conditions, the values being the same.
+abbrev pub Monotone : Type 0
+Monotone =
+    (op : Op) (n x y z : ℕ) (c c′ d d′ e e′ : Bool) → Implied c c′ → Implied d d′ → Implied e e′
+    → Implied (settles op n x y z c d e) (settles op n x y z c′ d′ e′)
+
+-- The same of a choice whose test is any truth.
+abbrev pub ChoiceMonotone : Type 0
+ChoiceMonotone =
+    (test same c c′ d d′ e e′ : Bool) → Implied c c′ → Implied d d′ → Implied e e′ → Implied (chosen c test d e same) (chosen c′ test d′ e′ same)

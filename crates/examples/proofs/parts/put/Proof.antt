@@ -5,7 +5,7 @@ use Rattle.examples.proofs.parts.put.Statement.{statement}
 use Rattle.examples.proofs.parts.put.Tie as tie
 
 returns-2 : tie.Need-returns-2
-returns-2 c = sym (set-out (c .before .args .numbers .now) (c .before .args .k) (c .before .args .number) (c .if1 .left))
+returns-2 c = sym (set-out (c .before .args .numbers .now) (c .before .args .at) (c .before .args .number) (c .if1 .left))
 
 pub put-spec : {M : Type 1} → statement M
 put-spec =

@@ -1,9 +1,7 @@
 use mathlib.Core.Path.{ap, _∙_}
-use Prim.Native.Nat.{ℕ}
-use lib.ListN.{set}
 use borrow.Author.Needs.{needs}
 use borrow.Author.Tests.{lt-ltb, le-ltb}
-use Rattle.examples.specs.Parts.{opened}
+use Rattle.examples.specs.Parts.{opened, begun}
 use Rattle.examples.proofs.parts.taken.Statement.{statement}
 use Rattle.examples.proofs.parts.taken.Tie as tie
 
@@ -11,7 +9,7 @@ returns : tie.Need-returns
 returns c =
     let token = c .before .before .before .before .before .before .token .given .1 in
     let small = lt-ltb _ _ (c .before .before .before .before .if1 .taken) in
-    (rw (token, small) (c .before .before .number .ensures .0), rw (token, small) (c .before .before .number .ensures .1))
+    (rw (token, small) (c .before .before .add .ensures .0), rw (token, small) (c .before .before .add .ensures .1))
 
 returns-3 : tie.Need-returns-3
 returns-3 c =
@@ -24,7 +22,7 @@ returns-4 c =
     let a = c .before .before .before .before .before .before .before .before .before .args in
     let token = c .before .before .before .before .before .before .token2 .given .1 in
     let next = c .before .before .before .part-of .ensures in
-    (rw token (c .before .before .begin .ensures .0 ∙ ap (opened (a .part)) next), rw token (c .before .before .begin .ensures .1 ∙ ap (λ (k : ℕ). set (a .numbers .now) k 0) next))
+    (rw token (c .before .before .begin .ensures .0 ∙ ap (opened (a .numbers .now) (a .part)) next), rw token (c .before .before .begin .ensures .1 ∙ ap (begun (a .numbers .now)) next))
 
 pub taken-spec : {M : Type 1} → statement M
 taken-spec =

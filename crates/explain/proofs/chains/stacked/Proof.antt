@@ -1,9 +1,0 @@
-use borrow.Author.Needs.{needs}
-use Rattle.explain.proofs.chains.stacked.Statement.{statement}
-use Rattle.explain.proofs.chains.stacked.Tie as tie
-
-returns : tie.Need-returns
-returns c = rw (c .before .is-store .ensures)
-
-pub stacked-spec : {M : Type 1} → statement M
-stacked-spec = tie.close (tie.spec (λ c κs. search needs) returns)

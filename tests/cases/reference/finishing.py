@@ -1,0 +1,111 @@
+"""The finished table: the terms, T, F, the groups in ascending term order, and(rule, C(rule)), by paper 01."""
+from admission import admit
+from words import BOOL
+
+
+class Finished:
+    def __init__(self, case):
+        self.terms = list(admit(case, 512).terms)
+        self.rule = len(self.terms) - 1
+        self.T, self.F = self.add(0, 1), self.add(0, 0)
+        self.C = {}
+        for t in range(self.rule + 1):
+            self.C[t] = self.group(*self.terms[t])
+        self.condition = self.C[self.rule]
+        self.last = self.AND(self.rule, self.condition)
+
+    def add(self, op, p, q=0, r=0, sort=BOOL):
+        self.terms.append((op, sort[0], sort[1], p, q, r))
+        return len(self.terms) - 1
+
+    def NOT(self, p):
+        return self.add(2, p)
+
+    def AND(self, p, q):
+        return self.add(3, p, q)
+
+    def OR(self, p, q):
+        return self.add(4, p, q)
+
+    def EQ(self, p, q):
+        return self.add(6, p, q)
+
+    def ITE(self, p, q, r):
+        return self.add(7, p, q, r)
+
+    def group(self, op, m, n, p, q, r):
+        if op == 0:
+            return self.T
+        if op == 1:
+            return self.F if q else self.T
+        if op in (2, 8):
+            return self.C[p]
+        if op in (6, 11, 14):
+            return self.AND(self.C[p], self.C[q])
+        if op in (3, 4, 5):
+            return self.boolean(op, p, q)
+        if op in (9, 10, 12):
+            return self.vector(2 ** n - 1 if op == 10 else 0, n, p, q)
+        if op == 7:
+            return self.choice(p, q, r)
+        if op == 13:
+            return self.shift(n, p, q)
+        return self.read(p, q) if op == 15 else None
+
+    def boolean(self, op, p, q):
+        """And: false settles; or: true; implies: a false first or a true second operand."""
+        C = self.C
+        if op == 4:
+            first = self.AND(C[p], p)
+        else:
+            first = self.AND(C[p], self.NOT(p))
+        if op == 3:
+            second = self.AND(C[q], self.NOT(q))
+        else:
+            second = self.AND(C[q], q)
+        one = self.OR(first, second)
+        return self.OR(one, self.AND(C[p], C[q]))
+
+    def vector(self, settling, n, p, q):
+        C, constant = self.C, self.add(0, settling, sort=(0, n))
+        first = self.AND(C[p], self.EQ(p, constant))
+        second = self.AND(C[q], self.EQ(q, constant))
+        one = self.OR(first, second)
+        return self.OR(one, self.AND(C[p], C[q]))
+
+    def shift(self, n, p, q):
+        C, constant = self.C, self.add(0, n, sort=(0, n))
+        amount = self.AND(C[q], self.NOT(self.add(14, q, constant)))
+        return self.OR(amount, self.AND(C[p], C[q]))
+
+    def choice(self, p, q, r):
+        C = self.C
+        picked = self.AND(C[p], self.ITE(p, C[q], C[r]))
+        both = self.AND(C[q], C[r])
+        return self.OR(picked, self.AND(both, self.EQ(q, r)))
+
+    def read(self, array, j):
+        """D0, then nine terms for each store from the inside out."""
+        C, stores = self.C, []
+        while self.terms[array][0] == 16:
+            stores.append(self.terms[array])
+            array = self.terms[array][3]
+        D = self.AND(C[array], C[j])
+        for op, m, n, A, i, e in reversed(stores):
+            beneath = self.add(15, A, j, sort=(0, n))
+            picked = self.ITE(self.EQ(i, j), C[e], D)
+            test = self.AND(self.AND(C[i], C[j]), picked)
+            equal = self.EQ(e, beneath)
+            D = self.OR(test, self.AND(self.AND(C[e], D), equal))
+        return D
+
+
+def finish(case):
+    done = Finished(case)
+    out = ["; %d terms. C(rule) is term %d; the last, term %d, is (and t%d t%d)."
+           % (len(done.terms), done.condition, done.last, done.rule, done.condition), "table"]
+    out += [" ".join(map(str, term)) for term in done.terms]
+    out.append(" ".join(["values"] + [str(x) for x in case.values]))
+    out.append("cells")
+    out += [" ".join(map(str, case.cells[k:k + 3])) for k in range(0, len(case.cells), 3)]
+    return out + ["allowance %d" % case.allowance]

@@ -1,0 +1,108 @@
+"""Values and conditions of every term, by the rules of paper 01."""
+from admission import ready
+from words import largest
+
+VALUE = {
+    2: lambda n, a, b, c: 1 - a,
+    3: lambda n, a, b, c: int(a == 1 and b == 1),
+    4: lambda n, a, b, c: int(a == 1 or b == 1),
+    5: lambda n, a, b, c: int(a == 0 or b == 1),
+    6: lambda n, a, b, c: int(a == b),
+    7: lambda n, a, b, c: b if a else c,
+    8: lambda n, a, b, c: 2 ** n - 1 - a,
+    9: lambda n, a, b, c: a & b,
+    10: lambda n, a, b, c: a | b,
+    11: lambda n, a, b, c: (a + b) % 2 ** n,
+    12: lambda n, a, b, c: a * b % 2 ** n,
+    13: lambda n, a, b, c: a * 2 ** b % 2 ** n if b < n else 0,
+    14: lambda n, a, b, c: int(a < b),
+}
+
+
+def settles(op, n):
+    """The values with which a free first, and a free second operand settles an operator."""
+    return {3: (0, 0), 4: (1, 1), 5: (0, 1), 9: (0, 0), 10: (largest(n), largest(n)), 12: (0, 0)}[op]
+
+
+class Setting:
+    """A table in a setting: the value and, where it is judged, the condition of every term."""
+
+    def __init__(self, case, limit=512, judged=True):
+        table, self.steps = ready(case, limit)
+        self.terms, self.left = table.terms, case.allowance - self.steps
+        self.values, self.cell = case.values, {}
+        for k in range(0, len(case.cells), 3):
+            self.cell.setdefault((case.cells[k], case.cells[k + 1]), case.cells[k + 2])
+        self.v, self.free = [], []
+        for term in self.terms:
+            self.v.append(self.value(term))
+        if judged:
+            for term in self.terms:
+                self.free.append(self.condition(term))
+
+    def chain(self, array):
+        """The stores of an array term from the outermost inward, each as term, index and value; and the variable."""
+        stores = []
+        while self.terms[array][0] == 16:
+            beneath, i, e = self.terms[array][3:]
+            stores.append((array, i, e))
+            array = beneath
+        return stores, array
+
+    def held(self, variable, index):
+        slot = self.terms[variable][3]
+        return self.cell.get((slot, index), self.values[slot])
+
+    def value(self, term):
+        op, m, n, p, q, r = term
+        v = self.v
+        if op == 0:
+            return p
+        if op == 1:
+            return 0 if m else self.values[p]
+        if op == 16:
+            return 0
+        if op == 15:
+            stores, variable = self.chain(p)
+            for _, i, e in stores:
+                if v[i] == v[q]:
+                    return v[e]
+            return self.held(variable, v[q])
+        return VALUE[op](n, v[p], v[q], v[r])
+
+    def condition(self, term):
+        op, m, n, p, q, r = term
+        c, v = self.free, self.v
+        if op <= 1:
+            return op == 0 or q == 0
+        if op in (2, 8):
+            return c[p]
+        if op in (6, 11, 14):
+            return c[p] and c[q]
+        if op == 7:
+            return (c[p] and (c[q] if v[p] else c[r])) or (c[q] and c[r] and v[q] == v[r])
+        if op == 13:
+            return (c[q] and v[q] >= n) or (c[p] and c[q])
+        if op == 15:
+            return self.read_condition(p, q)
+        if op == 16:
+            return None
+        a, b = settles(op, n)
+        return (c[p] and v[p] == a) or (c[q] and v[q] == b) or (c[p] and c[q])
+
+    def read_condition(self, array, j):
+        """D0 at the variable, then a new D for each store outward; below is what the array beneath holds."""
+        c, v = self.free, self.v
+        stores, variable = self.chain(array)
+        d, below = c[variable] and c[j], self.held(variable, v[j])
+        for _, i, e in reversed(stores):
+            met = v[i] == v[j]
+            d = (c[i] and c[j] and (c[e] if met else d)) or (c[e] and d and v[e] == below)
+            below = v[e] if met else below
+        return d
+
+    def rule(self):
+        return bool(self.v[-1])
+
+    def rule_free(self):
+        return bool(self.free[-1])

@@ -1,7 +1,7 @@
 -- The laws hold.
 -- Assumes nothing.
 use mathlib.Core.Path.{_≡_, refl, ap, subst, _∙_}
-use mathlib.Core.Bool.{Bool, true, false, cond}
+use mathlib.Core.Bool.{Bool, true, false, cond, not, _&&_}
 use mathlib.Core.List.{List}
 use Prim.Native.Nat.{ℕ, _+_}
 use native.Mathlib.Omega.{arith}
@@ -11,31 +11,44 @@ use borrow.Author.Tests.{eqb-true}
 use Rattle.cases.specs.declared.lexer.Token.{Token}
 use Rattle.cases.specs.declared.parser.Parser.{Parser}
 use Rattle.cases.specs.declared.Case.{Case}
-use Rattle.cases.specs.declared.Misread.{Misread}
-use Rattle.cases.specs.declared.Reading.the-variants.{Read, Unread}
+use Rattle.cases.specs.declared.ParseError.{ParseError}
+use Rattle.cases.specs.declared.Parsing.the-variants.{Parsed, NotParsed}
 use Rattle.cases.specs.Lexing.{fresh, lex}
-use Rattle.cases.specs.Parsing.{tableLimit, othersLimit, ended}
+use Rattle.cases.specs.Parsing.{tableLimit, othersLimit, refuse, ended}
+use Rattle.cases.specs.Places.{tokenStart}
 use Rattle.cases.specs.Numbers.{numbersIn}
-use Rattle.cases.specs.Reading.{capped, lineAt, caseOf, faultAt, parsed, seen, wholly}
+use Rattle.cases.specs.Reading.{capped, marked, caseOf, errorAtEnd, errorBetween, errorOf, parseWithin, seen, wholly}
 use Rattle.cases.specs.Laws.{Held, RunsInside, NeverShort}
 use Rattle.cases.proofs.Limits.{ended-short}
 use Rattle.cases.proofs.Totals.{capped-most, capped-least, sound, all, held, placed}
 
-picked : (b : Bool) (x c : Case) (m : Misread) → cond b (Read x) (Unread m) ≡ Read c → (b ≡ true) × (x ≡ c)
+picked : (b : Bool) (x c : Case) (m : ParseError) → cond b (Parsed x) (NotParsed m) ≡ Parsed c → (b ≡ true) × (x ≡ c)
 picked true x c m e = (refl, cc)
 picked false x c m e = absurd (let z : _≡_ {A = ℕ} 0 1 = cc in omega arith)
 
-missed : (b : Bool) (x : Case) (m n : Misread) → cond b (Read x) (Unread m) ≡ Unread n → m ≡ n
+missed : (b : Bool) (x : Case) (m n : ParseError) → cond b (Parsed x) (NotParsed m) ≡ NotParsed n → m ≡ n
 missed true x m n e = absurd (let z : _≡_ {A = ℕ} 0 1 = cc in omega arith)
 missed false x m n e = cc
+
+-- what is told as 6 is 6: 15 stands for another kind
+not-mark : (p : Parser) (text : List ℕ) (kind : ℕ) → errorOf text p kind .kind ≡ 6 → kind ≡ 6
+not-mark p text kind = go (eqb (p .fault) 0)
+  where
+    late : (ok : Bool) → refuse 15 ok kind ≡ 6 → kind ≡ 6
+    late true e = e
+    late false e = absurd (omega arith)
+
+    go : (b : Bool) → (cond b (errorAtEnd text kind) (errorBetween text kind (tokenStart text (p .at)) (p .at))) .kind ≡ 6 → kind ≡ 6
+    go true e = e
+    go false e = late (not (eqb (tokenStart text (p .at)) 0 && marked text)) e
 
 pub runs-inside : RunsInside
 runs-inside text room c e =
     let whole : Bool = wholly text in
-    let p : Parser = parsed (seen text) whole room in
+    let p : Parser = parseWithin (seen text) whole room in
     let tokens : List Token = lex whole fresh (seen text) in
     let n : ℕ = length (numbersIn tokens) in
-    let r = picked (eqb (ended p whole) 0) (caseOf p n) c (record { kind = ended p whole; line = lineAt (seen text) (faultAt p (length (seen text))) }) e in
+    let r = picked (eqb (ended p whole) 0) (caseOf p n) c (errorOf (seen text) p (ended p whole)) e in
     let none = eqb-true (ended p whole) 0 (r .0) in
     let total = all (capped room) tokens p refl whole none in
     let limits = sound (capped room) tokens p refl .limits in
@@ -51,7 +64,7 @@ runs-inside text room c e =
 pub never-short : NeverShort
 never-short text room b m e z =
     let whole : Bool = wholly text in
-    let p : Parser = parsed (seen text) whole room in
+    let p : Parser = parseWithin (seen text) whole room in
     let tokens : List Token = lex whole fresh (seen text) in
-    let same = missed (eqb (ended p whole) 0) (caseOf p (length (numbersIn tokens))) (record { kind = ended p whole; line = lineAt (seen text) (faultAt p (length (seen text))) }) m e in
-    sound (capped room) tokens p refl .short (capped-least (tableLimit + othersLimit) room b (omega arith)) (ended-short p whole (ap (λ (x : Misread). x .kind) same ∙ z))
+    let same = missed (eqb (ended p whole) 0) (caseOf p (length (numbersIn tokens))) (errorOf (seen text) p (ended p whole)) m e in
+    sound (capped room) tokens p refl .short (capped-least (tableLimit + othersLimit) room b (omega arith)) (ended-short p whole (not-mark p (seen text) (ended p whole) (ap (λ (x : ParseError). x .kind) same ∙ z)))

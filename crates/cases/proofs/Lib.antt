@@ -1,6 +1,8 @@
 pub mod Booleans
 pub mod Scans
-pub mod Lines
+pub mod Feeds
+pub mod Ways
+pub mod Standing
 pub mod Writing
 pub mod Limits
 pub mod Totals

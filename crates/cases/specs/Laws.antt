@@ -5,10 +5,10 @@ use mathlib.Core.List.{List}
 use Prim.Native.Nat.{ℕ, _+_, _-_, _≤_}
 use lib.ListN.{length}
 use Rattle.cases.specs.declared.Case.{Case}
-use Rattle.cases.specs.declared.Misread.{Misread}
-use Rattle.cases.specs.declared.Reading.the-variants.{Read, Unread}
+use Rattle.cases.specs.declared.ParseError.{ParseError}
+use Rattle.cases.specs.declared.Parsing.the-variants.{Parsed, NotParsed}
 use Rattle.cases.specs.Parsing.{tableLimit, othersLimit, size}
-use Rattle.cases.specs.Reading.{reading, numbersOf, Placed}
+use Rattle.cases.specs.Reading.{parsing, numbersOf, Placed}
 
 -- the room has the text's numbers, which the case counts, the parts are among them, and both limits are kept
 pub record Held (text : List ℕ) (room : ℕ) (c : Case) : Type 0 where
@@ -20,8 +20,8 @@ pub record Held (text : List ℕ) (room : ℕ) (c : Case) : Type 0 where
 
 -- it is so where a text is read
 abbrev pub RunsInside : Type 0
-RunsInside = (text : List ℕ) (room : ℕ) (c : Case) → reading text room ≡ Read c → Held text room c
+RunsInside = (text : List ℕ) (room : ℕ) (c : Case) → parsing text room ≡ Parsed c → Held text room c
 
 -- a room for as many numbers as the limits let through is never too short: there is no fault 6
 abbrev pub NeverShort : Type 0
-NeverShort = (text : List ℕ) (room : ℕ) → tableLimit + othersLimit ≤ room → (m : Misread) → reading text room ≡ Unread m → m .kind ≡ 6 → ⊥
+NeverShort = (text : List ℕ) (room : ℕ) → tableLimit + othersLimit ≤ room → (e : ParseError) → parsing text room ≡ NotParsed e → e .kind ≡ 6 → ⊥

@@ -1,65 +1,63 @@
--- What reading a case's text answers, and what it leaves in the room for the numbers.
+-- What reading the text of a case answers, and what it leaves in the room for the numbers.
 -- Assumes nothing.
-use mathlib.Core.Bool.{Bool, cond}
+use mathlib.Core.Bool.{Bool, cond, not, _&&_}
 use mathlib.Core.List.{List, [], _∷_, _++_}
-use Prim.Native.Nat.{ℕ, suc, _+_, _≤_, _<_}
+use Prim.Native.Nat.{ℕ, _≤_, _<_}
 use lib.Dec.{eqb, ltb, leb}
-use lib.ListN.{length, take, drop}
+use lib.ListN.{length, take, drop, getD}
 use Rattle.cases.specs.declared.parser.Run.{Run}
 use Rattle.cases.specs.declared.parser.Parser.{Parser}
 use Rattle.cases.specs.declared.Case.{Case}
-use Rattle.cases.specs.declared.Misread.{Misread}
-use Rattle.cases.specs.declared.Reading.{Reading}
-use Rattle.cases.specs.declared.Reading.the-variants.{Read, Unread}
+use Rattle.cases.specs.declared.ParseError.{ParseError}
+use Rattle.cases.specs.declared.Parsing.{Parsing}
+use Rattle.cases.specs.declared.Parsing.the-variants.{Parsed, NotParsed}
+use Rattle.cases.specs.Places.{lineAt, columnAt, tokenStart}
 use Rattle.cases.specs.Lexing.{fresh, lex}
-use Rattle.cases.specs.Parsing.{start, parse, ended}
+use Rattle.cases.specs.Parsing.{refuse, start, parse, ended}
 use Rattle.cases.specs.Numbers.{numbersIn}
-
-abbrev pub lower : ℕ → ℕ → ℕ
-lower a b = cond (ltb a b) a b
 
 -- at most 4294967295
 abbrev pub capped : ℕ → ℕ
 capped n = cond (ltb n 4294967295) n 4294967295
 
--- the line feeds among bytes
-abbrev pub feed : ℕ → ℕ
-feed b = cond (eqb b 10) 1 0
-
-unfoldable pub feeds : List ℕ → ℕ
-feeds [] = 0
-feeds (b ∷ bs) = feed b + feeds bs
-
--- the line of the byte at: 1 and the line feeds before it
-abbrev pub lineAt : List ℕ → ℕ → ℕ
-lineAt text at = 1 + feeds (take at text)
-
 -- the parts of a parsed text, and the count of its numbers
 abbrev pub caseOf : Parser → ℕ → Case
 caseOf p count = record { table = p .table; values = p .values; cells = p .cells; allowance = p .allowance .from; count = count }
 
--- where the first fault is: at the end what is missing there
-abbrev pub faultAt : Parser → ℕ → ℕ
-faultAt p end = cond (eqb (p .fault) 0) end (p .at)
+-- a byte-order mark, EF BB BF, begins the text
+abbrev pub marked : List ℕ → Bool
+marked text = eqb (getD text 0 0) 239 && eqb (getD text 1 0) 187 && eqb (getD text 2 0) 191
+
+-- something is missing at the end: there is no token at fault
+abbrev pub errorAtEnd : List ℕ → ℕ → ParseError
+errorAtEnd text kind = record { kind = kind; line = lineAt text (length text); column = 0; from = length text; to = length text }
+
+-- the token from a byte up to another is at fault: 15 where it begins the text, with a byte-order mark
+abbrev pub errorBetween : List ℕ → ℕ → ℕ → ℕ → ParseError
+errorBetween text kind from to =
+    record { kind = refuse 15 (not (eqb from 0 && marked text)) kind; line = lineAt text from; column = columnAt text from; from = from; to = to }
+
+abbrev pub errorOf : List ℕ → Parser → ℕ → ParseError
+errorOf text p kind = cond (eqb (p .fault) 0) (errorAtEnd text kind) (errorBetween text kind (tokenStart text (p .at)) (p .at))
 
 -- a parsed text, by its first fault
-abbrev pub answer : List ℕ → Parser → ℕ → ℕ → Reading
-answer text p count kind = cond (eqb kind 0) (Read (caseOf p count)) (Unread (record { kind = kind; line = lineAt text (faultAt p (length text)) }))
+abbrev pub answer : List ℕ → Parser → ℕ → ℕ → Parsing
+answer text p count kind = cond (eqb kind 0) (Parsed (caseOf p count)) (NotParsed (errorOf text p kind))
 
 -- the bytes that are read, which are the whole text or not: their numbers in order
 abbrev pub numbersWithin : List ℕ → Bool → List ℕ
 numbersWithin text whole = numbersIn (lex whole fresh text)
 
 -- their parts, with room for so many numbers
-abbrev pub parsed : List ℕ → Bool → ℕ → Parser
-parsed text whole room = parse (capped room) 0 start (lex whole fresh text)
+abbrev pub parseWithin : List ℕ → Bool → ℕ → Parser
+parseWithin text whole room = parse (capped room) 0 start (lex whole fresh text)
 
-abbrev pub readingWithin : List ℕ → Bool → ℕ → Reading
-readingWithin text whole room = answer text (parsed text whole room) (length (numbersWithin text whole)) (ended (parsed text whole room) whole)
+abbrev pub parsingWithin : List ℕ → Bool → ℕ → Parsing
+parsingWithin text whole room = answer text (parseWithin text whole room) (length (numbersWithin text whole)) (ended (parseWithin text whole room) whole)
 
-abbrev pub roomWithin : Reading → List ℕ → Bool → List ℕ → List ℕ
-roomWithin (Read c) text whole room = numbersWithin text whole ++ drop (length (numbersWithin text whole)) room
-roomWithin (Unread m) text whole room = room
+abbrev pub roomWithin : Parsing → List ℕ → Bool → List ℕ → List ℕ
+roomWithin (Parsed c) text whole room = numbersWithin text whole ++ drop (length (numbersWithin text whole)) room
+roomWithin (NotParsed e) text whole room = room
 
 -- the most bytes of a text; of a longer one so many are read
 abbrev pub byteLimit : ℕ
@@ -76,11 +74,11 @@ abbrev pub numbersOf : List ℕ → List ℕ
 numbersOf text = numbersWithin (seen text) (wholly text)
 
 -- where there is no fault the count is that of the text's numbers
-abbrev pub reading : List ℕ → ℕ → Reading
-reading text room = readingWithin (seen text) (wholly text) room
+abbrev pub parsing : List ℕ → ℕ → Parsing
+parsing text room = parsingWithin (seen text) (wholly text) room
 
 -- the front of the room holds the text's numbers, its rest is untouched; after a fault it is as it was
-abbrev pub roomAfter : Reading → List ℕ → List ℕ → List ℕ
+abbrev pub roomAfter : Parsing → List ℕ → List ℕ → List ℕ
 roomAfter r text room = roomWithin r (seen text) (wholly text) room
 
 -- a part's places are among the first n
@@ -95,6 +93,12 @@ pub record Placed (c : Case) (n : ℕ) : Type 0 where
   pub cells : Within (c .cells) n
   pub allowance : c .allowance < n
 
-abbrev pub Inside : Reading → ℕ → Type 0
-Inside (Read c) n = Placed c n
-Inside (Unread m) n = Unit {0}
+-- the token at fault is among the first n bytes
+pub record Spanned (e : ParseError) (n : ℕ) : Type 0 where
+  pub low : e .from ≤ e .to
+  pub high : e .to ≤ n
+
+-- of a room for so many numbers, and a text of so many bytes
+abbrev pub Inside : Parsing → ℕ → ℕ → Type 0
+Inside (Parsed c) room bytes = Placed c room
+Inside (NotParsed e) room bytes = Spanned e bytes

@@ -156,7 +156,7 @@ fn others_full(p: Parser) -> bool
 }
 
 // number unless ok, else rest.
-fn refuse(number: u32, ok: bool, rest: u32) -> u32
+pub fn refuse(number: u32, ok: bool, rest: u32) -> u32
     ensures { λ r. ⌜ r ≡ refuse number ok rest ⌝ }
 {
     if ok { rest } else { number }

@@ -3,8 +3,8 @@ ghost use mathlib.Core.Path.{_≡_};
 ghost use Rattle.judge.specs.Code.Labelled.{truthIn};
 ghost use Rattle.explain.specs.Operands.{wouldSettle, stateOf, operandState};
 use ops::Op;
-use table::number_at;
 use table::Term;
+use table::number_at;
 
 // Free and settles the operator; free and does not; not free and would not; not free, though its value would.
 pub enum Operand {

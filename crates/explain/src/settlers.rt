@@ -21,8 +21,8 @@ use crate::sources::picked;
 use crate::sources::shape_of;
 use crate::sources::stacked;
 use crate::sources::there;
-use table::number_at;
 use table::Term;
+use table::number_at;
 
 // Term k, where it is not free.
 fn unfree_term(truths: &[u32], k: u32) -> Source
@@ -101,12 +101,7 @@ fn unfree_at(table: &[u32], truths: &[u32], x: Term, i: u32) -> Source
     match shape {
         Shape::Leaf => none,
         Shape::Unary => of_three(unfree_term(truths, x.p), none, none, i),
-        Shape::Binary => of_three(
-            unfree_term(truths, x.p),
-            unfree_term(truths, x.q),
-            none,
-            i,
-        ),
+        Shape::Binary => of_three(unfree_term(truths, x.p), unfree_term(truths, x.q), none, i),
         Shape::Branches => of_three(
             unfree_term(truths, x.p),
             unfree_term(truths, x.q),

@@ -8,9 +8,9 @@ ghost use Rattle.table.specs.Faults.{rank};
 use crate::answers::Held;
 use crate::answers::Shape;
 use crate::answers::Source;
-use table::number_at;
 use table::Rank;
 use table::Term;
+use table::number_at;
 
 // The term that a source names.
 pub fn term_of(s: Source) -> u32

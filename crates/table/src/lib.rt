@@ -18,6 +18,8 @@ pub use sorts::boolean;
 pub use sorts::same_sort;
 pub use sorts::scalar;
 pub use sorts::sorted;
+pub use sorts::vector;
+pub use sorts::vector_of;
 pub use words::Sort;
 pub use words::Term;
 pub use words::WORDS;

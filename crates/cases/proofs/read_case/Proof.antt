@@ -3,8 +3,9 @@ use mathlib.Core.Path.{sym, ap, _∙_}
 use mathlib.Core.List.{List}
 use lib.ListN.{length, take}
 use lib.Seq.{length-take-le}
-use Rattle.cases.specs.Reading.{byteLimit, wholly, readingWithin, roomWithin}
-use Rattle.cases.proofs.Lines.{take-lower, lower-most}
+use Rattle.cases.specs.Reading.{byteLimit, wholly, parsingWithin, roomWithin}
+use Rattle.cases.proofs.Feeds.{take-lower, lower-most}
+use Rattle.cases.proofs.Ways.{inside-longer}
 use borrow.Author.Needs.{needs}
 use native.Mathlib.Omega.{arith}
 use Rattle.cases.proofs.read_case.Statement.{statement}
@@ -24,12 +25,14 @@ read-within-requires c κs =
 returns : tie.Need-returns
 returns c =
     let a = c .before .before .before .before .before .before .before .before .args in
+    let d = c .before .before .before .before .before in
+    let l = d .lower in
     let r = c .before .before .read-within in
-    let e = ap (λ (k : ℕ). take k (a .text .now)) (c .before .before .before .before .before .lower .ensures) ∙ take-lower byteLimit (a .text .now) in (
-      r .ensures .0 ∙ ap (λ (t : List ℕ). readingWithin t (wholly (a .text .now)) (length (a .numbers .now))) e,
+    let e = ap (λ (k : ℕ). take k (a .text .now)) (l .ensures) ∙ take-lower byteLimit (a .text .now) in (
+      r .ensures .0 ∙ ap (λ (t : List ℕ). parsingWithin t (wholly (a .text .now)) (length (a .numbers .now))) e,
       (
         r .ensures .1 .0 ∙ ap (λ (t : List ℕ). roomWithin (r .result) t (wholly (a .text .now)) (a .numbers .now)) e,
-        r .ensures .1 .1,
+        inside-longer (r .result) (length (a .numbers .now)) _ _ (omega (arith, length-take-le (l .result) (a .text .now) (fits d), fits d)) (r .ensures .1 .1),
       ),
     )
 

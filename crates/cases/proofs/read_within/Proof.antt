@@ -4,23 +4,32 @@ use lib.ListN.{length}
 use Rattle.cases.specs.declared.Case.{Case}
 use Rattle.cases.specs.Lexing.{fresh, lex}
 use Rattle.cases.specs.Parsing.{start, parse}
-use Rattle.cases.specs.Reading.{Placed}
+use Rattle.cases.specs.declared.ParseError.{ParseError}
+use Rattle.cases.specs.Reading.{Placed, Spanned}
 use Rattle.cases.proofs.Totals.{capped-most, all, held, placed}
-use Rattle.cases.proofs.Answers.{read-is, unread-is}
+use Rattle.cases.proofs.Ways.{early, spanned}
+use Rattle.cases.proofs.Answers.{parsed-is, not-parsed-is}
 use borrow.Author.Needs.{needs}
 use native.Mathlib.Omega.{arith}
 use Rattle.cases.proofs.read_within.Statement.{statement}
 use Rattle.cases.proofs.read_within.Tie as tie
 
+error-of-requires : tie.Need-error-of-requires
+error-of-requires c κs =
+    let s = c .before .before .before .before .before .before in
+    let q = c .before .before .parse in
+    (s .pre, early (c .before .before .before .capped .result) (s .args .whole) (s .args .text .now) (q .result) (q .ensures))
+
 returns : tie.Need-returns
 returns c =
-    let a = c .before .before .before .before .before .before .before .before .args in
-    let q = c .before .before .before .before .parse in
-    let d = c .before .before .before .ended in
-    let f = c .before .fault-at in
-    let is = q .ensures ∙ ap (λ (k : ℕ). parse k 0 start (lex (a .whole) fresh (a .text .now))) (c .before .before .before .before .before .capped .ensures) in (
-      unread-is (a .text .now) (a .whole) (length (a .numbers .now)) (q .result) is (d .result) (d .ensures) (c .before .before .if1 .taken) (f .result) (f .ensures) (c .line-at .result) (c .line-at .ensures),
-      (refl, tt),
+    let a = c .before .before .before .before .before .before .before .args in
+    let q = c .before .before .before .parse in
+    let d = c .before .before .ended in
+    let k = c .before .before .before .before .capped in
+    let is = q .ensures ∙ ap (λ (n : ℕ). parse n 0 start (lex (a .whole) fresh (a .text .now))) (k .ensures) in
+    let found = spanned (a .text .now) (q .result) (d .result) (early (k .result) (a .whole) (a .text .now) (q .result) (q .ensures)) in (
+      not-parsed-is (a .text .now) (a .whole) (length (a .numbers .now)) (q .result) is (d .result) (d .ensures) (c .before .if1 .taken) (c .error-of .result) (c .error-of .ensures),
+      (refl, subst (λ (e : ParseError). Spanned e (length (a .text .now))) (sym (c .error-of .ensures)) found),
     )
 
 write-requires : tie.Need-write-requires
@@ -41,7 +50,7 @@ returns-2 c =
     let is = q .ensures ∙ ap (λ (room : ℕ). parse room 0 start tokens) (k .ensures) in
     let none = sym (d .ensures) ∙ c .before .before .before .before .before .if1 .left in
     let enough = held (k .result) tokens (q .result) (q .ensures) (a .whole) none in (
-      read-is (a .text .now) (a .whole) n (q .result) is (d .result) (d .ensures) (c .before .before .before .before .before .if1 .left) (all (k .result) tokens (q .result) (q .ensures) (a .whole) none) (c .case-of .result) (c .case-of .ensures),
+      parsed-is (a .text .now) (a .whole) n (q .result) is (d .result) (d .ensures) (c .before .before .before .before .before .if1 .left) (all (k .result) tokens (q .result) (q .ensures) (a .whole) none) (c .case-of .result) (c .case-of .ensures),
       (
         c .before .before .before .write .ensures,
         subst (λ (x : Case). Placed x n) (sym (c .case-of .ensures)) (placed (k .result) tokens (q .result) (q .ensures) (a .whole) none n (omega (arith, enough, k .ensures, capped-most n))),
@@ -55,8 +64,7 @@ read-within-spec =
     (λ c κs. tt)
     (λ c κs. tt)
     (λ c κs. tt)
-    (λ c κs. tt)
-    (λ c κs. c .before .before .before .before .before .before .before .pre)
+    error-of-requires
     returns
     write-requires
     (λ c κs. tt)

@@ -29,9 +29,10 @@ loop-again : tie.Need-loop-again Inv-loop μ-loop
 loop-again c =
     let a = c .before .before .before .before .before .before .before .before .before .before .args in
     let l = c .before .before .before .before .before .before .before .before .loop in
-    let x = c .before .before .before .before .before .before .term-at in
-    (omega (arith, c .before .before .before .before .before .before .before .loop-test .taken),
-    one-more (a .table .now) (a .way .now) (l .k) (l .row) _ (x .result) (l .inv .1) (x .ensures) (rw (c .before .mark .ensures, c .before .before .is-variable .ensures, c .before .before .before .on-way .ensures)))
+    let x = c .before .before .before .before .before .before .term-at in (
+      omega (arith, c .before .before .before .before .before .before .before .loop-test .taken),
+      one-more (a .table .now) (a .way .now) (l .k) (l .row) _ (x .result) (l .inv .1) (x .ensures) (rw (c .before .mark .ensures, c .before .before .is-variable .ensures, c .before .before .before .on-way .ensures)),
+    )
 
 returns : tie.Need-returns Inv-loop μ-loop
 returns c =

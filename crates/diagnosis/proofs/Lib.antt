@@ -1,0 +1,4 @@
+pub mod Explained
+pub mod Numbers
+pub mod Entries
+pub mod Samples

@@ -14,13 +14,14 @@ use Rattle.cases.specs.declared.Case.{Case}
 use Rattle.cases.specs.declared.ParseError.{ParseError}
 use Rattle.cases.specs.declared.Parsing.the-variants.{Parsed, NotParsed}
 use Rattle.cases.specs.Lexing.{fresh, lex}
-use Rattle.cases.specs.Parsing.{tableLimit, othersLimit, refuse, ended}
+use Rattle.cases.specs.Parsing.{tableLimit, othersLimit, size, refuse, start, ended}
 use Rattle.cases.specs.Places.{tokenStart}
 use Rattle.cases.specs.Numbers.{numbersIn}
 use Rattle.cases.specs.Reading.{capped, marked, caseOf, errorAtEnd, errorBetween, errorOf, parseWithin, seen, wholly}
-use Rattle.cases.specs.Laws.{Held, RunsInside, NeverShort}
+use Rattle.cases.specs.Laws.{Held, RunsInside, NeverShort, TableLines}
 use Rattle.cases.proofs.Limits.{ended-short}
-use Rattle.cases.proofs.Totals.{capped-most, capped-least, sound, all, held, placed}
+use Rattle.cases.proofs.Totals.{start-sound, passed, capped-most, capped-least, sound, all, held, placed}
+use Rattle.cases.proofs.TableLines.{parse-lines}
 
 picked : (b : Bool) (x c : Case) (m : ParseError) → cond b (Parsed x) (NotParsed m) ≡ Parsed c → (b ≡ true) × (x ≡ c)
 picked true x c m e = (refl, cc)
@@ -68,3 +69,12 @@ never-short text room b m e z =
     let tokens : List Token = lex whole fresh (seen text) in
     let same = missed (eqb (ended p whole) 0) (caseOf p (length (numbersIn tokens))) (errorOf (seen text) p (ended p whole)) m e in
     sound (capped room) tokens p refl .short (capped-least (tableLimit + othersLimit) room b (omega arith)) (ended-short p whole (not-mark p (seen text) (ended p whole) (ap (λ (x : ParseError). x .kind) same ∙ z)))
+
+pub table-lines : TableLines
+table-lines text room c e =
+    let whole : Bool = wholly text in
+    let p : Parser = parseWithin (seen text) whole room in
+    let n : ℕ = length (numbersIn (lex whole fresh (seen text))) in
+    let r = picked (eqb (ended p whole) 0) (caseOf p n) c (errorOf (seen text) p (ended p whole)) e in
+    let all = parse-lines whole fresh (seen text) (capped room) 0 start 1 (start-sound (capped room)) (passed p whole (eqb-true (ended p whole) 0 (r .0)) .clear) in
+    omega (arith, all, ap (λ (x : Case). size (x .table)) (r .1))

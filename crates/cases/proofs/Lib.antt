@@ -7,5 +7,6 @@ pub mod Writing
 pub mod Limits
 pub mod Totals
 pub mod Answers
+pub mod TableLines
 pub mod Inside
 pub mod Samples

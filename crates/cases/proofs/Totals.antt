@@ -43,11 +43,11 @@ extended-within run k part total h = go (eqb part k)
     go true = record { low = omega (arith, h .low, h .high); high = omega arith }
     go false = record { low = h .low; high = omega (arith, h .high) }
 
-pick : (P : Parser → Type 0) (b : Bool) {x y : Parser} → (b ≡ true → P x) → (b ≡ false → P y) → P (cond b x y)
+pub pick : (P : Parser → Type 0) (b : Bool) {x y : Parser} → (b ≡ true → P x) → (b ≡ false → P y) → P (cond b x y)
 pick P true f g = f refl
 pick P false f g = g refl
 
-start-sound : (room : ℕ) → Sound room start
+pub start-sound : (room : ℕ) → Sound room start
 start-sound room =
     let empty : Within none 0 = record { low = omega arith; high = omega arith } in
     record {
@@ -60,7 +60,7 @@ start-sound room =
       short = λ _ z. omega arith;
     }
 
-table-given : (p : Parser) (part : ℕ) → isGiven p part ≡ false → (eqb part 1 && p .table .given) ≡ false
+pub table-given : (p : Parser) (part : ℕ) → isGiven p part ≡ false → (eqb part 1 && p .table .given) ≡ false
 table-given p part e = or-first _ _ (or-first _ _ (or-first _ (eqb part 4 && p .allowance .given) e))
 
 module _ (room at : ℕ) (p : Parser) (h : Sound room p) where
@@ -106,7 +106,7 @@ module _ (room at : ℕ) (p : Parser) (h : Sound room p) where
   taken-by-sound Unknown = failed-sound 1 (λ _ z. omega arith)
   taken-by-sound TooLarge = failed-sound 2 (λ _ z. omega arith)
 
-  taken-sound : (token : Token) → Sound room (taken room at p token)
+  pub taken-sound : (token : Token) → Sound room (taken room at p token)
   taken-sound token = pick (Sound room) (eqb (p .fault) 0) (λ _. taken-by-sound token) (λ _. h)
 
 parse-sound : (room at : ℕ) (p : Parser) (tokens : List Token) → Sound room p → Sound room (parse room at p tokens)
@@ -151,7 +151,7 @@ module _ (room at : ℕ) (p : Parser) where
       (λ e d. (eqb-true (p .fault) 0 e, taken-by-counts token d))
       (λ e d. absurd (eqb-false (p .fault) 0 e d))
 
-parse-counts : (room at : ℕ) (p : Parser) (tokens : List Token) → (parse room at p tokens) .fault ≡ 0
+pub parse-counts : (room at : ℕ) (p : Parser) (tokens : List Token) → (parse room at p tokens) .fault ≡ 0
     → (p .fault ≡ 0) × ((parse room at p tokens) .total ≡ p .total + length (numbersIn tokens))
 unfolding parse numbersIn
 parse-counts room at p [] e = (e, omega arith)

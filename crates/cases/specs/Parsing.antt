@@ -102,7 +102,8 @@ counted p room at =
     })
     (failed p (numberFault p room) at)
 
--- a token that the byte at ends, where there was no fault: 1 no number and no heading; 2 a number of 2^32 or more
+-- a token that the byte at ends, where there was no fault: 1 no number and no heading (told as 15 where it begins with a byte-order
+-- mark: Reading.antt); 2 a number of 2^32 or more
 abbrev pub takenBy : ℕ → ℕ → Parser → Token → Parser
 takenBy room at p Nothing = p
 takenBy room at p (Number n) = counted p room at

@@ -4,7 +4,6 @@ use mathlib.Core.Path.{_≡_, refl, sym, ap, ap₂, _∙_}
 use mathlib.Core.Bool.{Bool, true, false, cond, not, _&&_}
 use mathlib.Core.List.{List, [], _∷_}
 use Prim.Native.Nat.{ℕ, zero, suc, _-_, _<_}
-use native.Mathlib.Nat.{not-suc-le-zero}
 use native.Mathlib.Omega.{arith}
 use lib.Dec.{eqb, ltb}
 use lib.ListN.{getD}
@@ -17,6 +16,7 @@ use Rattle.explain.specs.declared.answers.Shape.{Shape}
 use Rattle.explain.specs.declared.answers.Source.{Source}
 use Rattle.explain.specs.declared.answers.Source.the-variants.{Nothing, Index, Stored, Array}
 use Rattle.explain.specs.Sources.{stacked, past, here, alongWithin, along, shapeOf, supportBy, support}
+use Rattle.explain.proofs.Walks.{walk-stopped, walk-on}
 
 -- Number i of a list
 
@@ -93,28 +93,14 @@ module _ (w values : List ℕ) (j : ℕ) where
   pub stacked-below : (a : ℕ) → stacked (termAt w a) a ≡ true → termAt w a .p < a
   stacked-below a e = let x = termAt w a in ltb-true (x .p) a (and-parts (isStore x) (ltb (x .p) a) e .1)
 
-  by : {A : Type 0} (b : Bool) (x y z : A) → (b ≡ true → x ≡ y) → cond b x z ≡ cond b y z
-  by true x y z h = h refl
-  by false x y z h = refl
-
-  enough : (f g a : ℕ) → a < f → a < g → alongWithin f w values a j ≡ alongWithin g w values a j
-  enough zero g a b c = absurd (not-suc-le-zero b)
-  enough (suc f) zero a b c = absurd (not-suc-le-zero c)
-  enough (suc f) (suc g) a b c =
-      within f a
-      ∙ by (past w values a j) _ _ (here w values a j)
-      (λ e. let d = stacked-below a (past-stacked a e) in ap (λ (l : List Source). index a ∷ l) (enough f g (termAt w a .p) (omega arith) (omega arith)))
-      ∙ sym (within g a)
+  past-below : (a : ℕ) → past w values a j ≡ true → termAt w a .p < a
+  past-below a e = stacked-below a (past-stacked a e)
 
   pub along-stopped : (a : ℕ) → past w values a j ≡ false → here w values a j ≡ along w values a j
-  along-stopped a e = sym (within a a ∙ ap (λ (b : Bool). cond b (index a ∷ alongWithin a w values (termAt w a .p) j) (here w values a j)) e)
+  along-stopped = walk-stopped w (λ a. past w values a j) past-below (λ left a. alongWithin left w values a j) (λ a l. index a ∷ l) (λ a. here w values a j) within
 
   pub along-past : (a : ℕ) → past w values a j ≡ true → index a ∷ along w values (termAt w a .p) j ≡ along w values a j
-  along-past a e =
-      let d : termAt w a .p < a = stacked-below a (past-stacked a e) in
-      sym (within a a
-      ∙ ap (λ (b : Bool). cond b (index a ∷ alongWithin a w values (termAt w a .p) j) (here w values a j)) e
-      ∙ ap (λ (l : List Source). index a ∷ l) (enough a (suc (termAt w a .p)) (termAt w a .p) d (omega arith)))
+  along-past = walk-on w (λ a. past w values a j) past-below (λ left a. alongWithin left w values a j) (λ a l. index a ∷ l) (λ a. here w values a j) within
 
   -- at a term that is no store; at a store, whose index is the read's or another
   module _ (a : ℕ) where

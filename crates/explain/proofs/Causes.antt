@@ -1,5 +1,5 @@
--- Of a well-formed table, by the values and truths of an interpretation: a term that is not free, and no store, is a marked variable or blames a
--- term beneath it. So the way is whole, and ends at marked variables.
+-- Of a well-formed table, by the values and truths of an interpretation: a term that is not free, and no store, is a
+-- marked variable or blames a term beneath it. So the way is whole, and ends at marked variables.
 -- Assumes nothing.
 use mathlib.Core.Path.{_≡_, refl, sym, ap, ap₂, _∙_}
 use mathlib.Core.Bool.{Bool, true, false, not, _&&_}
@@ -26,9 +26,9 @@ use Rattle.judge.proofs.Alike.{condition-below}
 use Rattle.judge.proofs.Meaning.{truth-in}
 use Rattle.explain.specs.Sources.{support, names, blames}
 use Rattle.explain.specs.Ways.{onWay, wayOf}
-use Rattle.explain.specs.Laws.{Blamed, GoesOn, WayGoesOn, WayIsWhole}
-use Rattle.explain.proofs.Names.{Each, Failing, every-or-one}
-use Rattle.explain.proofs.Supports.{plain-at, Lower, Made, literal, input, function, choice, read, store, made, lower-support, input-free, support-suffices}
+use Rattle.explain.specs.Laws.{GoesOn, WayGoesOn, WayIsWhole}
+use Rattle.explain.proofs.Names.{Each, every-or-one}
+use Rattle.explain.proofs.Supports.{plain-at, Made, literal, input, function, choice, read, store, made, lower-support, input-free, support-suffices}
 use Rattle.explain.proofs.Descents.{all-way, whole}
 
 module _ (limit : ℕ) (w : List ℕ) (marked : Term → Bool) (I : Interpretation) (f : WellFormed limit w) where

@@ -8,7 +8,7 @@ use Prim.Native.Nat.{ℕ, zero, suc, pred, _≤_, _<_}
 use native.Mathlib.Decide.{ℕ-discrete}
 use native.Mathlib.Omega.{arith}
 use lib.Dec.{eqb, ltb}
-use lib.ListN.{length, getD, replicate, length-replicate}
+use lib.ListN.{length, replicate, length-replicate}
 use borrow.Author.Tests.{eqb-true, ltb-true, lt-ltb, not-true, eq-eqb}
 use Rattle.ops.specs.Meaning.{holds}
 use Rattle.ops.proofs.Booleans.{never, and-parts, or-parts}
@@ -20,6 +20,7 @@ use Rattle.explain.specs.Ways.{marked, onWay, blamed, lookedAt, wayDown,
 use Rattle.explain.specs.Laws.{OnlyUnfree, Whole}
 use Rattle.explain.proofs.Rows.{zeros, keep-marked, hit-marked, old-marked, length-marked}
 use Rattle.explain.proofs.Looks.{length-looked}
+use Rattle.explain.proofs.Downward.{length-begun}
 
 -- Some sources: those that are not free are marked, the others stay, and no other is new
 
@@ -153,9 +154,6 @@ module _ (w values truths : List ℕ) (P : ℕ → Type 0) (blames-on : (k i : �
       closed-down (suc m) marks all row closed =
           closed-down m (lookedAt w values truths m marks) (all-looked m marks all) (length-looked w values truths m marks ∙ row) (closed-next m marks all row closed)
 
-      length-begun : length (begun truths n) ≡ 512
-      length-begun = length-marked o (pred n) (replicate 512 0) ∙ length-replicate {A = ℕ} 512 0
-
       closed-begun : Closed n (begun truths n)
       closed-begun k i c h l = let was = old-begun k h in let b = was .0 in let e = was .2 in absurd (omega arith)
 
@@ -166,7 +164,7 @@ module _ (w values truths : List ℕ) (P : ℕ → Type 0) (blames-on : (k i : �
                 let last = small (pred n) (rule b u) in
                 keep-down n (begun truths n) (pred n)
                 (hit-marked o (pred n) (replicate 512 0) (ap₂ _&&_ (lt-ltb 0 n b) (ap not u)) (let l = length-replicate {A = ℕ} 512 0 in omega arith));
-            blamed = λ k i on l. closed-down n (begun truths n) all-begun length-begun closed-begun k i (omega arith) on l;
+            blamed = λ k i on l. closed-down n (begun truths n) all-begun (length-begun truths n) closed-begun k i (omega arith) on l;
           }
 
 pub only-unfree : OnlyUnfree

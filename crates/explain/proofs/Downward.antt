@@ -1,6 +1,6 @@
 -- The way down, a term at a time.
 -- Assumes nothing.
-use mathlib.Core.Path.{_≡_, refl, sym, ap, _∙_}
+use mathlib.Core.Path.{_≡_, sym, ap, _∙_}
 use mathlib.Core.Bool.{not, _&&_}
 use mathlib.Core.List.{List}
 use Prim.Native.Nat.{ℕ, zero, suc, pred, _-_, _≤_, _<_}
@@ -18,12 +18,12 @@ pub record Downward (w values truths : List ℕ) (n : ℕ) (marks : List ℕ) (k
   pub left : wayDown w values truths k marks ≡ wayOf w values truths n
   pub row : 512 ≡ length marks
 
-module _ (w values truths : List ℕ) (n : ℕ) (marks : List ℕ) where
-  pub length-begun : length (begun truths n) ≡ 512
-  length-begun = length-marked (ltb 0 n && not (truthIn truths (pred n))) (pred n) (replicate 512 0) ∙ length-replicate {A = ℕ} 512 0
+pub length-begun : (truths : List ℕ) (n : ℕ) → length (begun truths n) ≡ 512
+length-begun truths n = length-marked (ltb 0 n && not (truthIn truths (pred n))) (pred n) (replicate 512 0) ∙ length-replicate {A = ℕ} 512 0
 
+module _ (w values truths : List ℕ) (n : ℕ) (marks : List ℕ) where
   pub down-begun : marks ≡ begun truths n → Downward w values truths n marks n
-  down-begun e = record { left = ap (wayDown w values truths n) e; row = sym (ap length e ∙ length-begun) }
+  down-begun e = record { left = ap (wayDown w values truths n) e; row = sym (ap length e ∙ length-begun truths n) }
 
   pub down-one : (marks′ : List ℕ) (k : ℕ) → Downward w values truths n marks k → 0 < k → marks′ ≡ lookedAt w values truths (k - 1) marks → Downward w values truths n marks′ (k - 1)
   unfolding wayDown

@@ -1,9 +1,11 @@
 pub mod Rows
+pub mod Walks
 pub mod Alongs
 pub mod Looks
 pub mod Downward
 pub mod Names
 pub mod Supports
+pub mod Fewness
 pub mod Named
 pub mod Alone
 pub mod Stops

@@ -1,6 +1,6 @@
 -- What a term blames is marked, one source after the other.
 -- Assumes nothing.
-use mathlib.Core.Path.{_≡_, refl, sym, ap, subst, _∙_}
+use mathlib.Core.Path.{_≡_, refl, sym, ap, _∙_}
 use mathlib.Core.Bool.{Bool, true, false, cond, not}
 use mathlib.Core.List.{List, [], _∷_}
 use Prim.Native.Nat.{ℕ, zero, suc, _+_, _-_, _≤_, _<_}
@@ -20,7 +20,7 @@ use Rattle.explain.specs.declared.answers.Shape.{Shape}
 use Rattle.explain.specs.declared.answers.Shape.the-variants.{Leaf, Unary, Binary, Branches, Cell}
 use Rattle.explain.specs.declared.answers.Source.{Source}
 use Rattle.explain.specs.declared.answers.Source.the-variants.{Nothing, Operand, Index, Stored, Array}
-use Rattle.explain.specs.Sources.{termOf, there, stacked, past, here, alongWithin, along, shapeOf, supportBy, support}
+use Rattle.explain.specs.Sources.{termOf, there, stacked, past, here, alongWithin, shapeOf, supportBy, support}
 use Rattle.explain.specs.Ways.{marked, onWay, blamed, lookedAt}
 use Rattle.explain.proofs.Rows.{length-marked}
 

@@ -1,10 +1,9 @@
 -- The slots of the variables on the way mend the rule.
 -- Assumes nothing.
-use mathlib.Core.Path.{_≡_, refl, sym, ap, ap₂, subst, _∙_}
+use mathlib.Core.Path.{_≡_, refl, sym, ap, ap₂, _∙_}
 use mathlib.Core.Bool.{Bool, true, false, not, _&&_}
 use mathlib.Core.List.{List}
-use mathlib.Core.Logic.{_⊎_, inl, inr, ⊎-elim}
-use Prim.Native.Nat.{ℕ, zero, suc, pred, _≤_, _<_}
+use Prim.Native.Nat.{ℕ, zero, suc, pred, _<_}
 use native.Mathlib.Nat.{not-suc-le-zero}
 use native.Mathlib.Omega.{arith}
 use lib.Dec.{leb}
@@ -25,8 +24,7 @@ use Rattle.evaluate.specs.Evaluation.{evaluates, ready}
 use Rattle.evaluate.proofs.Answers.{passed}
 use Rattle.judge.specs.declared.Judgement.{Judgement}
 use Rattle.judge.specs.declared.Judgement.the-variants.{Judged, NotJudged}
-use Rattle.judge.specs.declared.Verdict.{Verdict}
-use Rattle.judge.specs.Judgement.{ruleIn, ruleCondition, verdict, passes}
+use Rattle.judge.specs.Judgement.{ruleIn, ruleCondition, verdict}
 use Rattle.judge.specs.Conditions.{conditionAt}
 use Rattle.judge.specs.Marks.{Fewer}
 use Rattle.judge.specs.Code.Labelled.{truthIn}
@@ -34,10 +32,10 @@ use Rattle.judge.proofs.Marks.{fewer-marks}
 use Rattle.explain.specs.Sources.{support, names}
 use Rattle.explain.specs.Ways.{onWay}
 use Rattle.explain.specs.Repairs.{named, leftMarked}
-use Rattle.explain.specs.Laws.{MarkedOn, Mends, wayIn, repairIn, Repair, Passing, RepairPasses}
-use Rattle.explain.proofs.Supports.{Lower, lower-support, support-suffices}
+use Rattle.explain.specs.Laws.{MarkedOn, wayIn, repairIn, Repair, Passing, RepairPasses}
+use Rattle.explain.proofs.Supports.{lower-support, support-suffices}
 use Rattle.explain.proofs.Causes.{vs, ts, truth-at, input-marked, on-way, way-is-whole}
-use Rattle.explain.proofs.Named.{On, named-on, on-named}
+use Rattle.explain.proofs.Named.{named-on, on-named}
 
 -- a mark is left where its slot is not named
 taken-away : (m n : Bool) → m ≡ true → (m && not n) ≡ false → n ≡ true

@@ -1,6 +1,6 @@
 -- A row with some numbers marked.
 -- Assumes nothing.
-use mathlib.Core.Path.{_≡_, refl, sym, ap, subst, _∙_}
+use mathlib.Core.Path.{_≡_, refl, sym, ap, subst}
 use mathlib.Core.Bool.{Bool, true, false, cond, _&&_}
 use mathlib.Core.List.{List, [], _∷_}
 use mathlib.Core.Logic.{_⊎_, inl, inr, ⊎-elim}
@@ -9,8 +9,7 @@ use native.Mathlib.Nat.{not-suc-le-zero, le-of-suc-le-suc}
 use lib.Dec.{ltb}
 use lib.ListN.{length, getD, set, replicate, length-set}
 use borrow.Author.Tests.{ltb-false}
-use Rattle.ops.specs.Meaning.{holds}
-use Rattle.ops.proofs.Booleans.{never, and-parts}
+use Rattle.ops.proofs.Booleans.{and-parts}
 use Rattle.explain.specs.Ways.{marked, onWay}
 
 -- As the code marks it

@@ -2,7 +2,7 @@
 -- Assumes nothing.
 use mathlib.Core.Path.{_≡_, refl, sym, ap, ap₂, subst, _∙_}
 use mathlib.Core.Bool.{Bool, true, false, cond, not, _&&_, _||_}
-use mathlib.Core.List.{List, [], _∷_}
+use mathlib.Core.List.{List, []}
 use mathlib.Core.Logic.{_⊎_, inl, inr, ⊎-elim}
 use Prim.Native.Nat.{ℕ, zero, suc, _<_}
 use Prim.{tt}
@@ -25,7 +25,7 @@ use Rattle.ops.proofs.Booleans.{never, and-parts, or-parts, and-shut}
 use Rattle.table.specs.declared.words.Term.{Term}
 use Rattle.table.specs.Terms.{terms, termAt, sortAt, array}
 use Rattle.table.specs.Ranks.{applied, rankOf, slotted, writes}
-use Rattle.table.specs.Faults.{rank, isVariable, isStore}
+use Rattle.table.specs.Faults.{rank, isStore}
 use Rattle.table.specs.WellFormed.{WellFormed}
 use Rattle.table.proofs.OperandSorts.{placing-as, rank-below}
 use Rattle.setting.specs.Interpretation.{Value, Interpretation}
@@ -34,15 +34,14 @@ use Rattle.evaluate.proofs.Folds.{value-below, number-in}
 use Rattle.judge.specs.Conditions.{Condition, conditionBy, conditionIn, conditions, conditionAt, truths}
 use Rattle.judge.specs.Code.Labelled.{truthIn}
 use Rattle.judge.proofs.Alike.{condition-below}
-use Rattle.explain.specs.declared.answers.Held.{Held}
 use Rattle.explain.specs.declared.answers.Settled.{Settled}
 use Rattle.explain.specs.declared.answers.Settled.the-variants.{Untold, Alone, Picked, Equal, AtIndex, EqualBeneath, Unmarked}
 use Rattle.explain.specs.declared.answers.Shape.{Shape}
-use Rattle.explain.specs.declared.answers.Shape.the-variants.{Leaf, Unary, Binary, Branches, Cell}
+use Rattle.explain.specs.declared.answers.Shape.the-variants.{Binary, Branches, Cell}
 use Rattle.explain.specs.declared.answers.Source.the-variants.{Nothing, Operand}
-use Rattle.explain.specs.Sources.{there, stacked, past, picked, shapeOf}
-use Rattle.explain.specs.Settlers.{stopAt, unfreeTerm, unfreeBy, unfreeAt, someUnfree, settlesAlone, freelyPast, settledHere, settledBy, settlerOf}
-use Rattle.explain.specs.SettlerLaws.{Reaches, arrived, onward, SaysAlone, SaysPicked, SaysEqual, SaysAtIndex, SaysEqualBeneath, SaysUnmarked, Says, told, SettlerTrue, SettlerTold}
+use Rattle.explain.specs.Sources.{there, stacked, picked, shapeOf}
+use Rattle.explain.specs.Settlers.{stopAt, unfreeBy, unfreeAt, someUnfree, settlesAlone, freelyPast, settledHere, settledBy, settlerOf}
+use Rattle.explain.specs.SettlerLaws.{Reaches, arrived, onward, SaysAtIndex, SaysEqualBeneath, SaysUnmarked, Says, told, SettlerTrue, SettlerTold}
 use Rattle.explain.proofs.Supports.{and-open, num-of, StoreAt, array-at, Lower, Made, literal, input, function, choice, read, store, made, free-of, variable-read, store-read, condition-as}
 use Rattle.explain.proofs.Causes.{truth-at}
 use Rattle.explain.proofs.Stops.{stop-here, stop-on, freely-below, told-as}
@@ -64,6 +63,11 @@ chosen-equal test d e same h =
     let parts = and-parts (d && e) same h in
     let both = and-parts d e (parts .0) in
     (both .0, both .1, parts .1)
+
+-- of two that are equal either is the first
+either : (b : Bool) (y z : ℕ) → y ≡ z → cond b y z ≡ y
+either true y z e = refl
+either false y z e = sym e
 
 chosen-shut : (c test d e same : Bool) → e ≡ false → chosen (c && false) test d e same ≡ false
 chosen-shut c test d e same h = rw (h, and-shut c, and-shut d)
@@ -122,27 +126,27 @@ module _ (limit : ℕ) (w : List ℕ) (marked : Term → Bool) (I : Interpretati
         ∙ chosen-shut (K (termAt w a .q) .free) (eqb (getD vs (termAt w a .q) 0) j) (K (termAt w a .r) .free) (K (termAt w a .p) .readFree j false) _ (read-shut m (termAt w a .p) (omega arith) (omega arith) (s .ps)))
         (array-at limit w I f a c r)
 
-    -- what is said of a read of array term a
-    abbrev ReadSays : ℕ → Settled → Type 0
-    ReadSays a Untold = ⊥
-    ReadSays a (Alone i) = ⊥
-    ReadSays a (Picked pair) = ⊥
-    ReadSays a (Equal pair) = ⊥
-    ReadSays a (AtIndex held) = SaysAtIndex w marked I j a (W a .cell j) held
-    ReadSays a (EqualBeneath held) = SaysEqualBeneath w marked I j a (W a .cell j) held
-    ReadSays a (Unmarked b) = SaysUnmarked w marked I j a (W a .cell j) b
+    -- what is said of a read of array term a, which gives number
+    abbrev ReadSays : ℕ → ℕ → Settled → Type 0
+    ReadSays a number Untold = ⊥
+    ReadSays a number (Alone i) = ⊥
+    ReadSays a number (Picked pair) = ⊥
+    ReadSays a number (Equal pair) = ⊥
+    ReadSays a number (AtIndex held) = SaysAtIndex w marked I j a number held
+    ReadSays a number (EqualBeneath held) = SaysEqualBeneath w marked I j a number held
+    ReadSays a number (Unmarked b) = SaysUnmarked w marked I j a number b
 
-    -- past a store nothing changes
-    lifted : (a : ℕ) → goes a ≡ true → W a .cell j ≡ W (termAt w a .p) .cell j → (x : Settled) → ReadSays (termAt w a .p) x → ReadSays a x
-    lifted a g e Untold h = h
-    lifted a g e (Alone i) h = h
-    lifted a g e (Picked pair) h = h
-    lifted a g e (Equal pair) h = h
-    lifted a g e (AtIndex held) h =
-        record { reached = onward g (h .reached); store = h .store; its = h .its; index-free = h .index-free; index = h .index; is-free = h .is-free; same = e ∙ h .same }
-    lifted a g e (EqualBeneath held) h =
-        record { reached = onward g (h .reached); store = h .store; its = h .its; index-unfree = h .index-unfree; is-free = h .is-free; beneath-free = h .beneath-free; equal = h .equal; same = e ∙ h .same }
-    lifted a g e (Unmarked b) h = record { reached = onward g (h .reached); input = h .input; unmarked = h .unmarked; same = e ∙ h .same }
+    -- past a store, and by another name of the number, nothing changes
+    moved : (a a′ number number′ : ℕ) → ((b : ℕ) → Reaches w vs ts j a b → Reaches w vs ts j a′ b) → number′ ≡ number → (x : Settled) → ReadSays a number x → ReadSays a′ number′ x
+    moved a a′ number number′ on e Untold h = h
+    moved a a′ number number′ on e (Alone i) h = h
+    moved a a′ number number′ on e (Picked pair) h = h
+    moved a a′ number number′ on e (Equal pair) h = h
+    moved a a′ number number′ on e (AtIndex held) h =
+        record { reached = on (held .store) (h .reached); store = h .store; its = h .its; index-free = h .index-free; index = h .index; is-free = h .is-free; same = e ∙ h .same }
+    moved a a′ number number′ on e (EqualBeneath held) h =
+        record { reached = on (held .store) (h .reached); store = h .store; its = h .its; index-unfree = h .index-unfree; is-free = h .is-free; beneath-free = h .beneath-free; equal = h .equal; same = e ∙ h .same }
+    moved a a′ number number′ on e (Unmarked b) h = record { reached = on b (h .reached); input = h .input; unmarked = h .unmarked; same = e ∙ h .same }
 
     module _ (a : ℕ) (b : a < terms w) where
       abbrev x : Term
@@ -158,14 +162,14 @@ module _ (limit : ℕ) (w : List ℕ) (marked : Term → Bool) (I : Interpretati
       stops s c h es ec eh e =
           sym (λ i. found (es i) (ec i)) ∙ ap (settledHere w ts) (stop-here w goes below a ((λ i. (es i && not (eh i)) && ec i) ∙ e))
 
-      at-variable : opOf (x .op) ≡ Variable → K a .readFree j true ≡ true → ReadSays a (settledHere w ts (stopAt w goes a))
+      at-variable : opOf (x .op) ≡ Variable → K a .readFree j true ≡ true → ReadSays a (W a .cell j) (settledHere w ts (stopAt w goes a))
       unfolding conditionBy
       at-variable e h =
           let no-store : isStore x ≡ false = ap (λ (o : Op). writes o) e in
           let flat : stacked x a ≡ false = ap (λ (s : Bool). s && ltb (x .p) a) no-store in
           let is-free : K a .free ≡ true = sym (and-open (K a .free)) ∙ sym (variable-read limit w I f marked a b j true e) ∙ h in
           let unmarked : not (marked x) ≡ true = sym (condition-as limit w I f marked a b Variable e) ∙ is-free in
-          subst (ReadSays a) (stops false (truthIn ts (x .q)) (eqb (getD vs (x .q) 0) j) flat refl refl refl)
+          subst (ReadSays a (W a .cell j)) (stops false (truthIn ts (x .q)) (eqb (getD vs (x .q) 0) j) flat refl refl refl)
           (record { reached = arrived; input = ap (λ (o : Op). slotted o) e; unmarked = not-true (marked x) unmarked; same = refl })
 
       module _ (s : StoreAt limit w I f a) where
@@ -188,16 +192,12 @@ module _ (limit : ℕ) (w : List ℕ) (marked : Term → Bool) (I : Interpretati
             store-read limit w I f marked a b j true s
             ∙ (λ i. chosen (fq i) (eqb (getD vs (x .q) 0) j) (fr i) (K (x .p) .readFree j true) (eqb (nr i) (vp i .cell j)))
 
-        either : (b : Bool) (y z : ℕ) → y ≡ z → cond b y z ≡ y
-        either true y z e = refl
-        either false y z e = sym e
-
         at-store : (c h : Bool) → truthIn ts (x .q) ≡ c → eqb (getD vs (x .q) 0) j ≡ h
             → chosen c h (truthIn ts (x .r)) (K (x .p) .readFree j true) (eqb (getD vs (x .r) 0) (W (x .p) .cell j)) ≡ true
-            → (K (x .p) .readFree j true ≡ true → ReadSays (x .p) (settledHere w ts (stopAt w goes (x .p))))
-            → ReadSays a (settledHere w ts (stopAt w goes a))
+            → (K (x .p) .readFree j true ≡ true → ReadSays (x .p) (W (x .p) .cell j) (settledHere w ts (stopAt w goes (x .p))))
+            → ReadSays a (W a .cell j) (settledHere w ts (stopAt w goes a))
         at-store true true ec eh e rest =
-            subst (ReadSays a) (stops true true true (s .stacks) ec eh refl)
+            subst (ReadSays a (W a .cell j)) (stops true true true (s .stacks) ec eh refl)
             (record {
               reached = arrived;
               store = ap (λ (o : Op). writes o) (s .is);
@@ -209,13 +209,13 @@ module _ (limit : ℕ) (w : List ℕ) (marked : Term → Bool) (I : Interpretati
             })
         at-store true false ec eh e rest =
             let g : goes a ≡ true = λ i. (s .stacks i && not (eh i)) && ec i in
-            subst (λ (i : ℕ). ReadSays a (settledHere w ts i)) (stop-on w goes below a g)
-            (lifted a g (store-cell ∙ ap (λ (z : Bool). cond z (getD vs (x .r) 0) (W (x .p) .cell j)) eh) (settledHere w ts (stopAt w goes (x .p)))
+            subst (λ (i : ℕ). ReadSays a (W a .cell j) (settledHere w ts i)) (stop-on w goes below a g)
+            (moved (x .p) a (W (x .p) .cell j) (W a .cell j) (λ i r. onward g r) (store-cell ∙ ap (λ (z : Bool). cond z (getD vs (x .r) 0) (W (x .p) .cell j)) eh) (settledHere w ts (stopAt w goes (x .p)))
             (rest (chosen-branch false (truthIn ts (x .r)) (K (x .p) .readFree j true) _ e)))
         at-store false h ec eh e rest =
             let parts = chosen-equal h (truthIn ts (x .r)) (K (x .p) .readFree j true) (eqb (getD vs (x .r) 0) (W (x .p) .cell j)) e in
             let same : getD vs (x .r) 0 ≡ W (x .p) .cell j = eqb-true (getD vs (x .r) 0) (W (x .p) .cell j) (parts .2) in
-            subst (ReadSays a) (stops true false h (s .stacks) ec eh (and-shut (not h)))
+            subst (ReadSays a (W a .cell j)) (stops true false h (s .stacks) ec eh (and-shut (not h)))
             (record {
               reached = arrived;
               store = ap (λ (o : Op). writes o) (s .is);
@@ -227,7 +227,7 @@ module _ (limit : ℕ) (w : List ℕ) (marked : Term → Bool) (I : Interpretati
               same = store-cell ∙ either (eqb (getD vs (x .q) 0) j) (getD vs (x .r) 0) (W (x .p) .cell j) same;
             })
 
-    read-says : (m a : ℕ) → a < m → a < terms w → array (sortAt w a) ≡ true → K a .readFree j true ≡ true → ReadSays a (settledHere w ts (stopAt w goes a))
+    read-says : (m a : ℕ) → a < m → a < terms w → array (sortAt w a) ≡ true → K a .readFree j true ≡ true → ReadSays a (W a .cell j) (settledHere w ts (stopAt w goes a))
     read-says zero a n b r h = absurd (not-suc-le-zero n)
     read-says (suc m) a n b r h =
         ⊎-elim (λ e. at-variable a b e h)
@@ -299,10 +299,6 @@ module _ (limit : ℕ) (w : List ℕ) (marked : Term → Bool) (I : Interpretati
         free-branch true g = g
         free-branch false g = g
 
-        either : (z : Bool) (y y′ : ℕ) → y ≡ y′ → cond z y y′ ≡ y
-        either true y y′ g = refl
-        either false y y′ g = sym g
-
         go : (c : Bool) → truthIn ts (t .p) ≡ c → chosen (truthIn ts (t .p)) (holds (getD vs (t .p) 0)) (truthIn ts (t .q)) (truthIn ts (t .r)) (eqb (getD vs (t .q) 0) (getD vs (t .r) 0)) ≡ true
             → getD vs k 0 ≡ cond (holds (getD vs (t .p) 0)) (getD vs (t .q) 0) (getD vs (t .r) 0)
             → Claim (cond (truthIn ts (t .p)) (Picked (record { first = t .p; second = picked vs t })) (Equal (record { first = t .q; second = t .r })))
@@ -328,16 +324,14 @@ module _ (limit : ℕ) (w : List ℕ) (marked : Term → Bool) (I : Interpretati
             })
 
     -- a read
-    of-read : (x : Settled) → getD vs k 0 ≡ W (t .p) .cell (getD vs (t .q) 0) → ReadSays (getD vs (t .q) 0) (t .p) x → Claim x
-    of-read Untold e h = tt
-    of-read (Alone i) e h = absurd h
-    of-read (Picked pair) e h = absurd h
-    of-read (Equal pair) e h = absurd h
-    of-read (AtIndex held) e h =
-        record { reached = h .reached; store = h .store; its = h .its; index-free = h .index-free; index = h .index; is-free = h .is-free; same = e ∙ h .same }
-    of-read (EqualBeneath held) e h =
-        record { reached = h .reached; store = h .store; its = h .its; index-unfree = h .index-unfree; is-free = h .is-free; beneath-free = h .beneath-free; equal = h .equal; same = e ∙ h .same }
-    of-read (Unmarked c) e h = record { reached = h .reached; input = h .input; unmarked = h .unmarked; same = e ∙ h .same }
+    of-read : (x : Settled) → ReadSays (getD vs (t .q) 0) (t .p) (getD vs k 0) x → Claim x
+    of-read Untold h = tt
+    of-read (Alone i) h = absurd h
+    of-read (Picked pair) h = absurd h
+    of-read (Equal pair) h = absurd h
+    of-read (AtIndex held) h = h
+    of-read (EqualBeneath held) h = h
+    of-read (Unmarked c) h = h
 
     cell-says : opOf (t .op) ≡ Select → t .p < k → array (sortAt w (t .p)) ≡ true → Lower limit w I f k (t .q) → K k .free ≡ true → Claim (by Cell)
     unfolding conditionBy valueBy
@@ -347,8 +341,10 @@ module _ (limit : ℕ) (w : List ℕ) (marked : Term → Bool) (I : Interpretati
         let cp = condition-below w marked I k (t .p) pb in
         let vp = value-below w I k (t .p) pb in
         let g : K (t .p) .readFree (getD vs (t .q) 0) (truthIn ts (t .q)) ≡ true = sym (λ i. cp i .readFree (nq i) (tq i)) ∙ sym (condition-as limit w I f marked k b Select e) ∙ h in
-        of-read (by Cell) (number-at k b ∙ ap (λ (o : Op). valueBy I vk (sortAt w (t .p) .n) t o .num) e ∙ (λ i. vp i .cell (nq i)))
-        (read-says (getD vs (t .q) 0) (suc (t .p)) (t .p) (omega arith) (omega arith) ps (opened (truthIn ts (t .q)) g))
+        of-read (by Cell)
+        (moved (getD vs (t .q) 0) (t .p) (t .p) (W (t .p) .cell (getD vs (t .q) 0)) (getD vs k 0) (λ i r. r)
+        (number-at k b ∙ ap (λ (o : Op). valueBy I vk (sortAt w (t .p) .n) t o .num) e ∙ (λ i. vp i .cell (nq i))) (by Cell)
+        (read-says (getD vs (t .q) 0) (suc (t .p)) (t .p) (omega arith) (omega arith) ps (opened (truthIn ts (t .q)) g)))
       where
         opened : (c : Bool) → K (t .p) .readFree (getD vs (t .q) 0) c ≡ true → K (t .p) .readFree (getD vs (t .q) 0) true ≡ true
         opened true g = g

@@ -1,12 +1,9 @@
 -- Where a walk along a chain stops, and what is found there, as each way of the code has found it.
 -- Assumes nothing.
 use mathlib.Core.Path.{_≡_, refl, sym, ap, _∙_}
-use mathlib.Core.Bool.{Bool, true, false, cond, not, _&&_}
+use mathlib.Core.Bool.{Bool, true, false, cond, _&&_}
 use mathlib.Core.List.{List, [], _∷_}
 use Prim.Native.Nat.{ℕ, zero, suc, _<_}
-use native.Mathlib.Nat.{not-suc-le-zero}
-use native.Mathlib.Omega.{arith}
-use lib.Dec.{eqb}
 use lib.ListN.{getD}
 use Rattle.ops.proofs.Booleans.{and-parts}
 use Rattle.table.specs.declared.words.Term.{Term}
@@ -16,38 +13,22 @@ use Rattle.judge.specs.Code.Labelled.{truthIn}
 use Rattle.explain.specs.declared.answers.Settled.{Settled}
 use Rattle.explain.specs.declared.answers.Settled.the-variants.{Untold}
 use Rattle.explain.specs.declared.answers.Shape.{Shape}
-use Rattle.explain.specs.declared.answers.Source.{Source}
 use Rattle.explain.specs.declared.answers.Source.the-variants.{Nothing}
 use Rattle.explain.specs.Sources.{stacked, past, shapeOf}
 use Rattle.explain.specs.Settlers.{stopWithin, stopAt, open-store, unfreeBy, unfreeAt, someUnfree, freelyPast, settledBy, settlerOf}
 use Rattle.explain.proofs.Alongs.{past-stacked, stacked-below}
+use Rattle.explain.proofs.Walks.{walk-stopped, walk-on}
 
 module _ (w : List ℕ) (goes : ℕ → Bool) (below : (a : ℕ) → goes a ≡ true → termAt w a .p < a) where
   within : (left a : ℕ) → stopWithin (suc left) w goes a ≡ cond (goes a) (stopWithin left w goes (termAt w a .p)) a
   unfolding stopWithin
   within left a = refl
 
-  by : (b : Bool) (x y z : ℕ) → (b ≡ true → x ≡ y) → cond b x z ≡ cond b y z
-  by true x y z h = h refl
-  by false x y z h = refl
-
-  enough : (f g a : ℕ) → a < f → a < g → stopWithin f w goes a ≡ stopWithin g w goes a
-  enough zero g a b c = absurd (not-suc-le-zero b)
-  enough (suc f) zero a b c = absurd (not-suc-le-zero c)
-  enough (suc f) (suc g) a b c =
-      within f a
-      ∙ by (goes a) _ _ a (λ e. let d = below a e in enough f g (termAt w a .p) (omega arith) (omega arith))
-      ∙ sym (within g a)
-
   pub stop-here : (a : ℕ) → goes a ≡ false → a ≡ stopAt w goes a
-  stop-here a e = sym (within a a ∙ ap (λ (b : Bool). cond b (stopWithin a w goes (termAt w a .p)) a) e)
+  stop-here = walk-stopped w goes below (λ left a. stopWithin left w goes a) (λ a i. i) (λ a. a) within
 
   pub stop-on : (a : ℕ) → goes a ≡ true → stopAt w goes (termAt w a .p) ≡ stopAt w goes a
-  stop-on a e =
-      let d : termAt w a .p < a = below a e in
-      sym (within a a
-      ∙ ap (λ (b : Bool). cond b (stopWithin a w goes (termAt w a .p)) a) e
-      ∙ enough a (suc (termAt w a .p)) (termAt w a .p) d (omega arith))
+  stop-on = walk-on w goes below (λ left a. stopWithin left w goes a) (λ a i. i) (λ a. a) within
 
 -- Both walks go to earlier terms
 

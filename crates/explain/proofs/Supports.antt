@@ -7,7 +7,7 @@ use mathlib.Core.Logic.{_⊎_, inl, inr, ⊎-elim}
 use Prim.Native.Nat.{ℕ, zero, suc, _<_}
 use native.Mathlib.Nat.{not-suc-le-zero}
 use native.Mathlib.Omega.{arith}
-use lib.Dec.{eqb, ltb}
+use lib.Dec.{eqb}
 use lib.ListN.{getD}
 use borrow.Author.Tests.{lt-ltb}
 use Rattle.ops.specs.declared.Function.{Function}
@@ -21,7 +21,6 @@ use Rattle.ops.specs.Ranks.Arity.{one as one-operand, two as two-operands}
 use Rattle.ops.specs.Ranks.FunctionRank.{boolUnary, boolBinary, equality, bvUnary, bvBinary, bvCompare}
 use Rattle.ops.specs.Condition.{absorbed, shifted, chosen, conditionBy as operationCondition, settles}
 use Rattle.ops.proofs.Booleans.{never}
-use Rattle.table.specs.declared.words.Sort.{Sort}
 use Rattle.table.specs.declared.words.Term.{Term}
 use Rattle.table.specs.Terms.{terms, termAt, sortAt, boolean, scalar, array, vectorOf, sameSort}
 use Rattle.table.specs.Ranks.{applied, rankOf, slotted, writes}
@@ -36,7 +35,7 @@ use Rattle.judge.specs.Conditions.{Condition, conditionBy, conditionIn, conditi
 use Rattle.judge.proofs.Alike.{condition-below}
 use Rattle.explain.specs.declared.answers.Source.{Source}
 use Rattle.explain.specs.declared.answers.Source.the-variants.{Operand, Index, Stored, Array}
-use Rattle.explain.specs.Sources.{stacked, along, picked, shapeOf, supportBy, support, names}
+use Rattle.explain.specs.Sources.{stacked, along, picked, shapeOf, supportBy, support}
 use Rattle.explain.specs.Laws.{SupportSuffices}
 use Rattle.explain.proofs.Alongs.{along-end, along-hit, along-miss}
 use Rattle.explain.proofs.Names.{Each, each-none, each-cons, each-head, each-tail}

@@ -16,10 +16,10 @@ use Rattle.judge.specs.Conditions.{conditionBy, ownMarks, truths}
 use Rattle.explain.specs.declared.answers.Settled.{Settled}
 use Rattle.explain.specs.declared.answers.Settled.the-variants.{Untold, Alone, Picked, Equal, AtIndex, EqualBeneath, Unmarked}
 use Rattle.explain.specs.declared.answers.Source.{Source}
-use Rattle.explain.specs.declared.answers.Source.the-variants.{Nothing, Operand, Index, Stored, Array}
+use Rattle.explain.specs.declared.answers.Source.the-variants.{Operand, Index, Stored, Array}
 use Rattle.explain.specs.Sources.{alongWithin, support}
 use Rattle.explain.specs.Ways.{onWay, blamed, lookedAt, wayDown}
-use Rattle.explain.specs.Repairs.{repairOf, named}
+use Rattle.explain.specs.Repairs.{repairOf}
 use Rattle.explain.specs.Settlers.{stopWithin, unfreeAt, settlerOf}
 use Rattle.explain.specs.Laws.{wayIn, repairIn}
 
@@ -68,8 +68,9 @@ toldIn w values k i =
     let ts = truths w ownMarks I (terms w) in
     record { by = settlerOf w (numbers w I (terms w)) ts k; though = unfreeAt w ts (termAt w k) i }
 
--- P1, whose condition is true. P2: by the sum and the product to x. P8: past the store to the array. P11 with branches 3 and 4: to the test; with a
--- marked branch behind it: to both. A read at a marked store index, of the store and past it: to that index.
+-- P1, whose condition is true. P2: by the sum and the product to x. P8: past the store to the array. P11 with branches
+-- 3 and 4: to the test; with a marked branch behind it: to both. A read at a marked store index, of the store and past
+-- it: to that index.
 pub ways : List Down
 ways =
     downIn ruleG (0 ∷ 5 ∷ 1 ∷ [])
@@ -93,8 +94,9 @@ pub ways-are : ways
 unfolding ways downIn listedBelow fold valueBy conditionBy apply settles lookFrom alongWithin support blamed lookedAt wayDown repairOf
 ways-are = refl
 
--- P1: the product, by a, which is 0. P2: not free. P7: the read, by the store at its index. P11: equal branches, and others. The first branch picked
--- by a free test. A read past a marked index, by the equal value beneath. A read past a marked value, by the unmarked array.
+-- P1: the product, by a, which is 0. P2: not free. P7: the read, by the store at its index. P11: equal branches, and
+-- others. The first branch picked by a free test. A read past a marked index, by the equal value beneath. A read past a
+-- marked value, by the unmarked array.
 pub settlers : List Told
 settlers =
     toldIn ruleG (0 ∷ 5 ∷ 1 ∷ []) 3 1

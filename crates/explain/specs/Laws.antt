@@ -5,7 +5,8 @@ use mathlib.Core.Path.{_≡_}
 use mathlib.Core.Bool.{Bool, true, false, cond}
 use mathlib.Core.List.{List}
 use mathlib.Core.Logic.{_⊎_}
-use Prim.Native.Nat.{ℕ, pred, _<_}
+use Prim.Native.Nat.{ℕ, pred, _≤_, _<_}
+use lib.ListN.{length}
 use Rattle.ops.specs.declared.Op.{Op}
 use Rattle.ops.specs.Condition.{settles}
 use Rattle.table.specs.declared.words.Term.{Term}
@@ -32,14 +33,18 @@ FreeSettles =
     (op : Op) (n x y z : ℕ) (c d e second : Bool) → cond second d c ≡ true → wouldSettle op n (cond second y x) second ≡ true
     → settles op n x y z c d e ≡ true
 
--- What a value comes from suffices: of a well-formed table, under any marks, in any interpretation, a term whose support is all free is free. It
--- is no store, and no marked variable.
+-- What a value comes from suffices: of a well-formed table, under any marks, in any interpretation, a term whose
+-- support is all free is free. It is no store, and no marked variable.
 abbrev pub SupportSuffices : Type 0
 SupportSuffices =
     (limit : ℕ) (w : List ℕ) (marked : Term → Bool) (I : Interpretation) → WellFormed limit w
     → (k : ℕ) → k < terms w → isStore (termAt w k) ≡ false → (isVariable (termAt w k) ≡ true → marked (termAt w k) ≡ false)
     → ((i : ℕ) → names (support w (numbers w I (terms w)) (termAt w k)) i ≡ true → conditionAt w marked I i .free ≡ true)
     → conditionAt w marked I k .free ≡ true
+
+-- It is short: a chain has at most 16 stores.
+abbrev pub FewSources : Type 0
+FewSources = (limit : ℕ) (w values : List ℕ) → WellFormed limit w → (k : ℕ) → k < terms w → length (support w values (termAt w k)) ≤ 18
 
 -- No term on the way is free.
 abbrev pub OnlyUnfree : Type 0
@@ -61,8 +66,8 @@ pub record GoesOn (w : List ℕ) (marked : Term → Bool) (values truths : List 
   pub on : ((isVariable (termAt w k) ≡ true) × (marked (termAt w k) ≡ true)) ⊎ Blamed w values truths k
   pub beneath : (i : ℕ) → blames w values truths k i ≡ true → Beneath w truths k i
 
--- So the way ends at marked variables only: of a well-formed table, by the values and truths of any interpretation under any marks, each term
--- on the way goes on.
+-- So the way ends at marked variables only: of a well-formed table, by the values and truths of any interpretation
+-- under any marks, each term on the way goes on.
 abbrev pub WayGoesOn : Type 0
 WayGoesOn =
     (limit : ℕ) (w : List ℕ) (marked : Term → Bool) (I : Interpretation) → WellFormed limit w
@@ -86,8 +91,8 @@ pub record MarkedOn (w : List ℕ) (marked : Term → Bool) (way : List ℕ) (sl
   pub is-marked : marked (termAt w term) ≡ true
   pub its : termAt w term .p ≡ slot
 
--- A row of named slots mends a rule: marks are only taken away; only those of named slots; a slot is named where a marked variable on the way has
--- it; and without these marks the rule's condition is true.
+-- A row of named slots mends a rule: marks are only taken away; only those of named slots; a slot is named only where
+-- a marked variable on the way has it; and without these marks the rule's condition is true.
 pub record Mends (w : List ℕ) (marked : Term → Bool) (I : Interpretation) (way row : List ℕ) : Type 0 where
   pub fewer : Fewer (leftMarked marked row) marked
   pub only : (x : Term) → marked x ≡ true → leftMarked marked row x ≡ false → named row (x .p) ≡ true
@@ -101,7 +106,8 @@ wayIn w marked I = wayOf w (numbers w I (terms w)) (truths w marked I (terms w))
 abbrev pub repairIn : List ℕ → (Term → Bool) → Interpretation → List ℕ
 repairIn w marked I = repairOf w (wayIn w marked I) (terms w)
 
--- Of a table that judging takes, under any marks, in any interpretation: the slots of the variables on the way mend the rule.
+-- Of a table that judging takes, under any marks, in any interpretation: the slots of the variables on the way mend
+-- the rule.
 abbrev pub Repair : Type 0
 Repair = (w : List ℕ) (marked : Term → Bool) (I : Interpretation) → WellFormed 512 w → Mends w marked I (wayIn w marked I) (repairIn w marked I)
 

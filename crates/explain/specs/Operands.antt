@@ -13,7 +13,8 @@ use Rattle.judge.specs.Code.Labelled.{truthIn}
 use Rattle.explain.specs.declared.operands.Operand.{Operand}
 use Rattle.explain.specs.declared.operands.Operand.the-variants.{Settles, Free, Unfree, WouldSettle}
 
--- whether value x of the first operand, or of the second, settles the operator with only that operand free, at the first operand's width n
+-- whether value x of the first operand, or of the second, settles the operator with only that operand free, at the
+-- first operand's width n
 abbrev pub wouldSettle : Op → ℕ → ℕ → Bool → Bool
 wouldSettle op n x second = settles op n x x x (not second) second false
 

@@ -110,7 +110,8 @@ told (AtIndex held) = true
 told (EqualBeneath held) = true
 told (Unmarked b) = true
 
--- What the settler says is so: of each term of a well-formed table, by the values and truths of any interpretation under any marks.
+-- What the settler says is so: of each term of a well-formed table, by the values and truths of any interpretation
+-- under any marks.
 abbrev pub SettlerTrue : Type 0
 SettlerTrue =
     (limit : ℕ) (w : List ℕ) (marked : Term → Bool) (I : Interpretation) → WellFormed limit w

@@ -48,7 +48,8 @@ here w values a j =
     (Index (record { store = a; term = x .q }) ∷ cond (eqb (getD values (x .q) 0) j) (Stored (record { store = a; term = x .r }) ∷ []) [])
     (Array a ∷ [])
 
--- from array term a inward, past at most left stores: the index of each store that it goes past, and what it comes from where it stops
+-- from array term a inward, past at most left stores: the index of each store that it goes past, and what it comes
+-- from where it stops
 unfoldable pub alongWithin : ℕ → List ℕ → List ℕ → ℕ → ℕ → List Source
 alongWithin zero w values a j = here w values a j
 alongWithin (suc left) w values a j =

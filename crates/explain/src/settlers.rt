@@ -1,14 +1,14 @@
 // What settled a term that is free though an operand is not.
 ghost use mathlib.Core.Path.{_≡_};
-ghost use mathlib.Core.List.{List, [], _∷_};
+ghost use mathlib.Core.List.{[], _∷_};
 ghost use lib.ListN.{getD};
 ghost use Rattle.table.specs.Terms.{termAt};
 ghost use Rattle.table.specs.Faults.{rank};
 ghost use Rattle.explain.specs.declared.answers.Shape.the-variants.{Binary, Branches, Cell};
 ghost use Rattle.explain.specs.declared.answers.Source.the-variants.{Nothing};
 ghost use Rattle.explain.specs.Sources.{shapeOf};
-ghost use Rattle.explain.specs.Settlers.{stopAt, unfreeTerm, open-store, unfreeHere, unfreeAlong, unfreeAt, someUnfree};
-ghost use Rattle.explain.specs.Settlers.{settlesAlone, freelyPast, settledHere, settledBy, settlerOf};
+ghost use Rattle.explain.specs.Settlers.{unfreeTerm, open-store, unfreeHere, unfreeAlong, unfreeAt};
+ghost use Rattle.explain.specs.Settlers.{someUnfree, settlesAlone, freelyPast, settledHere, settledBy, settlerOf};
 use crate::answers::Held;
 use crate::answers::Pair;
 use crate::answers::Settled;

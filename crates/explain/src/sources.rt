@@ -1,6 +1,6 @@
 // What a term's value comes from in a setting.
 ghost use mathlib.Core.Path.{_≡_};
-ghost use mathlib.Core.List.{List, [], _∷_};
+ghost use mathlib.Core.List.{[], _∷_};
 ghost use lib.ListN.{getD};
 ghost use Rattle.explain.specs.declared.answers.Source.the-variants.{Nothing, Operand};
 ghost use Rattle.explain.specs.Sources.{termOf, there, stacked, past, here, along, picked, shapeOf, support};

@@ -1,6 +1,5 @@
-use mathlib.Core.Path.{_≡_, sym, ap, ap₂, _∙_}
-use mathlib.Core.Bool.{Bool, true, false, cond}
-use Rattle.explain.specs.declared.answers.Settled.{Settled}
+use mathlib.Core.Path.{sym, ap, ap₂, _∙_}
+use mathlib.Core.Bool.{Bool, true, cond}
 use Rattle.explain.specs.declared.answers.Settled.the-variants.{Untold, Alone}
 use Rattle.explain.specs.Settlers.{settlesAlone}
 use borrow.Author.Needs.{needs}

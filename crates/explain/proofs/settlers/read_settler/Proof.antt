@@ -1,6 +1,5 @@
 use mathlib.Core.Path.{_≡_, refl, sym, ap, subst, _∙_}
 use Prim.Native.Nat.{ℕ, _<_}
-use lib.ListN.{getD}
 use Rattle.table.specs.declared.words.Term.{Term}
 use Rattle.explain.specs.Settlers.{stopAt, freelyPast, settledHere}
 use Rattle.explain.proofs.Stops.{stop-here, stop-on, freely-below}

@@ -1,5 +1,5 @@
 use mathlib.Core.Path.{sym, ap₂, _∙_}
-use mathlib.Core.Bool.{Bool, _&&_}
+use mathlib.Core.Bool.{_&&_}
 use Rattle.explain.proofs.Stops.{told-as, untold-as}
 use borrow.Author.Needs.{needs}
 use Rattle.explain.proofs.settlers.settler.Statement.{statement}

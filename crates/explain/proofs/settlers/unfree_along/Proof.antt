@@ -1,5 +1,5 @@
 use mathlib.Core.Path.{_≡_, refl, sym, ap, subst, _∙_}
-use Prim.Native.Nat.{ℕ, _<_}
+use Prim.Native.Nat.{_<_}
 use Rattle.table.specs.declared.words.Term.{Term}
 use Rattle.explain.specs.Settlers.{stopAt, open-store, unfreeHere}
 use Rattle.explain.proofs.Stops.{stop-here, stop-on, open-below}

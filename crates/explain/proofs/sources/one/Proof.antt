@@ -1,7 +1,6 @@
 use mathlib.Core.List.{[]}
 use Rattle.explain.specs.declared.answers.Source.the-variants.{Nothing, Operand}
 use Rattle.explain.proofs.Alongs.{nth-first, nth-none}
-use borrow.Author.Needs.{needs}
 use Rattle.explain.proofs.sources.one.Statement.{statement}
 use Rattle.explain.proofs.sources.one.Tie as tie
 

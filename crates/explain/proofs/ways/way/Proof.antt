@@ -1,10 +1,4 @@
-use mathlib.Core.Path.{_≡_, refl, sym, ap, _∙_}
 use native.Mathlib.Omega.{arith}
-use lib.ListN.{length, replicate, length-replicate}
-use Prim.Native.Nat.{ℕ}
-use Rattle.explain.specs.Ways.{wayDown, wayOf}
-use Rattle.explain.proofs.Rows.{length-marked}
-use Rattle.explain.proofs.Looks.{length-looked}
 use Rattle.explain.proofs.Downward.{Downward, down-begun, down-one, down-none}
 use borrow.Author.Needs.{needs}
 use Rattle.explain.proofs.ways.way.Statement.{statement}

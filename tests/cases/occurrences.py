@@ -23,7 +23,7 @@ REASONS = {
     10: ["the rule is %s, and Bool is asked" % s for s in (r"BitVec \d+", r"Array \d+ \d+")],
     11: [r"the cells have \d+ numbers, not three for each cell", "the cells have 1 number, not three for each cell"],
     12: [r"the slot is \d+, and there are \d+ values", r"the slot is \d+, and there is 1 value"],
-    13: [r"the value of slot \d+ is \d+, at most \d+ fits %s" % s for s in ("Bool", r"BitVec \d+", r"Array \d+ \d+")],
+    13: [r"the value of slot \d+ is \d+, at most \d+ fits %s" % s for s in ("Bool", r"BitVec \d+")],
     14: [r"slot \d+ is no array of the table"],
     15: [r"the index is \d+, at most \d+ fits BitVec \d+", r"the value is \d+, at most \d+ fits BitVec \d+"],
     23: [r"the allowance is \d+, the reads take \d+ steps", r"the allowance is \d+, the reads take 1 step"],

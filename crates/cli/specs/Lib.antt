@@ -1,3 +1,2 @@
-pub mod Commands
-pub mod Layout
-pub mod Settling
+pub mod Arguments
+pub mod Status

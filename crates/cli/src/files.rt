@@ -1,94 +1,65 @@
-// Opening a case file and reading it; what is wrong with it goes to standard error.
-ghost use mathlib.Core.Path.{_≡_};
-ghost use Prim.Native.Nat.{_+_};
-ghost use lib.ListN.{length, replicate};
-ghost use Rattle.cases.specs.declared.Reading.the-variants.{Read};
-ghost use Rattle.cases.specs.Parsing.{tableLimit, othersLimit};
-ghost use Rattle.cases.specs.Reading.{byteLimit, Inside};
-use crate::commands::Command;
-use crate::explanations::explain_case;
-use crate::finishings::finish_case;
-use crate::valuations::evaluate_case;
-use crate::verdicts::judge_case;
+// Reading a file. One of up to 65,535 bytes is answered in small rooms; the large ones are on the stack only where they
+// are needed. A room comes from a function, since one that is written in place is slow to prove.
+ghost use lib.ListN.{length};
+ghost use Rattle.cases.specs.Reading.{Placed};
+use crate::answers::put_answer;
+use crate::arguments;
+use crate::arguments::Request;
+use crate::faults::complain;
+use crate::finished::put_finished;
+use crate::status;
 use cases::Case;
-use cases::Misread;
-use cases::Reading;
-use libc::STDERR_FILENO;
+use cases::Parsing;
+use finish::Finishing;
 
-pub fn complain(text: &[u8]) {
-    io::write_all(STDERR_FILENO, text);
+const SMALL: usize = 65536;
+
+fn small_text() -> [u8; SMALL] {
+    [0u8; SMALL]
 }
 
-// A fault of a file, in words. 6 cannot occur: the room for the numbers is never too short.
-fn complain_of(kind: u32) {
-    match kind {
-        1 => complain(b"neither a number nor table, values, cells or allowance\n"),
-        2 => complain(b"a number of 2^32 (4294967296) or more\n"),
-        3 => complain(b"a number before the words table, values, cells, allowance\n"),
-        4 => complain(b"this part was given before\n"),
-        5 => complain(b"allowance takes one number, and this is another\n"),
-        6 => complain(b"more numbers than the room holds\n"),
-        7 => complain(b"the file ends without its part table\n"),
-        8 => complain(b"the file ends without its part values\n"),
-        9 => complain(b"the file ends without its part cells\n"),
-        10 => complain(b"the file ends without its part allowance\n"),
-        11 => complain(b"allowance has no number\n"),
-        12 => complain(b"the file is larger than 4194304 bytes\n"),
-        13 => complain(b"the table has more than 480000 numbers\n"),
-        _ => complain(b"values, cells and allowance together have more than 200000 numbers\n"),
-    }
-}
-
-fn complain_misread(path: &[u8], misread: Misread) {
-    complain(path);
-    complain(b": line ");
-    io::print_decimal(STDERR_FILENO, misread.line);
-    complain(b": ");
-    complain_of(misread.kind);
-}
-
-// Zeros for the bytes of a file, one more than a text may have; for its numbers; for the work of a command, of which
-// a finished table is the longest, with 512 + 3 + 145 * 512 terms.
-fn byte_room() -> [u8; cases::BYTE_LIMIT + 1]
-    ensures { λ r. ⌜ r ≡ replicate (byteLimit + 1) 0 ⌝ }
-{
+fn large_text() -> [u8; cases::BYTE_LIMIT + 1] {
     [0u8; cases::BYTE_LIMIT + 1]
 }
 
-fn number_room() -> [u32; cases::NUMBER_LIMIT]
-    ensures { λ r. ⌜ r ≡ replicate (tableLimit + othersLimit) 0 ⌝ }
-{
+// The numbers of a text of so many bytes are at most half as many.
+fn small_numbers() -> [u32; 32768] {
+    [0u32; 32768]
+}
+
+fn large_numbers() -> [u32; cases::NUMBER_LIMIT] {
     [0u32; cases::NUMBER_LIMIT]
 }
 
-fn work_room() -> [u32; 448530]
-    ensures { λ r. ⌜ r ≡ replicate 448530 0 ⌝ }
-{
+// For the work of a command: a value for each of 5,461 terms, or of 80,000; a finished table, of up to 512 + 3 + 145 *
+// 512 terms.
+fn small_room() -> [u32; 8190] {
+    [0u32; 8190]
+}
+
+fn large_room() -> [u32; 80000] {
+    [0u32; 80000]
+}
+
+fn finish_room() -> [u32; 448530] {
     [0u32; 448530]
 }
 
-// Runs a command on the parts of a case.
-fn run(
-    command: Command,
-    table: &[u32],
-    values: &[u32],
-    cells: &[u32],
-    allowance: u64,
-    room: &mut [u32],
-) {
-    match command {
-        Command::Judge => judge_case(table, values, cells, allowance, room),
-        Command::Explain => explain_case(table, values, cells, allowance, room),
-        Command::Finish => finish_case(table, values, cells, allowance, room),
-        Command::Evaluate => evaluate_case(table, values, cells, allowance, room),
-        Command::Help => (),
-        Command::Unknown => (),
-    }
+// The status after the page is written.
+fn written(page: &[u8], at: usize, ends: u32) -> u32 {
+    ops::ite(page::end(page, at), ends, status::BROKEN)
 }
 
-// Answers a command on a case, whose parts are runs of numbers.
-fn answer(command: Command, numbers: &[u32], case: Case)
-    requires { ⌜ Inside (Read case) (length (now numbers)) ⌝ }
+// Answers a request on a case, whose parts are runs of the numbers.
+fn answer_case(
+    request: Request,
+    path: &[u8],
+    text: &[u8],
+    numbers: &[u32],
+    case: Case,
+    room: &mut [u32],
+) -> u32
+    requires { ⌜ Placed case (length (now numbers)) ⌝ }
 {
     let table_from = case.table.from as usize;
     let table_to = case.table.to as usize;
@@ -100,47 +71,168 @@ fn answer(command: Command, numbers: &[u32], case: Case)
     let values = &numbers[values_from..values_to];
     let cells = &numbers[cells_from..cells_to];
     let allowance = table::number_at(numbers, case.allowance) as u64;
-    let mut room = work_room();
-    run(command, table, values, cells, allowance, &mut room);
+    let mut page = io::buffer();
+    let told = put_answer(
+        &mut page,
+        request,
+        path,
+        text,
+        table,
+        values,
+        cells,
+        allowance,
+        room,
+    );
+    written(&page, told.at, told.status)
 }
 
-// Reads the case of an open file. The file's bytes are kept no longer than that.
-fn read_open(fd: i32, numbers: &mut [u32]) -> Reading
-    ensures { λ r. ⌜ Inside r (length (now (numbers .entry))) ⌝ }
+// Answers a request on a text, in rooms for its numbers and for the work.
+fn answer_text(
+    request: Request,
+    path: &[u8],
+    text: &[u8],
+    numbers: &mut [u32],
+    room: &mut [u32],
+) -> u32 {
+    let parsing = cases::read_case(text, numbers);
+    match parsing {
+        Parsing::Parsed(case) => answer_case(request, path, text, numbers, case, room),
+        Parsing::NotParsed(e) => {
+            let from = e.from;
+            let to = e.to;
+            complain(path, e, &text[from..to]);
+            status::ERROR
+        }
+    }
+}
+
+// Finishes the table of a case in the longest room, which no table is too long for.
+fn finish_long(numbers: &[u32], case: Case) -> u32
+    requires { ⌜ Placed case (length (now numbers)) ⌝ }
 {
-    let mut text = byte_room();
-    let got = io::read_full(fd, &mut text);
-    cases::read_case(&text[..got], numbers)
+    let table_from = case.table.from as usize;
+    let table_to = case.table.to as usize;
+    let values_from = case.values.from as usize;
+    let values_to = case.values.to as usize;
+    let cells_from = case.cells.from as usize;
+    let cells_to = case.cells.to as usize;
+    let table = &numbers[table_from..table_to];
+    let values = &numbers[values_from..values_to];
+    let cells = &numbers[cells_from..cells_to];
+    let allowance = table::number_at(numbers, case.allowance) as u64;
+    let mut room = finish_room();
+    let mut page = io::buffer();
+    let answer = finish::finish(table, &mut room);
+    match answer {
+        Finishing::Finished(extent) => {
+            let at = put_finished(&mut page, 0, &room, extent, values, cells, allowance);
+            written(&page, at, status::DONE)
+        }
+        Finishing::NotFinished(_) => status::ERROR,
+    }
 }
 
-// Answers a command on an open file.
-fn answer_open(command: Command, path: &[u8], fd: i32) {
-    let mut numbers = number_room();
-    let reading = read_open(fd, &mut numbers);
+// Finishes the table of a text that was read before.
+fn answer_long(text: &[u8], numbers: &mut [u32]) -> u32 {
+    let parsing = cases::read_case(text, numbers);
+    match parsing {
+        Parsing::Parsed(case) => finish_long(numbers, case),
+        Parsing::NotParsed(_) => status::ERROR,
+    }
+}
+
+// Whether reading has ended at the end of the file, and not by an error, which is told.
+fn ended_well(path: &[u8], fd: i32) -> bool {
     let mut more = [0u8; 1];
     if libc::read(fd, &mut more) < 0 {
         os::fail(path);
-        return;
+        return false;
     }
-    match reading {
-        Reading::Read(case) => answer(command, &numbers, case),
-        Reading::Unread(misread) => complain_misread(path, misread),
+    true
+}
+
+// Sets a byte; one past the end is left out.
+fn set(bytes: &mut [u8], i: usize, byte: u8) {
+    if i < bytes.len() {
+        bytes[i] = byte;
     }
 }
 
-// Answers a command on the file that the program's second argument names.
-pub fn answer_file(command: Command) {
-    let mut path = io::buffer();
-    let length = os::arg(2, &mut path);
-    if os::errno() != 0 {
-        os::fail(b"FILE");
-        return;
+// Copies some bytes to the front of others.
+fn copy(from: &[u8], to: &mut [u8]) {
+    for i in 0..from.len() {
+        set(to, i, from[i]);
     }
-    let fd = os::open_read(&path[..length]);
+}
+
+// Puts the bytes that are read after some others, and answers how many there are in all.
+fn read_rest(fd: i32, front: &[u8], text: &mut [u8]) -> usize {
+    copy(front, text);
+    let start = page::filled(text, front.len());
+    let got = io::read_full(fd, &mut text[start..]);
+    std::num::wrapping_add_usize(start, got)
+}
+
+// Answers a request on a large file, whose first bytes are read.
+fn answer_large(request: Request, path: &[u8], fd: i32, front: &[u8]) -> u32 {
+    let mut text = large_text();
+    let got = read_rest(fd, front, &mut text);
+    if !ended_well(path, fd) {
+        return status::ERROR;
+    }
+    let end = page::filled(&text, got);
+    let mut numbers = large_numbers();
+    let mut room = large_room();
+    let ends = answer_text(request, path, &text[..end], &mut numbers, &mut room);
+    if ends == status::SHORT {
+        return answer_long(&text[..end], &mut numbers);
+    }
+    ends
+}
+
+// Answers a request on a small text.
+fn answer_small(request: Request, path: &[u8], text: &[u8]) -> u32 {
+    let mut numbers = small_numbers();
+    let mut room = small_room();
+    let ends = answer_text(request, path, text, &mut numbers, &mut room);
+    if ends == status::SHORT {
+        return answer_long(text, &mut numbers);
+    }
+    ends
+}
+
+// Answers a request on an open file. The call for a large one stands twice, so that its rooms are not put into this
+// function's frame.
+fn answer_open(request: Request, path: &[u8], fd: i32) -> u32 {
+    let mut text = small_text();
+    let got = io::read_full(fd, &mut text);
+    if got == SMALL {
+        if fd == 0 {
+            return answer_large(request, path, 0, &text[..got]);
+        }
+        return answer_large(request, path, fd, &text[..got]);
+    }
+    if !ended_well(path, fd) {
+        return status::ERROR;
+    }
+    answer_small(request, path, &text[..got])
+}
+
+fn hyphen(path: &[u8]) -> bool {
+    (path.len() == 1) & (arguments::first(path) == b'-')
+}
+
+// Answers a request on the file of a name; a hyphen is standard input.
+pub fn answer_file(request: Request, path: &[u8]) -> u32 {
+    if hyphen(path) {
+        return answer_open(request, path, 0);
+    }
+    let fd = os::open_read(path);
     if fd < 0 {
-        os::fail(&path[..length]);
-        return;
+        os::fail(path);
+        return status::ERROR;
     }
-    answer_open(command, &path[..length], fd);
+    let ends = answer_open(request, path, fd);
     libc::close(fd);
+    ends
 }

@@ -1,0 +1,148 @@
+// A page: a row of bytes that is written to standard output whenever it is full. A place in it is how many of its bytes
+// are filled, or BROKEN once a write has failed; whatever is put there stays unwritten, and the place stays BROKEN.
+mod numbers; // the numbers of a message
+mod texts; // messages: lines of a text, with numbers
+
+ghost use Rattle.io.specs.Counts.{Counts};
+use libc::STDOUT_FILENO;
+pub use numbers::DASH;
+pub use numbers::NULL;
+pub use numbers::Numbers;
+pub use numbers::five;
+pub use numbers::none;
+pub use numbers::one;
+pub use numbers::push;
+pub use numbers::push_if;
+pub use numbers::push_long;
+pub use numbers::three;
+pub use numbers::truth;
+pub use numbers::two;
+pub use numbers::value;
+pub use texts::fill;
+pub use texts::say;
+
+const BROKEN: usize = 18446744073709551615;
+
+// The start of a page, where a write succeeded.
+fn anew(written: bool) -> usize {
+    if written { 0 } else { BROKEN }
+}
+
+// Where the next byte goes: a page that is full is written, and begun anew.
+fn room(page: &[u8], at: usize) -> usize {
+    if at < page.len() {
+        at
+    } else if at == page.len() {
+        anew(io::write_all(STDOUT_FILENO, page))
+    } else {
+        BROKEN
+    }
+}
+
+// One byte more.
+pub fn put(page: &mut [u8], at: usize, byte: u8) -> usize {
+    let place = room(page, at);
+    if place < page.len() {
+        page[place] = byte;
+        place + 1
+    } else {
+        BROKEN
+    }
+}
+
+pub fn put_all(page: &mut [u8], at: usize, bytes: &[u8]) -> usize {
+    let mut to = at;
+    for i in 0..bytes.len() {
+        to = put(page, to, bytes[i]);
+    }
+    to
+}
+
+fn put_spaces(page: &mut [u8], at: usize, count: usize) -> usize {
+    let mut to = at;
+    for _i in 0..count {
+        to = put(page, to, b' ');
+    }
+    to
+}
+
+fn put_number(page: &mut [u8], at: usize, n: u64) -> usize {
+    let mut digits = [0u8; 20];
+    let count = io::decimal(n, &mut digits);
+    put_all(page, at, &digits[..count])
+}
+
+// The line of a byte in a string of JSON: 0 as it is, 1 by its number, 2 and 3 after a backslash.
+fn escape(byte: u8) -> u32 {
+    if byte < 32 {
+        1
+    } else if byte == b'"' {
+        2
+    } else if byte == b'\\' {
+        3
+    } else {
+        0
+    }
+}
+
+// The line of a hexadecimal digit.
+fn digit(n: u8) -> u64 {
+    if n < 16 { 4 + (n as u64) } else { 4 }
+}
+
+// A byte as in a string of JSON.
+fn put_quoted(page: &mut [u8], at: usize, byte: u8) -> usize {
+    if escape(byte) == 0 {
+        return put(page, at, byte);
+    }
+    fill(
+        page,
+        at,
+        b"
+\\u00&&
+\\\"
+\\\\
+0
+1
+2
+3
+4
+5
+6
+7
+8
+9
+a
+b
+c
+d
+e
+f
+",
+        b"",
+        escape(byte),
+        five(digit(byte / 16), digit(byte % 16), 0, 0, 0),
+    )
+}
+
+// Bytes as in a string of JSON.
+pub fn put_string(page: &mut [u8], at: usize, bytes: &[u8]) -> usize {
+    let mut to = at;
+    for i in 0..bytes.len() {
+        to = put_quoted(page, to, bytes[i]);
+    }
+    to
+}
+
+// So many of some bytes, or all.
+pub fn filled(bytes: &[u8], at: usize) -> usize
+    ensures { λ r. ⌜ Counts r (now (bytes .entry)) ⌝ }
+{
+    if at < bytes.len() { at } else { bytes.len() }
+}
+
+// Writes what is filled, and answers whether all that was ever put was written.
+pub fn end(page: &[u8], at: usize) -> bool {
+    let count = filled(page, at);
+    io::write_all(STDOUT_FILENO, &page[..count]) & (at <= page.len())
+}

@@ -1,0 +1,271 @@
+// Messages: a line of a text with numbers put in. In a line
+//   #   is the next number, ? the next as a number or a word
+//   @   the line of the names that the next number counts, and & that of the text; there all of this holds, but no
+//       more than two lines stand in each other
+//   $   the end of a printed line
+//   ~   starts a column, and *Z fills it with spaces, one at least, to so many places as Z is a letter
+//   %E  spaces before the next number, so that it ends after so many places as E is a letter
+use crate::filled;
+use crate::numbers::Numbers;
+use crate::numbers::after;
+use crate::put;
+use crate::put_number;
+use crate::put_spaces;
+
+// Where the page stands, and where its column began; where the text stands, and where it goes on after a line
+// that was entered and after one in that, 0 where it is in none; the numbers that are still to be put.
+struct Filling {
+    at: usize,
+    from: usize,
+    next: usize,
+    outer: usize,
+    inner: usize,
+    numbers: Numbers,
+}
+
+// Where line n of a text starts; its end where it has no such line.
+fn line_at(text: &[u8], n: u64) -> usize {
+    let mut left = n;
+    for i in 0..text.len() {
+        if left == 0 {
+            return i;
+        }
+        if text[i] == b'\n' {
+            left -= 1;
+        }
+    }
+    text.len()
+}
+
+// The byte at a place of a text, or past its end of the names.
+fn byte_at(text: &[u8], names: &[u8], i: usize) -> u8 {
+    if i < text.len() {
+        return text[i];
+    }
+    let k = i - text.len();
+    if k < names.len() { names[k] } else { b'\n' }
+}
+
+// Line n of a text as it is.
+pub fn put_line(page: &mut [u8], at: usize, text: &[u8], n: u64) -> usize {
+    let mut to = at;
+    for i in line_at(text, n)..text.len() {
+        if text[i] == b'\n' {
+            break;
+        }
+        to = put(page, to, text[i]);
+    }
+    to
+}
+
+// A number, or from 2^32 on a word.
+fn put_shown(page: &mut [u8], at: usize, n: u64) -> usize {
+    if n < 4294967296 {
+        put_number(page, at, n)
+    } else {
+        put_line(page, at, b"false\ntrue\n-\nnull\n", n - 4294967296)
+    }
+}
+
+fn digits(n: u64) -> usize {
+    let mut row = [0u8; 20];
+    io::decimal(n, &mut row)
+}
+
+// How many places a number or a word takes.
+fn width_of(n: u64) -> usize {
+    if n < 4294967296 {
+        digits(n)
+    } else if n == crate::numbers::DASH {
+        1
+    } else if n == crate::numbers::truth(false) {
+        5
+    } else {
+        4
+    }
+}
+
+// A letter by its place in the alphabet.
+fn letter(byte: u8) -> usize {
+    if byte > 64 { (byte - 64) as usize } else { 0 }
+}
+
+// How many bytes were put into a page of so many since a place, where it was begun anew at most once.
+fn since(from: usize, at: usize, length: usize) -> usize {
+    if from <= at {
+        at - from
+    } else if from <= length {
+        at + (length - from)
+    } else {
+        0
+    }
+}
+
+fn less(a: usize, b: usize) -> usize {
+    if b < a { a - b } else { 0 }
+}
+
+// The spaces that * and % put: to fill a column, one at least; before a number.
+fn spaces(byte: u8, after: u8, used: usize, n: u64) -> usize {
+    let width = letter(after);
+    if byte == b'*' {
+        if used < width { width - used } else { 1 }
+    } else if byte == b'%' {
+        less(width, width_of(n))
+    } else {
+        0
+    }
+}
+
+// Whether a byte of a line puts nothing but spaces.
+fn blank(byte: u8) -> bool {
+    (byte == b'*') | (byte == b'%') | (byte == b'~')
+}
+
+// A byte of a line as it is printed.
+fn printed(byte: u8) -> u8 {
+    if byte == b'$' { b'\n' } else { byte }
+}
+
+// What one byte of a line puts.
+fn put_step(page: &mut [u8], at: usize, from: usize, byte: u8, after: u8, n: u64) -> usize {
+    if byte == b'#' {
+        return put_number(page, at, n);
+    }
+    if byte == b'?' {
+        return put_shown(page, at, n);
+    }
+    if blank(byte) {
+        let count = spaces(byte, after, since(from, at, page.len()), n);
+        return put_spaces(page, at, count);
+    }
+    put(page, at, printed(byte))
+}
+
+// The numbers after a byte of a line.
+fn left(byte: u8, numbers: Numbers) -> Numbers {
+    if (byte == b'#') | (byte == b'?') {
+        after(numbers)
+    } else {
+        numbers
+    }
+}
+
+// How many bytes further the line goes on.
+fn length(byte: u8) -> usize {
+    if (byte == b'*') | (byte == b'%') {
+        2
+    } else {
+        1
+    }
+}
+
+// Where the line that & names starts, and that of the names that @ names, which stand after the text.
+fn named(text: &[u8], names: &[u8], byte: u8, n: u64) -> usize {
+    if byte == b'&' {
+        return line_at(text, n);
+    }
+    std::num::wrapping_add_usize(text.len(), line_at(names, n))
+}
+
+// After a byte that enters and leaves no line.
+fn passed(f: Filling, at: usize, byte: u8) -> Filling {
+    let numbers = f.numbers;
+    Filling {
+        at: at,
+        from: if byte == b'~' { at } else { f.from },
+        next: std::num::wrapping_add_usize(f.next, length(byte)),
+        outer: f.outer,
+        inner: f.inner,
+        numbers: left(byte, numbers),
+    }
+}
+
+// Into a line.
+fn entered(f: Filling, start: usize) -> Filling {
+    let back = std::num::wrapping_add_usize(f.next, 1);
+    let numbers = f.numbers;
+    let within = f.outer != 0;
+    Filling {
+        at: f.at,
+        from: f.from,
+        next: start,
+        outer: choose(within, f.outer, back),
+        inner: choose(within, back, 0),
+        numbers: after(numbers),
+    }
+}
+
+fn choose(test: bool, y: usize, z: usize) -> usize {
+    if test { y } else { z }
+}
+
+// Back from a line.
+fn left_line(f: Filling) -> Filling {
+    let numbers = f.numbers;
+    let within = f.inner != 0;
+    Filling {
+        at: f.at,
+        from: f.from,
+        next: choose(within, f.inner, f.outer),
+        outer: choose(within, f.outer, 0),
+        inner: 0,
+        numbers: numbers,
+    }
+}
+
+// One byte of a line.
+fn step(page: &mut [u8], text: &[u8], names: &[u8], f: Filling, byte: u8) -> Filling {
+    let numbers = f.numbers;
+    if (byte == b'@') | (byte == b'&') {
+        return entered(f, named(text, names, byte, numbers.a));
+    }
+    if byte == b'\n' {
+        return left_line(f);
+    }
+    let follows = byte_at(text, names, std::num::wrapping_add_usize(f.next, 1));
+    passed(
+        f,
+        put_step(page, f.at, f.from, byte, follows, numbers.a),
+        byte,
+    )
+}
+
+fn begun(at: usize, next: usize, numbers: Numbers) -> Filling {
+    Filling {
+        at: at,
+        from: at,
+        next: next,
+        outer: 0,
+        inner: 0,
+        numbers: numbers,
+    }
+}
+
+// Line n of a text with its numbers, of at most 1,000 bytes with the names.
+pub fn fill(
+    page: &mut [u8],
+    at: usize,
+    text: &[u8],
+    names: &[u8],
+    n: u32,
+    numbers: Numbers,
+) -> usize {
+    let mut f = begun(at, line_at(text, n as u64), numbers);
+    for _turn in 0..1000usize {
+        let byte = byte_at(text, names, f.next);
+        if (byte == b'\n') & (f.outer == 0) {
+            break;
+        }
+        f = step(page, text, names, f, byte);
+    }
+    f.at
+}
+
+// Line n of a text with its numbers, to a descriptor, of at most 255 bytes.
+pub fn say(fd: i32, text: &[u8], n: u32, numbers: Numbers) -> bool {
+    let mut page = [0u8; 256];
+    let at = fill(&mut page, 0, text, b"", n, numbers);
+    let count = filled(&page, at);
+    io::write_all(fd, &page[..count])
+}

@@ -1,0 +1,44 @@
+// A table's terms in rows, one a line.
+use crate::verdicts::put_spent;
+use evaluate::Spent;
+use table::number_at;
+
+// Each term with its value.
+fn put_rows(page: &mut [u8], at: usize, table: &[u32], values: &[u32], terms: u32) -> usize {
+    let mut to = at;
+    for k in 0..terms {
+        to = show::put_row(page, to, k, table::term_at(table, k), number_at(values, k));
+    }
+    to
+}
+
+// Each term with its mark, value and condition.
+pub fn put_judged_rows(
+    page: &mut [u8],
+    at: usize,
+    table: &[u32],
+    values: &[u32],
+    truths: &[u32],
+    terms: u32,
+) -> usize {
+    let mut to = at;
+    for k in 0..terms {
+        let x = table::term_at(table, k);
+        let free = explain::free_at(truths, k);
+        to = show::put_judged_row(page, to, k, x, number_at(values, k), free);
+    }
+    to
+}
+
+// An evaluation, whose room has the values at its front.
+pub fn put_evaluation(
+    page: &mut [u8],
+    at: usize,
+    table: &[u32],
+    room: &[u32],
+    spent: Spent,
+) -> usize {
+    let head = show::put_head(page, at, false);
+    let rows = put_rows(page, head, table, room, show::terms_within(table, 80000));
+    put_spent(page, rows, spent.steps, spent.left)
+}

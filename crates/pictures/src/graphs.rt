@@ -24,8 +24,9 @@ box
 ellipse
 orange
 white
-green
-red
+palegreen
+indianred1
+hexagon
 ",
         n,
         numbers,
@@ -46,7 +47,8 @@ fn line_of(x: Term) -> u32 {
 // The lines of a node's shape and colour.
 fn style(x: Term, free: bool) -> Numbers {
     let marked = (x.op == 1) & (x.q == 1);
-    let shape = ops::ite(marked, 9, ops::ite(x.op == 1, 10, 11));
+    let applied = ops::ite(free | (x.op == 16), 11, 16);
+    let shape = ops::ite(marked, 9, ops::ite(x.op == 1, 10, applied));
     let color = ops::ite(x.op == 16, 13, ops::ite(free, 14, 15));
     two(shape, ops::ite(marked, 12, color))
 }

@@ -54,7 +54,7 @@ def tree(j, colour):
 def node(j, t):
     term = j.terms[t]
     marked = term[0] == 1 and term[4]
-    shape = "octagon" if marked else "box" if term[0] == 1 else "ellipse"
+    shape = "octagon" if marked else "box" if term[0] == 1 else "ellipse" if term[0] == 16 or j.free[t] else "hexagon"
     fill = "orange" if marked else "white" if term[0] == 16 else "green" if j.free[t] else "red"
     value = "" if is_array(term[1:3]) else " = " + value_name(term, j.v[t])
     return 't%d [label="t%d %s%s", shape=%s, style=filled, fillcolor=%s];' % (t, t, name(term), value, shape, fill)

@@ -154,7 +154,7 @@ pub fn read_case(text: &[u8], numbers: &mut [u32]) -> Parsing
     read_within(&text[..end], whole, numbers)
 }
 
-// The line of heading or number k of a part, 0 where there is none.
+// The line of heading or number `k` of a part, 0 where there is none.
 fn line_of(text: &[u8], heading: bool, part: u32, k: usize) -> u64
     ensures { λ r. ⌜ r ≡ getD (linesOf heading part (now (text .entry))) k 0 ⌝ }
 {
@@ -163,7 +163,7 @@ fn line_of(text: &[u8], heading: bool, part: u32, k: usize) -> u64
     lines::line_within(&text[..end], whole, heading, part, k)
 }
 
-// The line of number k of a part (1 table, 2 values, 3 cells, 4 allowance), 0 where there is none.
+// The line of number `k` of a part (1 table, 2 values, 3 cells, 4 allowance), 0 where there is none.
 pub fn number_line(text: &[u8], part: u32, k: usize) -> u64
     ensures { λ r. ⌜ r ≡ numberLine (now (text .entry)) part k ⌝ }
 {

@@ -52,7 +52,7 @@ fn fewer(left: usize, hit: bool) -> usize
     if hit & (0 < left) { left - 1 } else { left }
 }
 
-// The line of heading or number k of a part, 0 where there is none.
+// The line of heading or number `k` of a part, 0 where there is none.
 pub fn line_within(text: &[u8], whole: bool, heading: bool, part: u32, k: usize) -> u64
     requires { ⌜ length (now text) ≤ byteLimit ⌝ }
     ensures { λ r. ⌜ r ≡ getD (linesWithin heading part (now (text .entry)) whole) k 0 ⌝ }

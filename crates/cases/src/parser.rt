@@ -71,7 +71,7 @@ fn failed(p: Parser, fault: u32, at: usize) -> Parser
     q
 }
 
-// The run of part k, where part begins after total numbers.
+// The run of part `k`, where part begins after total numbers.
 fn begun(run: Run, k: u32, part: u32, total: u32) -> Run
     ensures { λ r. ⌜ r ≡ begun run k part total ⌝ }
 {
@@ -86,7 +86,7 @@ fn begun(run: Run, k: u32, part: u32, total: u32) -> Run
     }
 }
 
-// The run of part k, where part's numbers now go up to next.
+// The run of part `k`, where part's numbers now go up to next.
 fn extended(run: Run, k: u32, part: u32, next: u32) -> Run
     ensures { λ r. ⌜ r ≡ extended run k part next ⌝ }
 {
@@ -118,7 +118,7 @@ fn full(p: Parser) -> bool
     (p.part == 4) & (p.allowance.from < p.allowance.to)
 }
 
-// How far a is above b.
+// How far a is above `b`.
 fn difference(a: u32, b: u32) -> u32
     ensures { λ r. ⌜ r ≡ a - b ⌝ }
 {
@@ -222,7 +222,7 @@ fn counted(p: Parser, room: u32, at: usize) -> Parser
     }
 }
 
-// After one token more, which the byte at ends. The first fault stands.
+// After one token more, which the byte `at` ends. The first fault stands.
 fn taken(room: u32, at: usize, p: Parser, token: Token) -> Parser
     ensures { λ r. ⌜ r ≡ taken room at p token ⌝ }
 {

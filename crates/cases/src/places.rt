@@ -19,7 +19,7 @@ pub fn feed(b: u8) -> u64
     if b == b'\n' { 1 } else { 0 }
 }
 
-// The line of the byte at, which is 1 and the line feeds before it.
+// The line of the byte `at`, which is 1 and the line feeds before it.
 pub fn line_at(text: &[u8], at: usize) -> u64
     requires { ⌜ length (now text) ≤ byteLimit ⌝ }
     ensures { λ r. ⌜ r ≡ lineAt (now (text .entry)) at ⌝ }
@@ -60,7 +60,7 @@ pub fn back_to(lines: bool, text: &[u8], at: usize) -> usize
     0
 }
 
-// The column of the byte at, which is 1 and the bytes of its line before it.
+// The column of the byte `at`, which is 1 and the bytes of its line before it.
 pub fn column_at(text: &[u8], at: usize) -> u64
     requires { ⌜ at ≤ byteLimit ⌝ }
     ensures { λ r. ⌜ r ≡ columnAt (now (text .entry)) at ⌝ }

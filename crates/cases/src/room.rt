@@ -11,7 +11,7 @@ use crate::lexer::lexed;
 use crate::lexer::token_at;
 use crate::lexer::token_at_end;
 
-// Writes a number at place n, where the room has it, and answers the next place.
+// Writes a number at place `n`, where the room has it, and answers the next place.
 fn put(numbers: &mut [u32], n: usize, token: Token) -> usize
     ensures { λ r. ⌜ r ≡ next (length (now (numbers .entry))) n token ⌝ }
     ensures { λ r. ⌜ now (numbers .exit) ≡ put (now (numbers .entry)) n token ⌝ }

@@ -104,7 +104,7 @@ fn counted(o: Options, kind: u32) -> Options {
     }
 }
 
-// What argument i is.
+// What argument `i` is.
 fn kind_at(i: usize, ended: bool) -> u32 {
     let mut word = io::buffer();
     let length = os::arg(i, &mut word);

@@ -3,7 +3,7 @@ use cases::ParseError;
 use libc::STDERR_FILENO;
 use page::Numbers;
 
-// Line n is fault n; 6 cannot occur: the room for the numbers is never too short.
+// Line `n` is fault `n`; 6 cannot occur: the room for the numbers is never too short.
 fn fill(page: &mut [u8], at: usize, n: u32, numbers: Numbers) -> usize {
     page::fill(
         page,

@@ -106,7 +106,7 @@ fn asks_of(rank: Rank) -> Asks
     }
 }
 
-// Whether a part's sort s meets what is asked, where x is the term's sort and a that of p.
+// Whether a part's sort `s` meets what is asked, where `x` is the term's sort and a that of p.
 fn met(asking: Asking, x: Sort, a: Sort, s: Sort) -> bool
     ensures { λ r. ⌜ r ≡ met asking x a s ⌝ }
 {
@@ -218,7 +218,7 @@ fn sort_line(table: &[u32], i: u32, x: Term, ask: Ask, rest: Diagnosis) -> Diagn
     unless(met(asking, sort, a, found), told, rest)
 }
 
-// 6: the first thing that is asked of term i, x, and is not met.
+// 6: the first thing that is asked of term `i`, `x`, and is not met.
 pub fn sort_told(table: &[u32], i: u32, x: Term) -> Diagnosis
     ensures { λ r. ⌜ r ≡ tell (sortLines (asks (rank x)) (now (table .entry)) i x) ⌝ }
 {

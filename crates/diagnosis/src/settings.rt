@@ -63,7 +63,7 @@ fn entry(row: &[u32], at: usize) -> u32
     if at < row.len() { row[at] } else { 0 }
 }
 
-// Cell k of a row.
+// Cell `k` of a row.
 fn cell_at(cells: &[u32], k: u32) -> Cell
     ensures { λ r. ⌜ r ≡ cellAt (now (cells .entry)) k ⌝ }
 {
@@ -122,7 +122,7 @@ fn steps_told(allowance: u64, steps: u32) -> Diagnosis
     unless(needed <= allowance, plain(27, allowance, needed), nothing())
 }
 
-// Of a setting, by the number that refuses it: at term or cell i, or i steps are needed.
+// Of a setting, by the number that refuses it: at term or cell `i`, or `i` steps are needed.
 pub fn setting_told(
     table: &[u32],
     values: &[u32],

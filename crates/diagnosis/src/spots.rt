@@ -29,7 +29,7 @@ pub fn number_of(part: u32, number: usize) -> Spot
     }
 }
 
-// Of term or cell i, by the number that refuses it.
+// Of term or cell `i`, by the number that refuses it.
 pub fn spot_at(table: &[u32], number: u32, i: u32) -> Spot
     ensures { λ r. ⌜ r ≡ spotAt (now (table .entry)) number i ⌝ }
 {

@@ -83,7 +83,7 @@ fn uses_of(rank: Rank) -> Uses
     }
 }
 
-// Whether a field of term i is right.
+// Whether a field of term `i` is right.
 fn right(u: Use, i: u32, v: u32) -> bool
     ensures { λ r. ⌜ r ≡ right u i v ⌝ }
 {
@@ -147,7 +147,7 @@ fn value_told(x: Term) -> Diagnosis
     unless(fitting, sized(14, x.p as u64, most(n), 0, sort), rest)
 }
 
-// Whether term a is a variable that clashes with x.
+// Whether term `a` is a variable that clashes with `x`.
 fn clashes(a: Term, x: Term) -> bool
     ensures { λ r. ⌜ r ≡ (isVariable a && conflicts a x) ⌝ }
 {
@@ -155,7 +155,7 @@ fn clashes(a: Term, x: Term) -> bool
     is_variable(a) & ((a.p == x.p) & !same)
 }
 
-// The first term before term i, x, that clashes with it, i where none does.
+// The first term before term `i`, `x`, that clashes with it, `i` where none does.
 fn first_clashing(table: &[u32], i: u32, x: Term) -> u32
     ensures { λ r. ⌜ r ≡ firstFrom (clashing (now (table .entry)) x) i 0 ⌝ }
 {
@@ -225,7 +225,7 @@ fn rule_told(table: &[u32], i: u32) -> Diagnosis
     unless(table::boolean(sort), sized(20, 0, 0, 0, sort), nothing())
 }
 
-// Of term i, by the number that refuses it.
+// Of term `i`, by the number that refuses it.
 pub fn term_told(table: &[u32], number: u32, i: u32) -> Diagnosis
     ensures { λ r. ⌜ r ≡ tell (termReasons (now (table .entry)) number i) ⌝ }
 {

@@ -14,15 +14,15 @@ pub enum Operand {
     WouldSettle,
 }
 
-// Whether term k is free.
+// Whether term `k` is free.
 pub fn free_at(truths: &[u32], k: u32) -> bool
     ensures { λ r. ⌜ r ≡ truthIn (now (truths .entry)) k ⌝ }
 {
     number_at(truths, k) == 1
 }
 
-// Whether value x of the first operand, or of the second, settles an operator with only that operand free, at the
-// first operand's width n.
+// Whether value `x` of the first operand, or of the second, settles an operator with only that operand free, at the
+// first operand's width `n`.
 pub fn would_settle(op: Op, n: u32, x: u32, second: bool) -> bool
     ensures { λ r. ⌜ r ≡ wouldSettle op n x second ⌝ }
 {
@@ -44,7 +44,7 @@ fn state_of(free: bool, settles: bool) -> Operand
     Operand::Unfree
 }
 
-// The state of operand p of term x, of q where second.
+// The state of operand p of term `x`, of q where second.
 pub fn operand_state(
     table: &[u32],
     values: &[u32],

@@ -24,7 +24,7 @@ use crate::sources::there;
 use table::Term;
 use table::number_at;
 
-// Term k, where it is not free.
+// Term `k`, where it is not free.
 fn unfree_term(truths: &[u32], k: u32) -> Source
     ensures { λ r. ⌜ r ≡ unfreeTerm (now (truths .entry)) k ⌝ }
 {
@@ -34,7 +34,7 @@ fn unfree_term(truths: &[u32], k: u32) -> Source
     Source::Operand(k)
 }
 
-// Whether term a is a store whose index and value are free.
+// Whether term `a` is a store whose index and value are free.
 fn open_store(table: &[u32], truths: &[u32], a: u32) -> bool
     ensures { λ r. ⌜ r ≡ open-store (now (table .entry)) (now (truths .entry)) a ⌝ }
 {
@@ -42,7 +42,7 @@ fn open_store(table: &[u32], truths: &[u32], a: u32) -> bool
     stacked(x, a) & free_at(truths, x.q) & free_at(truths, x.r)
 }
 
-// What is not free at term a of a chain, which is no such store.
+// What is not free at term `a` of a chain, which is no such store.
 fn unfree_here(table: &[u32], truths: &[u32], a: u32) -> Source
     ensures { λ r. ⌜ r ≡ unfreeHere (now (table .entry)) (now (truths .entry)) a ⌝ }
 {
@@ -65,7 +65,7 @@ fn unfree_here(table: &[u32], truths: &[u32], a: u32) -> Source
     Source::Array(a)
 }
 
-// The first thing along the whole chain of array term a that is not free, from the outermost store inward.
+// The first thing along the whole chain of array term `a` that is not free, from the outermost store inward.
 fn unfree_along(table: &[u32], truths: &[u32], a: u32) -> Source
     ensures { λ r. ⌜ r ≡ unfreeAlong (now (table .entry)) (now (truths .entry)) a ⌝ }
 {
@@ -76,7 +76,7 @@ fn unfree_along(table: &[u32], truths: &[u32], a: u32) -> Source
     unfree_here(table, truths, at)
 }
 
-// Number i of three.
+// Number `i` of three.
 fn of_three(p: Source, q: Source, r: Source, i: u32) -> Source
     ensures { λ s. ⌜ s ≡ getD (p ∷ q ∷ r ∷ []) i Nothing ⌝ }
 {
@@ -92,7 +92,7 @@ fn of_three(p: Source, q: Source, r: Source, i: u32) -> Source
     Source::Nothing
 }
 
-// Operand i, from 0, of term x where it is not free.
+// Operand `i`, from 0, of term `x` where it is not free.
 fn unfree_at(table: &[u32], truths: &[u32], x: Term, i: u32) -> Source
     ensures { λ r. ⌜ r ≡ unfreeAt (now (table .entry)) (now (truths .entry)) x i ⌝ }
 {
@@ -125,7 +125,7 @@ pub fn unfree_operand(table: &[u32], truths: &[u32], k: u32, i: u32) -> Source
     unfree_at(table, truths, table::term_at(table, k), i)
 }
 
-// Whether some operand of term x is not free.
+// Whether some operand of term `x` is not free.
 fn some_unfree(table: &[u32], truths: &[u32], x: Term) -> bool
     ensures { λ r. ⌜ r ≡ someUnfree (now (table .entry)) (now (truths .entry)) x ⌝ }
 {
@@ -135,7 +135,7 @@ fn some_unfree(table: &[u32], truths: &[u32], x: Term) -> bool
     first | second | third
 }
 
-// Whether operand p of term x, or q where second, is free and its value settles the operator.
+// Whether operand p of term `x`, or q where second, is free and its value settles the operator.
 fn settles_alone(table: &[u32], values: &[u32], truths: &[u32], x: Term, second: bool) -> bool
     ensures { λ r. ⌜ r ≡ settlesAlone (now (table .entry)) (now (values .entry)) (now (truths .entry)) x second ⌝ }
 {
@@ -174,14 +174,14 @@ fn choice_settler(table: &[u32], values: &[u32], truths: &[u32], x: Term) -> Set
     })
 }
 
-// Whether a read at index j goes past term a by a free test.
+// Whether a read at index `j` goes past term `a` by a free test.
 fn freely_past(table: &[u32], values: &[u32], truths: &[u32], j: u32, a: u32) -> bool
     ensures { λ r. ⌜ r ≡ freelyPast (now (table .entry)) (now (values .entry)) (now (truths .entry)) j a ⌝ }
 {
     past(table, values, a, j) & free_at(truths, table::term_at(table, a).q)
 }
 
-// What settles a read at term a, which it does not go past so.
+// What settles a read at term `a`, which it does not go past so.
 fn settled_here(table: &[u32], truths: &[u32], a: u32) -> Settled
     ensures { λ r. ⌜ r ≡ settledHere (now (table .entry)) (now (truths .entry)) a ⌝ }
 {
@@ -213,7 +213,7 @@ fn read_settler(table: &[u32], values: &[u32], truths: &[u32], x: Term) -> Settl
     settled_here(table, truths, at)
 }
 
-// What settles term x, where it is free and an operand is not.
+// What settles term `x`, where it is free and an operand is not.
 fn settled_by(table: &[u32], values: &[u32], truths: &[u32], x: Term) -> Settled
     ensures { λ r. ⌜ r ≡ settledBy (now (table .entry)) (now (values .entry)) (now (truths .entry)) x
         (shapeOf (rank x)) ⌝ }
@@ -228,7 +228,7 @@ fn settled_by(table: &[u32], values: &[u32], truths: &[u32], x: Term) -> Settled
     }
 }
 
-// What settled term k that is free though an operand is not; nothing where it is not free, or every operand is.
+// What settled term `k` that is free though an operand is not; nothing where it is not free, or every operand is.
 pub fn settler(table: &[u32], values: &[u32], truths: &[u32], k: u32) -> Settled
     ensures { λ r. ⌜ r ≡ settlerOf (now (table .entry)) (now (values .entry)) (now (truths .entry)) k ⌝ }
 {

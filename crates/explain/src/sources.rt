@@ -38,14 +38,14 @@ pub fn there(s: Source) -> bool
     }
 }
 
-// Whether term a, x, is a store over an earlier term.
+// Whether term `a`, `x`, is a store over an earlier term.
 pub fn stacked(x: Term, a: u32) -> bool
     ensures { λ r. ⌜ r ≡ stacked x a ⌝ }
 {
     table::is_store(x) & (x.p < a)
 }
 
-// Whether a read at index j goes past term a: a store at another index.
+// Whether a read at index `j` goes past term `a`: a store at another index.
 pub fn past(table: &[u32], values: &[u32], a: u32, j: u32) -> bool
     ensures { λ r. ⌜ r ≡ past (now (table .entry)) (now (values .entry)) a j ⌝ }
 {
@@ -53,7 +53,7 @@ pub fn past(table: &[u32], values: &[u32], a: u32, j: u32) -> bool
     stacked(x, a) & (number_at(values, x.q) != j)
 }
 
-// Number i of what a read at index j comes from at term a alone.
+// Number `i` of what a read at index `j` comes from at term `a` alone.
 fn here(table: &[u32], values: &[u32], a: u32, j: u32, i: usize) -> Source
     ensures { λ r. ⌜ r ≡ getD (here (now (table .entry)) (now (values .entry)) a j) i Nothing ⌝ }
 {
@@ -79,7 +79,7 @@ fn here(table: &[u32], values: &[u32], a: u32, j: u32, i: usize) -> Source
     Source::Nothing
 }
 
-// Number i of what a read of array term a at index j comes from, the outermost store first.
+// Number `i` of what a read of array term `a` at index `j` comes from, the outermost store first.
 fn along(table: &[u32], values: &[u32], a: u32, j: u32, i: usize) -> Source
     ensures { λ r. ⌜ r ≡ getD (along (now (table .entry)) (now (values .entry)) a j) i Nothing ⌝ }
 {
@@ -92,7 +92,7 @@ fn along(table: &[u32], values: &[u32], a: u32, j: u32, i: usize) -> Source
     here(table, values, at, j, left)
 }
 
-// Number i of one operand, and of two.
+// Number `i` of one operand, and of two.
 fn one(p: u32, i: usize) -> Source
     ensures { λ r. ⌜ r ≡ getD (Operand p ∷ []) i Nothing ⌝ }
 {
@@ -118,7 +118,7 @@ pub fn picked(values: &[u32], x: Term) -> u32
     ops::ite(number_at(values, x.p) == 1, x.q, x.r)
 }
 
-// Number i of what a read comes from: its index, and what is along its chain.
+// Number `i` of what a read comes from: its index, and what is along its chain.
 fn read(table: &[u32], values: &[u32], x: Term, i: usize) -> Source
     ensures { λ r. ⌜ r ≡ getD (Operand (x .q) ∷ along (now (table .entry)) (now (values .entry)) (x .p)
         (getD (now (values .entry)) (x .q) 0)) i Nothing ⌝ }
@@ -150,7 +150,7 @@ pub fn shape_of(x: Term) -> Shape
     }
 }
 
-// Number i, from 0, of what the value of term x comes from in a setting; nothing past the last.
+// Number `i`, from 0, of what the value of term `x` comes from in a setting; nothing past the last.
 pub fn source_at(table: &[u32], values: &[u32], x: Term, i: usize) -> Source
     ensures { λ r. ⌜ r ≡ getD (support (now (table .entry)) (now (values .entry)) x) i Nothing ⌝ }
 {

@@ -8,7 +8,7 @@ use crate::sources::term_of;
 use crate::sources::there;
 use table::number_at;
 
-// Marks number k of a row, where on; past its end there is none.
+// Marks number `k` of a row, where on; past its end there is none.
 pub fn mark(row: &mut [u32], on: bool, k: u32)
     ensures { λ _. ⌜ now (row .exit) ≡ marked on k (now (row .entry)) ⌝ }
 {
@@ -18,14 +18,14 @@ pub fn mark(row: &mut [u32], on: bool, k: u32)
     }
 }
 
-// Whether term k is on the way.
+// Whether term `k` is on the way.
 pub fn on_way(marks: &[u32], k: u32) -> bool
     ensures { λ r. ⌜ r ≡ onWay (now (marks .entry)) k ⌝ }
 {
     number_at(marks, k) == 1
 }
 
-// Marks what term k blames, where it is on the way: of its sources those that are not free.
+// Marks what term `k` blames, where it is on the way: of its sources those that are not free.
 fn look_at(table: &[u32], values: &[u32], truths: &[u32], k: u32, marks: &mut [u32])
     ensures { λ _. ⌜ now (marks .exit)
         ≡ lookedAt (now (table .entry)) (now (values .entry)) (now (truths .entry)) k (now (marks .entry)) ⌝ }

@@ -1,6 +1,7 @@
 // The library's answers as C's: a number, and four numbers.
 ghost use mathlib.Core.Path.{_≡_};
-ghost use Rattle.hiranthok.specs.Replies.{results, refusal, row, admissionReply, finishingReply, evaluationReply, judgementReply};
+ghost use Rattle.hiranthok.specs.Replies.{results, refusal, row, admissionReply, finishingReply};
+ghost use Rattle.hiranthok.specs.Replies.{evaluationReply, judgementReply};
 use evaluate::Evaluation;
 use finish::Finishing;
 use judge::Judgement;

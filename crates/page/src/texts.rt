@@ -23,7 +23,7 @@ struct Filling {
     numbers: Numbers,
 }
 
-// Where line n of a text starts; its end where it has no such line.
+// Where line `n` of a text starts; its end where it has no such line.
 fn line_at(text: &[u8], n: u64) -> usize {
     let mut left = n;
     for i in 0..text.len() {
@@ -46,7 +46,7 @@ fn byte_at(text: &[u8], names: &[u8], i: usize) -> u8 {
     if k < names.len() { names[k] } else { b'\n' }
 }
 
-// Line n of a text as it is.
+// Line `n` of a text as it is.
 pub fn put_line(page: &mut [u8], at: usize, text: &[u8], n: u64) -> usize {
     let mut to = at;
     for i in line_at(text, n)..text.len() {
@@ -242,7 +242,7 @@ fn begun(at: usize, next: usize, numbers: Numbers) -> Filling {
     }
 }
 
-// Line n of a text with its numbers, of at most 1,000 bytes with the names.
+// Line `n` of a text with its numbers, of at most 1,000 bytes with the names.
 pub fn fill(
     page: &mut [u8],
     at: usize,
@@ -262,7 +262,7 @@ pub fn fill(
     f.at
 }
 
-// Line n of a text with its numbers, to a descriptor, of at most 255 bytes.
+// Line `n` of a text with its numbers, to a descriptor, of at most 255 bytes.
 pub fn say(fd: i32, text: &[u8], n: u32, numbers: Numbers) -> bool {
     let mut page = [0u8; 256];
     let at = fill(&mut page, 0, text, b"", n, numbers);

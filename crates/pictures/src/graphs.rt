@@ -70,7 +70,7 @@ fn put_node(page: &mut [u8], at: usize, k: u32, x: Term, value: u32, free: bool)
     )
 }
 
-// Operand i of a term.
+// Operand `i` of a term.
 fn operand(x: Term, i: u32) -> u32 {
     ops::ite(i == 0, x.p, ops::ite(i == 1, x.q, x.r))
 }
@@ -85,7 +85,7 @@ fn blamed(truths: &[u32], s: Source) -> bool {
     explain::there(s) & !explain::free_at(truths, explain::term_of(s))
 }
 
-// Whether a term's value comes from term k, which is not free.
+// Whether a term's value comes from term `k`, which is not free.
 fn blames(table: &[u32], values: &[u32], truths: &[u32], x: Term, k: u32) -> bool {
     let mut found = false;
     for i in 0..18u32 {
@@ -95,7 +95,7 @@ fn blames(table: &[u32], values: &[u32], truths: &[u32], x: Term, k: u32) -> boo
     found
 }
 
-// An edge to each operand of term k, bold where that is blamed and term k is on the way.
+// An edge to each operand of term `k`, bold where that is blamed and term `k` is on the way.
 fn put_edges(
     page: &mut [u8],
     at: usize,
@@ -115,7 +115,7 @@ fn put_edges(
     to
 }
 
-// A dashed edge from term k, on the way, to each that it blames and that is no operand of it.
+// A dashed edge from term `k`, on the way, to each that it blames and that is no operand of it.
 fn put_blames(
     page: &mut [u8],
     at: usize,
@@ -137,7 +137,7 @@ fn put_blames(
     to
 }
 
-// Term k: its node and its edges.
+// Term `k`: its node and its edges.
 fn put_term(
     page: &mut [u8],
     at: usize,

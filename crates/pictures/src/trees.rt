@@ -281,7 +281,7 @@ fn put_root(
     s
 }
 
-// The state before the tree of term k.
+// The state before the tree of term `k`.
 fn rooted(work: &mut [u32], at: usize, queued: u32, k: u32) -> State {
     State {
         at: at,

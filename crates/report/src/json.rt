@@ -100,7 +100,7 @@ fn is_variable(x: Term, rest: Numbers) -> Numbers {
     push(11, rest)
 }
 
-// Term k, with its value, whether it is free and whether it is on the way.
+// Term `k`, with its value, whether it is free and whether it is on the way.
 fn put_term(
     page: &mut [u8],
     at: usize,

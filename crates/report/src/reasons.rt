@@ -90,7 +90,7 @@ fn listed(p: Source, q: Source, r: Source, rest: Numbers) -> Numbers {
     push(line_for(first, second, third), all)
 }
 
-// The operands of term k that are not free, for &.
+// The operands of term `k` that are not free, for &.
 pub fn unfree(table: &[u32], truths: &[u32], k: u32, rest: Numbers) -> Numbers {
     let p = explain::unfree_operand(table, truths, k, 0);
     let q = explain::unfree_operand(table, truths, k, 1);
@@ -98,7 +98,7 @@ pub fn unfree(table: &[u32], truths: &[u32], k: u32, rest: Numbers) -> Numbers {
     listed(p, q, r, rest)
 }
 
-// The value of term k, for ?.
+// The value of term `k`, for ?.
 pub fn value_of(table: &[u32], values: &[u32], k: u32) -> u64 {
     show::value(table::sort_at(table, k), number_at(values, k), page::DASH)
 }
@@ -128,7 +128,7 @@ fn operand_told(op: u32, second: bool, width: u32, k: u64, value: u32, state: Op
     )
 }
 
-// Operand p of term x, or q where second.
+// Operand p of term `x`, or q where second.
 fn operand(table: &[u32], values: &[u32], truths: &[u32], x: Term, second: bool) -> Numbers {
     let width = table::sort_at(table, x.p).n;
     let k = ops::ite(second, x.q, x.p);
@@ -143,7 +143,7 @@ fn apart(x: Term, width: u32) -> bool {
     settled(x.op, false, width) & ((x.p != x.q) | twice)
 }
 
-// Line i of an operator that an operand's value can settle: its operands.
+// Line `i` of an operator that an operand's value can settle: its operands.
 fn settling_told(
     table: &[u32],
     values: &[u32],
@@ -161,7 +161,7 @@ fn settling_told(
     none()
 }
 
-// Line i, after the first, of a function.
+// Line `i`, after the first, of a function.
 fn function_told(table: &[u32], values: &[u32], truths: &[u32], x: Term, i: u32) -> Numbers {
     let width = table::sort_at(table, x.p).n;
     let unary = show::operands(x.op) == 1;
@@ -206,7 +206,7 @@ fn source_told(s: Source) -> Numbers {
     }
 }
 
-// Line i of a read: its source i, where that is not free.
+// Line `i` of a read: its source `i`, where that is not free.
 fn read_told(table: &[u32], values: &[u32], truths: &[u32], x: Term, i: u32) -> Numbers {
     let s = explain::source_at(table, values, x, i as usize);
     if explain::free_at(truths, explain::term_of(s)) {
@@ -215,7 +215,7 @@ fn read_told(table: &[u32], values: &[u32], truths: &[u32], x: Term, i: u32) -> 
     source_told(s)
 }
 
-// Line i of a choice: the test, the two lines about its branches, the branch that it picks.
+// Line `i` of a choice: the test, the two lines about its branches, the branch that it picks.
 fn choice_told(table: &[u32], values: &[u32], truths: &[u32], x: Term, i: u32) -> Numbers {
     let tested = explain::free_at(truths, x.p);
     let picked = ops::ite(number_at(values, x.p) == 1, x.q, x.r);
@@ -231,7 +231,7 @@ fn choice_told(table: &[u32], values: &[u32], truths: &[u32], x: Term, i: u32) -
     two(ops::ite(i == 0, 14, 22), x.p)
 }
 
-// Line i of what is told of term k, x, which is on the way.
+// Line `i` of what is told of term `k`, `x`, which is on the way.
 fn told(table: &[u32], values: &[u32], truths: &[u32], k: u32, x: Term, i: u32) -> Numbers {
     if x.op == 7 {
         return choice_told(table, values, truths, x, i);

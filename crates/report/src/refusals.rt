@@ -6,7 +6,7 @@ use page::push;
 use page::push_long;
 use table::Refusal;
 
-// Line n is reason n; 28, 29, 41 and 42 are 22, 27, 2 and 21 with one value, step or number, 43 is the note of one number.
+// Line `n` is reason `n`; 28, 29, 41 and 42 are 22, 27, 2 and 21 with one value, step or number; 43 is the note on one.
 fn say(page: &mut [u8], at: usize, n: u32, numbers: Numbers) -> usize {
     show::put(
         page,

@@ -92,7 +92,7 @@ fn put_slot(page: &mut [u8], t: Telling, k: u32, last: u32) -> Telling {
     }
 }
 
-// Whether slot k begins a piece of the list: the last does so alone.
+// Whether slot `k` begins a piece of the list: the last does so alone.
 fn begins(slots: &[u32; 256], k: u32, last: u32, count: u32) -> bool {
     (number_at(slots, k) == 1) & ((k != last) | (count == 1))
 }

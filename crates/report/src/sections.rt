@@ -59,7 +59,7 @@ fn width(k: u32, x: Term, line: u32, numbers: Numbers) -> usize {
     say(&mut own, head, line, numbers)
 }
 
-// What settled term k; a line of over 80 columns is broken after its comma, by the text seven lines on.
+// What settled term `k`; a line of over 80 columns is broken after its comma, by the text seven lines on.
 fn put_settled(
     page: &mut [u8],
     at: usize,

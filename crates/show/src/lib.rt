@@ -17,7 +17,7 @@ use table::Sort;
 use table::Term;
 use table::WORDS;
 
-// Line n of a text, with the names. Names 0 to 16 are those of the operators, by their numbers.
+// Line `n` of a text, with the names. Names 0 to 16 are those of the operators, by their numbers.
 pub fn put(page: &mut [u8], at: usize, text: &[u8], n: u32, numbers: Numbers) -> usize {
     page::fill(
         page,
@@ -186,13 +186,13 @@ pub fn put_head(page: &mut [u8], at: usize, judged: bool) -> usize {
     put_columns(page, at, ops::ite(judged, 3, 2), page::none())
 }
 
-// Term k with its value.
+// Term `k` with its value.
 pub fn put_row(page: &mut [u8], at: usize, k: u32, x: Term, v: u32) -> usize {
     let held = page::five(value(x.sort, v, page::DASH), 0, 0, 0, 0);
     put_columns(page, at, 0, push(k, operator(x, sort(x.sort, held))))
 }
 
-// Term k with its mark, value and condition.
+// Term `k` with its mark, value and condition.
 pub fn put_judged_row(page: &mut [u8], at: usize, k: u32, x: Term, v: u32, free: bool) -> usize {
     let held = value(x.sort, v, page::DASH);
     let told = condition(x, free, page::DASH);

@@ -1,52 +1,85 @@
-// A command on a case: its answer, put into a page.
+// A command on a case: its work, and the answer put into a page.
 use crate::arguments;
 use crate::arguments::Request;
 use crate::finished::put_finished;
 use crate::status;
 use evaluate::Evaluation;
+use evaluate::Spent;
+use finish::Extent;
 use finish::Finishing;
 use judge::Judgement;
 use judge::Verdict;
 use table::Refusal;
 
-// Where the page stands, and the status.
-pub struct Told {
-    pub at: usize,
-    pub status: u32,
+// What the work of a command comes to.
+pub enum Outcome {
+    Judged(Verdict),
+    Evaluated(Spent),
+    Finished(Extent),
+    Refused(Refusal),
 }
 
-fn ended(at: usize, status: u32) -> Told {
-    Told {
-        at: at,
-        status: status,
+fn judged(answer: Judgement) -> Outcome {
+    match answer {
+        Judgement::Judged(v) => Outcome::Judged(v),
+        Judgement::NotJudged(r) => Outcome::Refused(r),
     }
 }
 
-// The line before an answer that is one of several.
-fn put_heading(page: &mut [u8], at: usize, request: Request, path: &[u8]) -> usize {
-    let command = request.command;
-    if (command == arguments::JUDGE) | request.json | !request.several {
-        return at;
+fn evaluated(answer: Evaluation) -> Outcome {
+    match answer {
+        Evaluation::Evaluated(spent) => Outcome::Evaluated(spent),
+        Evaluation::NotEvaluated(r) => Outcome::Refused(r),
     }
-    report::put_heading(page, at, path, request.first)
 }
 
-fn put_refusal(
-    page: &mut [u8],
-    at: usize,
-    request: Request,
-    path: &[u8],
-    text: &[u8],
+fn finished(answer: Finishing) -> Outcome {
+    match answer {
+        Finishing::Finished(extent) => Outcome::Finished(extent),
+        Finishing::NotFinished(r) => Outcome::Refused(r),
+    }
+}
+
+// The work of a command, in a room for it.
+pub fn work(
+    command: u32,
     table: &[u32],
     values: &[u32],
     cells: &[u32],
     allowance: u64,
-    r: Refusal,
-) -> usize {
-    if request.json {
-        return report::put_json_refusal(page, at, path, text, table, values, cells, allowance, r);
+    room: &mut [u32],
+) -> Outcome {
+    if command == arguments::FINISH {
+        return finished(finish::finish(table, room));
     }
-    report::put_refusal(page, at, path, text, table, values, cells, allowance, r)
+    if command == arguments::EVALUATE {
+        return evaluated(evaluate::evaluate(table, values, cells, allowance, room));
+    }
+    judged(judge::judge(table, values, cells, allowance, room))
+}
+
+// The status of a refusal: 21 says that the room was short.
+fn refused(r: Refusal) -> u32 {
+    ops::ite(r.number == 21, status::SHORT, status::REFUSED)
+}
+
+// The status of an outcome: a picture is work done.
+pub fn status_of(command: u32, outcome: Outcome) -> u32 {
+    let asked = (command == arguments::JUDGE) | (command == arguments::EXPLAIN);
+    match outcome {
+        Outcome::Judged(v) => ops::ite(asked & !judge::passes(v), status::FAILS, status::DONE),
+        Outcome::Evaluated(_) => status::DONE,
+        Outcome::Finished(_) => status::DONE,
+        Outcome::Refused(r) => refused(r),
+    }
+}
+
+// The line before an answer that is one of several.
+pub fn put_heading(page: &mut [u8], request: Request, path: &[u8]) -> usize {
+    if (request.command == arguments::JUDGE) | request.json | !request.several {
+        return 0;
+    }
+    report::put_heading(page, 0, path, request.first)
 }
 
 // A judgement: its verdict.
@@ -60,32 +93,28 @@ fn put_verdict(page: &mut [u8], at: usize, request: Request, path: &[u8], v: Ver
     report::put_verdict(page, at, v)
 }
 
-// A judgement: its explanation, or its picture.
+// A judgement: its picture.
+fn put_picture(page: &mut [u8], at: usize, request: Request, table: &[u32], room: &[u32]) -> usize {
+    if request.command == arguments::TREE {
+        return pictures::put_tree(page, at, table, room, request.color);
+    }
+    pictures::put_graph(page, at, table, room)
+}
+
+// A judgement: its explanation.
 fn put_explanation(
     page: &mut [u8],
     at: usize,
-    request: Request,
+    json: bool,
     path: &[u8],
     table: &[u32],
     room: &[u32],
     v: Verdict,
 ) -> usize {
-    if request.json {
+    if json {
         return report::put_json_explanation(page, at, path, table, room, v);
     }
-    if request.command == arguments::TREE {
-        return pictures::put_tree(page, at, table, room, request.color);
-    }
-    if request.command == arguments::GRAPH {
-        return pictures::put_graph(page, at, table, room);
-    }
     report::put_explanation(page, at, table, room, v)
-}
-
-// The status of a judgement: a picture is work done.
-fn judged(command: u32, v: Verdict) -> u32 {
-    let asked = (command == arguments::JUDGE) | (command == arguments::EXPLAIN);
-    ops::ite(asked & !judge::passes(v), status::FAILS, status::DONE)
 }
 
 fn put_judged(
@@ -96,91 +125,20 @@ fn put_judged(
     table: &[u32],
     room: &[u32],
     v: Verdict,
-) -> Told {
-    let ends = judged(request.command, v);
+) -> usize {
     if request.command == arguments::JUDGE {
-        return ended(put_verdict(page, at, request, path, v), ends);
+        return put_verdict(page, at, request, path, v);
     }
-    ended(
-        put_explanation(page, at, request, path, table, room, v),
-        ends,
-    )
+    if request.command == arguments::EXPLAIN {
+        return put_explanation(page, at, request.json, path, table, room, v);
+    }
+    put_picture(page, at, request, table, room)
 }
 
-fn judge_case(
+fn put_refusal(
     page: &mut [u8],
     at: usize,
-    request: Request,
-    path: &[u8],
-    text: &[u8],
-    table: &[u32],
-    values: &[u32],
-    cells: &[u32],
-    allowance: u64,
-    room: &mut [u32],
-) -> Told {
-    let answer = judge::judge(table, values, cells, allowance, room);
-    match answer {
-        Judgement::Judged(v) => put_judged(page, at, request, path, table, room, v),
-        Judgement::NotJudged(r) => ended(
-            put_refusal(
-                page,
-                at,
-                request,
-                path,
-                text,
-                table,
-                values,
-                cells,
-                allowance,
-                r,
-            ),
-            status::REFUSED,
-        ),
-    }
-}
-
-fn evaluate_case(
-    page: &mut [u8],
-    at: usize,
-    request: Request,
-    path: &[u8],
-    text: &[u8],
-    table: &[u32],
-    values: &[u32],
-    cells: &[u32],
-    allowance: u64,
-    room: &mut [u32],
-) -> Told {
-    let answer = evaluate::evaluate(table, values, cells, allowance, room);
-    match answer {
-        Evaluation::Evaluated(spent) => ended(
-            report::put_evaluation(page, at, table, room, spent),
-            status::DONE,
-        ),
-        Evaluation::NotEvaluated(r) => ended(
-            put_refusal(
-                page,
-                at,
-                request,
-                path,
-                text,
-                table,
-                values,
-                cells,
-                allowance,
-                r,
-            ),
-            status::REFUSED,
-        ),
-    }
-}
-
-// A table that cannot be finished: the room was short, and nothing is put, or it is refused.
-fn put_unfinished(
-    page: &mut [u8],
-    at: usize,
-    request: Request,
+    json: bool,
     path: &[u8],
     text: &[u8],
     table: &[u32],
@@ -188,26 +146,15 @@ fn put_unfinished(
     cells: &[u32],
     allowance: u64,
     r: Refusal,
-) -> Told {
-    if r.number == 21 {
-        return ended(at, status::SHORT);
+) -> usize {
+    if json {
+        return report::put_json_refusal(page, at, path, text, table, values, cells, allowance, r);
     }
-    let to = put_refusal(
-        page,
-        at,
-        request,
-        path,
-        text,
-        table,
-        values,
-        cells,
-        allowance,
-        r,
-    );
-    ended(to, status::REFUSED)
+    report::put_refusal(page, at, path, text, table, values, cells, allowance, r)
 }
 
-fn finish_case(
+// An outcome.
+pub fn put_outcome(
     page: &mut [u8],
     at: usize,
     request: Request,
@@ -217,18 +164,19 @@ fn finish_case(
     values: &[u32],
     cells: &[u32],
     allowance: u64,
-    room: &mut [u32],
-) -> Told {
-    let answer = finish::finish(table, room);
-    match answer {
-        Finishing::Finished(extent) => ended(
-            put_finished(page, at, room, extent, values, cells, allowance),
-            status::DONE,
-        ),
-        Finishing::NotFinished(r) => put_unfinished(
+    room: &[u32],
+    outcome: Outcome,
+) -> usize {
+    match outcome {
+        Outcome::Judged(v) => put_judged(page, at, request, path, table, room, v),
+        Outcome::Evaluated(spent) => report::put_evaluation(page, at, table, room, spent),
+        Outcome::Finished(extent) => {
+            put_finished(page, at, room, extent, values, cells, allowance)
+        }
+        Outcome::Refused(r) => put_refusal(
             page,
             at,
-            request,
+            request.json,
             path,
             text,
             table,
@@ -238,86 +186,4 @@ fn finish_case(
             r,
         ),
     }
-}
-
-// A command that needs the setting.
-fn put_setting(
-    page: &mut [u8],
-    at: usize,
-    request: Request,
-    path: &[u8],
-    text: &[u8],
-    table: &[u32],
-    values: &[u32],
-    cells: &[u32],
-    allowance: u64,
-    room: &mut [u32],
-) -> Told {
-    if request.command == arguments::EVALUATE {
-        return evaluate_case(
-            page,
-            at,
-            request,
-            path,
-            text,
-            table,
-            values,
-            cells,
-            allowance,
-            room,
-        );
-    }
-    judge_case(
-        page,
-        at,
-        request,
-        path,
-        text,
-        table,
-        values,
-        cells,
-        allowance,
-        room,
-    )
-}
-
-// A command on a case, in a room for its work.
-pub fn put_answer(
-    page: &mut [u8],
-    request: Request,
-    path: &[u8],
-    text: &[u8],
-    table: &[u32],
-    values: &[u32],
-    cells: &[u32],
-    allowance: u64,
-    room: &mut [u32],
-) -> Told {
-    let at = put_heading(page, 0, request, path);
-    if request.command == arguments::FINISH {
-        return finish_case(
-            page,
-            at,
-            request,
-            path,
-            text,
-            table,
-            values,
-            cells,
-            allowance,
-            room,
-        );
-    }
-    put_setting(
-        page,
-        at,
-        request,
-        path,
-        text,
-        table,
-        values,
-        cells,
-        allowance,
-        room,
-    )
 }

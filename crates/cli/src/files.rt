@@ -2,7 +2,7 @@
 // are needed. A room comes from a function, since one that is written in place is slow to prove.
 ghost use lib.ListN.{length};
 ghost use Rattle.cases.specs.Reading.{Placed};
-use crate::answers::put_answer;
+use crate::answers;
 use crate::arguments;
 use crate::arguments::Request;
 use crate::faults::complain;
@@ -50,6 +50,40 @@ fn written(page: &[u8], at: usize, ends: u32) -> u32 {
     ops::ite(page::end(page, at), ends, status::BROKEN)
 }
 
+// Answers a request on the parts of a case.
+fn answer_parts(
+    request: Request,
+    path: &[u8],
+    text: &[u8],
+    table: &[u32],
+    values: &[u32],
+    cells: &[u32],
+    allowance: u64,
+    room: &mut [u32],
+) -> u32 {
+    let outcome = answers::work(request.command, table, values, cells, allowance, room);
+    let ends = answers::status_of(request.command, outcome);
+    if ends == status::SHORT {
+        return ends;
+    }
+    let mut page = io::buffer();
+    let at = answers::put_heading(&mut page, request, path);
+    let to = answers::put_outcome(
+        &mut page,
+        at,
+        request,
+        path,
+        text,
+        table,
+        values,
+        cells,
+        allowance,
+        room,
+        outcome,
+    );
+    written(&page, to, ends)
+}
+
 // Answers a request on a case, whose parts are runs of the numbers.
 fn answer_case(
     request: Request,
@@ -71,19 +105,7 @@ fn answer_case(
     let values = &numbers[values_from..values_to];
     let cells = &numbers[cells_from..cells_to];
     let allowance = table::number_at(numbers, case.allowance) as u64;
-    let mut page = io::buffer();
-    let told = put_answer(
-        &mut page,
-        request,
-        path,
-        text,
-        table,
-        values,
-        cells,
-        allowance,
-        room,
-    );
-    written(&page, told.at, told.status)
+    answer_parts(request, path, text, table, values, cells, allowance, room)
 }
 
 // Answers a request on a text, in rooms for its numbers and for the work.

@@ -54,8 +54,8 @@ pub fn write_group(
     requires { ⌜ (i ≡ length (now conditions)) × ((i < terms (now table)) × (yes ≡ terms (now table))) ⌝ }
     requires { ⌜ (b ≡ next (now table) (plans (now table) ownMarks i)) × (b ≤ 79000) ⌝ }
     ensures { λ r. ⌜ r ≡ written (now (table .entry)) i ⌝ }
-    ensures { λ r. ⌜ now (room .exit) ≡ placedAll (now (room .entry)) b (planAt (now (table .entry)) ownMarks i
-        .group) ⌝ }
+    ensures { λ r. ⌜ now (room .exit)
+        ≡ placedAll (now (room .entry)) b (planAt (now (table .entry)) ownMarks i .group) ⌝ }
 {
     let x = table::term_at(table, i);
     let cp = number_at(conditions, x.p);

@@ -43,8 +43,8 @@ fn three(i: u32, x: Term) -> bool
 }
 
 fn literal_fault(x: Term) -> u32
-    ensures { λ r. ⌜ r ≡ refuseUnless 5 (placedAs Value 0 x) (refuseUnless 6 (scalar (x .sort)) (refuseUnless 7
-        (valuedAs Value x) 0)) ⌝ }
+    ensures { λ r. ⌜ r ≡ refuseUnless 5 (placedAs Value 0 x)
+        (refuseUnless 6 (scalar (x .sort)) (refuseUnless 7 (valuedAs Value x) 0)) ⌝ }
 {
     let typed = scalar(x.sort);
     let late = refuse_unless(7, ops::fits(x.sort.n, x.p), 0);

@@ -14,7 +14,7 @@ use Rattle.cases.specs.declared.Case.{Case}
 use Rattle.cases.specs.declared.ParseError.{ParseError}
 use Rattle.cases.specs.declared.Parsing.the-variants.{Parsed, NotParsed}
 use Rattle.cases.specs.Lexing.{fresh, lex}
-use Rattle.cases.specs.Parsing.{tableLimit, othersLimit, size, refuse, start, ended}
+use Rattle.cases.specs.Parsing.{tableLimit, othersLimit, size, refuseUnless, start, ended}
 use Rattle.cases.specs.Places.{tokenStart}
 use Rattle.cases.specs.Numbers.{numbersIn}
 use Rattle.cases.specs.Reading.{capped, marked, caseOf, errorAtEnd, errorBetween, errorOf, parseWithin, seen, wholly}
@@ -35,7 +35,7 @@ missed false x m n e = cc
 not-mark : (p : Parser) (text : List ℕ) (kind : ℕ) → errorOf text p kind .kind ≡ 6 → kind ≡ 6
 not-mark p text kind = go (eqb (p .fault) 0)
   where
-    late : (ok : Bool) → refuse 15 ok kind ≡ 6 → kind ≡ 6
+    late : (ok : Bool) → refuseUnless 15 ok kind ≡ 6 → kind ≡ 6
     late true e = e
     late false e = absurd (omega arith)
 

@@ -8,10 +8,10 @@ use lib.Dec.{eqb, ltb, leb}
 use borrow.Author.Tests.{eqb-true, eqb-false, leb-false, lt-ltb, ltb-true, not-true}
 use Rattle.cases.specs.declared.parser.Run.{Run}
 use Rattle.cases.specs.declared.parser.Parser.{Parser}
-use Rattle.cases.specs.Parsing.{tableLimit, othersLimit, begun, extended, full, size, tableFull, othersFull, refuse, numberFault, ended}
+use Rattle.cases.specs.Parsing.{tableLimit, othersLimit, begun, extended, full, size, tableFull, othersFull, refuseUnless, numberFault, ended}
 use Rattle.cases.proofs.Booleans.{never}
 
-pub no-refusal : (number : ℕ) (ok : Bool) (rest : ℕ) → refuse (suc number) ok rest ≡ 0 → (ok ≡ true) × (rest ≡ 0)
+pub no-refusal : (number : ℕ) (ok : Bool) (rest : ℕ) → refuseUnless (suc number) ok rest ≡ 0 → (ok ≡ true) × (rest ≡ 0)
 no-refusal number true rest e = (refl, e)
 no-refusal number false rest e = absurd (omega arith)
 
@@ -68,7 +68,7 @@ module _ (old total : ℕ) (run : Run) (h : Limited old total run) where
 
 -- A room for all
 
-not-six : (number : ℕ) (ok : Bool) (rest : ℕ) → (number ≡ 6 → ⊥) → refuse number ok rest ≡ 6 → (ok ≡ true) × (rest ≡ 6)
+not-six : (number : ℕ) (ok : Bool) (rest : ℕ) → (number ≡ 6 → ⊥) → refuseUnless number ok rest ≡ 6 → (ok ≡ true) × (rest ≡ 6)
 not-six number true rest f e = (refl, e)
 not-six number false rest f e = absurd (f e)
 
@@ -79,14 +79,14 @@ number-short room p b h e =
     let second = not-six 5 (not (full p)) _ (λ z. omega arith) (first .1) in
     let third = not-six 13 (not (tableFull p)) _ (λ z. omega arith) (second .1) in
     let fourth = not-six 14 (not (othersFull p)) _ (λ z. omega arith) (third .1) in
-    let last : refuse 6 true 0 ≡ 6 = rw (lt-ltb (p .total) room (go (eqb (p .part) 1) (not-true (tableFull p) (third .0)) (not-true (othersFull p) (fourth .0)))) at (fourth .1) in
+    let last : refuseUnless 6 true 0 ≡ 6 = rw (lt-ltb (p .total) room (go (eqb (p .part) 1) (not-true (tableFull p) (third .0)) (not-true (othersFull p) (fourth .0)))) at (fourth .1) in
     omega arith
   where
     go : (t : Bool) → (t && leb tableLimit (size (p .table))) ≡ false → (not t && leb othersLimit (p .total - size (p .table))) ≡ false → p .total < room
     go true t o = omega (arith, leb-false tableLimit (size (p .table)) t, h .others)
     go false t o = omega (arith, leb-false othersLimit (p .total - size (p .table)) o, h .table)
 
-short-first : (fault rest : ℕ) → (rest ≡ 6 → ⊥) → refuse fault (eqb fault 0) rest ≡ 6 → fault ≡ 6
+short-first : (fault rest : ℕ) → (rest ≡ 6 → ⊥) → refuseUnless fault (eqb fault 0) rest ≡ 6 → fault ≡ 6
 short-first fault rest f = go (eqb fault 0)
   where
     go : (b : Bool) → cond b rest fault ≡ 6 → fault ≡ 6

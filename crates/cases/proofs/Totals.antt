@@ -12,7 +12,7 @@ use Rattle.cases.specs.declared.lexer.Token.{Token}
 use Rattle.cases.specs.declared.lexer.Token.the-variants.{Nothing, Number, Heading, Unknown, TooLarge}
 use Rattle.cases.specs.declared.parser.Run.{Run}
 use Rattle.cases.specs.declared.parser.Parser.{Parser}
-use Rattle.cases.specs.Parsing.{tableLimit, othersLimit, none, start, failed, begun, extended, isGiven, refuse, headed, numberFault, counted, takenBy, taken, parse, ended}
+use Rattle.cases.specs.Parsing.{tableLimit, othersLimit, none, start, failed, begun, extended, isGiven, refuseUnless, headed, numberFault, counted, takenBy, taken, parse, ended}
 use Rattle.cases.specs.Numbers.{numberIn, numbersIn}
 use Rattle.cases.specs.Reading.{capped, caseOf, Within, Placed}
 use Rattle.cases.proofs.Booleans.{or-first}
@@ -162,7 +162,7 @@ parse-counts room at p (token ∷ tokens) e =
 
 -- The end
 
-no-fault : (fault rest : ℕ) → refuse fault (eqb fault 0) rest ≡ 0 → (fault ≡ 0) × (rest ≡ 0)
+no-fault : (fault rest : ℕ) → refuseUnless fault (eqb fault 0) rest ≡ 0 → (fault ≡ 0) × (rest ≡ 0)
 no-fault fault rest = go (eqb fault 0) refl
   where
     go : (b : Bool) → eqb fault 0 ≡ b → cond b rest fault ≡ 0 → (fault ≡ 0) × (rest ≡ 0)

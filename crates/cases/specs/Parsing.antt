@@ -57,8 +57,8 @@ tableFull p = eqb (p .part) 1 && leb tableLimit (size (p .table))
 abbrev pub othersFull : Parser → Bool
 othersFull p = not (eqb (p .part) 1) && leb othersLimit (others p)
 
-abbrev pub refuse : ℕ → Bool → ℕ → ℕ
-refuse number ok rest = cond ok rest number
+abbrev pub refuseUnless : ℕ → Bool → ℕ → ℕ
+refuseUnless number ok rest = cond ok rest number
 
 -- a heading: 4 the part was given before
 unfoldable pub headed : Parser → ℕ → ℕ → Parser
@@ -79,11 +79,11 @@ headed p part at =
 -- table, 14 in the other parts together; 6 one too many for the room
 unfoldable pub numberFault : Parser → ℕ → ℕ
 numberFault p room =
-    refuse 3 (not (eqb (p .part) 0))
-    (refuse 5 (not (full p))
-    (refuse 13 (not (tableFull p))
-    (refuse 14 (not (othersFull p))
-    (refuse 6 (ltb (p .total) room)
+    refuseUnless 3 (not (eqb (p .part) 0))
+    (refuseUnless 5 (not (full p))
+    (refuseUnless 13 (not (tableFull p))
+    (refuseUnless 14 (not (othersFull p))
+    (refuseUnless 6 (ltb (p .total) room)
     0))))
 
 -- a number, with room for so many
@@ -124,11 +124,11 @@ parse room at p (token ∷ tokens) = parse room (suc at) (taken room at p token)
 -- has no number
 unfoldable pub ended : Parser → Bool → ℕ
 ended p whole =
-    refuse (p .fault) (eqb (p .fault) 0)
-    (refuse 12 whole
-    (refuse 7 (p .table .given)
-    (refuse 8 (p .values .given)
-    (refuse 9 (p .cells .given)
-    (refuse 10 (p .allowance .given)
-    (refuse 11 (not (eqb (p .allowance .from) (p .allowance .to)))
+    refuseUnless (p .fault) (eqb (p .fault) 0)
+    (refuseUnless 12 whole
+    (refuseUnless 7 (p .table .given)
+    (refuseUnless 8 (p .values .given)
+    (refuseUnless 9 (p .cells .given)
+    (refuseUnless 10 (p .allowance .given)
+    (refuseUnless 11 (not (eqb (p .allowance .from) (p .allowance .to)))
     0))))))

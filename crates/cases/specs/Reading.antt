@@ -13,7 +13,7 @@ use Rattle.cases.specs.declared.Parsing.{Parsing}
 use Rattle.cases.specs.declared.Parsing.the-variants.{Parsed, NotParsed}
 use Rattle.cases.specs.Places.{lineAt, columnAt, tokenStart}
 use Rattle.cases.specs.Lexing.{fresh, lex}
-use Rattle.cases.specs.Parsing.{refuse, start, parse, ended}
+use Rattle.cases.specs.Parsing.{refuseUnless, start, parse, ended}
 use Rattle.cases.specs.Numbers.{numbersIn}
 
 -- at most 4294967295
@@ -35,7 +35,7 @@ errorAtEnd text kind = record { kind = kind; line = lineAt text (length text); c
 -- the token from a byte up to another is at fault: 15 where it begins the text, with a byte-order mark
 abbrev pub errorBetween : List ℕ → ℕ → ℕ → ℕ → ParseError
 errorBetween text kind from to =
-    record { kind = refuse 15 (not (eqb from 0 && marked text)) kind; line = lineAt text from; column = columnAt text from; from = from; to = to }
+    record { kind = refuseUnless 15 (not (eqb from 0 && marked text)) kind; line = lineAt text from; column = columnAt text from; from = from; to = to }
 
 abbrev pub errorOf : List ℕ → Parser → ℕ → ParseError
 errorOf text p kind = cond (eqb (p .fault) 0) (errorAtEnd text kind) (errorBetween text kind (tokenStart text (p .at)) (p .at))

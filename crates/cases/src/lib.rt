@@ -9,7 +9,7 @@ mod room; // numbers
 pub use lines::OddLine;
 use parser::Parser;
 pub use parser::Run;
-use parser::refuse;
+use parser::refuse_unless;
 use places::back_to;
 use places::byte_at;
 use places::column_at;
@@ -105,7 +105,7 @@ fn error_between(text: &[u8], kind: u32, from: usize, to: usize) -> ParseError
 {
     let first = (from == 0) & marked(text);
     ParseError {
-        kind: refuse(15, !first, kind),
+        kind: refuse_unless(15, !first, kind),
         line: line_at(text, from),
         column: column_at(text, from),
         from,

@@ -3,7 +3,7 @@ ghost use mathlib.Core.Path.{_≡_};
 ghost use Prim.Native.Nat.{_-_};
 ghost use Rattle.cases.specs.Lexing.{fresh, lex};
 ghost use Rattle.cases.specs.Parsing.{none, start, failed, begun, extended, isGiven, full, size, others};
-ghost use Rattle.cases.specs.Parsing.{tableFull, othersFull, refuse, headed, numberFault, counted, taken};
+ghost use Rattle.cases.specs.Parsing.{tableFull, othersFull, refuseUnless, headed, numberFault, counted, taken};
 ghost use Rattle.cases.specs.Parsing.{parse, ended};
 use crate::lexer::Lexer;
 use crate::lexer::Token;
@@ -156,8 +156,8 @@ fn others_full(p: Parser) -> bool
 }
 
 // number unless ok, else rest.
-pub fn refuse(number: u32, ok: bool, rest: u32) -> u32
-    ensures { λ r. ⌜ r ≡ refuse number ok rest ⌝ }
+pub fn refuse_unless(number: u32, ok: bool, rest: u32) -> u32
+    ensures { λ r. ⌜ r ≡ refuseUnless number ok rest ⌝ }
 {
     if ok { rest } else { number }
 }
@@ -191,9 +191,9 @@ fn headed(p: Parser, part: u32, at: usize) -> Parser
 fn number_fault(p: Parser, room: u32) -> u32
     ensures { λ r. ⌜ r ≡ numberFault p room ⌝ }
 {
-    let six = refuse(6, p.total < room, 0);
-    let limits = refuse(13, !table_full(p), refuse(14, !others_full(p), six));
-    refuse(3, p.part != 0, refuse(5, !full(p), limits))
+    let six = refuse_unless(6, p.total < room, 0);
+    let limits = refuse_unless(13, !table_full(p), refuse_unless(14, !others_full(p), six));
+    refuse_unless(3, p.part != 0, refuse_unless(5, !full(p), limits))
 }
 
 // A number, where the room has so many.
@@ -257,11 +257,11 @@ pub fn ended(p: Parser, whole: bool) -> u32
     ensures { λ r. ⌜ r ≡ ended p whole ⌝ }
 {
     let one = p.allowance.from != p.allowance.to;
-    let ten = refuse(10, p.allowance.given, refuse(11, one, 0));
-    let parts = refuse(
+    let ten = refuse_unless(10, p.allowance.given, refuse_unless(11, one, 0));
+    let parts = refuse_unless(
         7,
         p.table.given,
-        refuse(8, p.values.given, refuse(9, p.cells.given, ten)),
+        refuse_unless(8, p.values.given, refuse_unless(9, p.cells.given, ten)),
     );
-    refuse(p.fault, p.fault == 0, refuse(12, whole, parts))
+    refuse_unless(p.fault, p.fault == 0, refuse_unless(12, whole, parts))
 }

@@ -8,7 +8,7 @@ column-at-requires c κs =
     omega (arith, p .0, p .1)
 
 returns : tie.Need-returns
-returns c = rw (c .column-at .ensures, c .before .line-at .ensures, c .before .before .refuse .ensures, c .before .before .before .marked .ensures)
+returns c = rw (c .column-at .ensures, c .before .line-at .ensures, c .before .before .refuse-unless .ensures, c .before .before .before .marked .ensures)
 
 pub error-between-spec : {M : Type 1} → statement M
 error-between-spec =

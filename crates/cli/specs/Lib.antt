@@ -1,2 +1,3 @@
 pub mod Arguments
 pub mod Status
+pub mod Outcomes

@@ -1,4 +1,7 @@
 // A command on a case: its work, and the answer put into a page.
+ghost use mathlib.Core.Path.{_≡_};
+ghost use lib.ListN.{length};
+ghost use Rattle.cli.specs.Outcomes.{ofJudgement, ofEvaluation, ofFinishing, outcome, refusedStatus, statusOf};
 use crate::arguments;
 use crate::arguments::Request;
 use crate::finished::put_finished;
@@ -13,30 +16,36 @@ use table::Refusal;
 
 // What the work of a command comes to.
 pub enum Outcome {
-    Judged(Verdict),
-    Evaluated(Spent),
-    Finished(Extent),
-    Refused(Refusal),
+    OfRule(Verdict),
+    OfTerms(Spent),
+    OfTable(Extent),
+    OfRefusal(Refusal),
 }
 
-fn judged(answer: Judgement) -> Outcome {
+fn judged(answer: Judgement) -> Outcome
+    ensures { λ r. ⌜ r ≡ ofJudgement answer ⌝ }
+{
     match answer {
-        Judgement::Judged(v) => Outcome::Judged(v),
-        Judgement::NotJudged(r) => Outcome::Refused(r),
+        Judgement::Judged(v) => Outcome::OfRule(v),
+        Judgement::NotJudged(r) => Outcome::OfRefusal(r),
     }
 }
 
-fn evaluated(answer: Evaluation) -> Outcome {
+fn evaluated(answer: Evaluation) -> Outcome
+    ensures { λ r. ⌜ r ≡ ofEvaluation answer ⌝ }
+{
     match answer {
-        Evaluation::Evaluated(spent) => Outcome::Evaluated(spent),
-        Evaluation::NotEvaluated(r) => Outcome::Refused(r),
+        Evaluation::Evaluated(spent) => Outcome::OfTerms(spent),
+        Evaluation::NotEvaluated(r) => Outcome::OfRefusal(r),
     }
 }
 
-fn finished(answer: Finishing) -> Outcome {
+fn finished(answer: Finishing) -> Outcome
+    ensures { λ r. ⌜ r ≡ ofFinishing answer ⌝ }
+{
     match answer {
-        Finishing::Finished(extent) => Outcome::Finished(extent),
-        Finishing::NotFinished(r) => Outcome::Refused(r),
+        Finishing::Finished(extent) => Outcome::OfTable(extent),
+        Finishing::NotFinished(r) => Outcome::OfRefusal(r),
     }
 }
 
@@ -48,7 +57,10 @@ pub fn work(
     cells: &[u32],
     allowance: u64,
     room: &mut [u32],
-) -> Outcome {
+) -> Outcome
+    ensures { λ r. ⌜ r ≡ outcome command (now (table .entry)) (now (values .entry)) (now (cells .entry)) allowance
+        (length (now (room .entry))) ⌝ }
+{
     if command == arguments::FINISH {
         return finished(finish::finish(table, room));
     }
@@ -59,18 +71,22 @@ pub fn work(
 }
 
 // The status of a refusal: 21 says that the room was short.
-fn refused(r: Refusal) -> u32 {
+fn refused(r: Refusal) -> u32
+    ensures { λ s. ⌜ s ≡ refusedStatus r ⌝ }
+{
     ops::ite(r.number == 21, status::SHORT, status::REFUSED)
 }
 
 // The status of an outcome: a picture is work done.
-pub fn status_of(command: u32, outcome: Outcome) -> u32 {
+pub fn status_of(command: u32, outcome: Outcome) -> u32
+    ensures { λ r. ⌜ r ≡ statusOf command outcome ⌝ }
+{
     let asked = (command == arguments::JUDGE) | (command == arguments::EXPLAIN);
     match outcome {
-        Outcome::Judged(v) => ops::ite(asked & !judge::passes(v), status::FAILS, status::DONE),
-        Outcome::Evaluated(_) => status::DONE,
-        Outcome::Finished(_) => status::DONE,
-        Outcome::Refused(r) => refused(r),
+        Outcome::OfRule(v) => ops::ite(asked & !judge::passes(v), status::FAILS, status::DONE),
+        Outcome::OfTerms(_) => status::DONE,
+        Outcome::OfTable(_) => status::DONE,
+        Outcome::OfRefusal(r) => refused(r),
     }
 }
 
@@ -168,12 +184,12 @@ pub fn put_outcome(
     outcome: Outcome,
 ) -> usize {
     match outcome {
-        Outcome::Judged(v) => put_judged(page, at, request, path, table, room, v),
-        Outcome::Evaluated(spent) => report::put_evaluation(page, at, table, room, spent),
-        Outcome::Finished(extent) => {
+        Outcome::OfRule(v) => put_judged(page, at, request, path, table, room, v),
+        Outcome::OfTerms(spent) => report::put_evaluation(page, at, table, room, spent),
+        Outcome::OfTable(extent) => {
             put_finished(page, at, room, extent, values, cells, allowance)
         }
-        Outcome::Refused(r) => put_refusal(
+        Outcome::OfRefusal(r) => put_refusal(
             page,
             at,
             request.json,

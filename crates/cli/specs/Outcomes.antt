@@ -13,7 +13,10 @@ use Rattle.judge.specs.declared.Judgement.the-variants.{Judged, NotJudged}
 use Rattle.judge.specs.Judgement.{judgement, passes}
 use Rattle.finish.specs.declared.Finishing.{Finishing}
 use Rattle.finish.specs.declared.Finishing.the-variants.{Finished, NotFinished}
-use Rattle.finish.specs.Finished.{finishing}
+use Rattle.finish.specs.Finished.{finished, finishing}
+use Rattle.printer.specs.declared.Printing.{Printing}
+use Rattle.printer.specs.declared.Printing.the-variants.{Printed, NotPrinted}
+use Rattle.printer.specs.Printing.{printing}
 use Rattle.cli.specs.declared.answers.Outcome.{Outcome}
 use Rattle.cli.specs.declared.answers.Outcome.the-variants.{OfRule, OfTerms, OfTable, OfRefusal}
 
@@ -46,3 +49,17 @@ statusOf command (OfRule v) = cond ((eqb command 1 || eqb command 2) && not (pas
 statusOf command (OfTerms s) = 0
 statusOf command (OfTable e) = 0
 statusOf command (OfRefusal r) = refusedStatus r
+
+-- a finished table is printed, a refusal stands
+abbrev pub thenPrinted : Finishing → List ℕ → ℕ → Printing
+thenPrinted (Finished e) w text = printing (finished w) text
+thenPrinted (NotFinished r) w text = NotPrinted r
+
+-- print (7) prints the table; print-finished (8) finishes it, in a room of so many numbers, and prints that
+abbrev pub printingOf : ℕ → List ℕ → ℕ → ℕ → Printing
+printingOf command w room text = cond (eqb command 8) (thenPrinted (finishing w room) w text) (printing w text)
+
+-- a text: 0; a refusal: 3; 21 and 24 say that a room was short, and another is to be tried
+abbrev pub printedStatus : Printing → ℕ
+printedStatus (Printed n) = 0
+printedStatus (NotPrinted r) = cond (eqb (r .number) 24) 5 (refusedStatus r)

@@ -2,16 +2,15 @@
 ghost use mathlib.Core.Path.{_≡_};
 ghost use lib.ListN.{length};
 ghost use Rattle.cli.specs.Outcomes.{ofJudgement, ofEvaluation, ofFinishing, outcome, refusedStatus, statusOf};
-use crate::arguments;
-use crate::arguments::Request;
-use crate::finished::put_finished;
-use crate::status;
 use evaluate::Evaluation;
 use evaluate::Spent;
 use finish::Extent;
 use finish::Finishing;
 use judge::Judgement;
 use judge::Verdict;
+use request::arguments;
+use request::arguments::Request;
+use request::status;
 use table::Refusal;
 
 // What the work of a command comes to.
@@ -71,7 +70,7 @@ pub fn work(
 }
 
 // The status of a refusal: 21 says that the room was short.
-fn refused(r: Refusal) -> u32
+pub fn refused(r: Refusal) -> u32
     ensures { λ s. ⌜ s ≡ refusedStatus r ⌝ }
 {
     ops::ite(r.number == 21, status::SHORT, status::REFUSED)
@@ -112,9 +111,9 @@ fn put_verdict(page: &mut [u8], at: usize, request: Request, path: &[u8], v: Ver
 // A judgement: its picture.
 fn put_picture(page: &mut [u8], at: usize, request: Request, table: &[u32], room: &[u32]) -> usize {
     if request.command == arguments::TREE {
-        return pictures::put_tree(page, at, table, room, request.color);
+        return trees::put_tree(page, at, table, room, request.color);
     }
-    pictures::put_graph(page, at, table, room)
+    graphs::put_graph(page, at, table, room)
 }
 
 // A judgement: its explanation.
@@ -128,9 +127,11 @@ fn put_explanation(
     v: Verdict,
 ) -> usize {
     if json {
-        return report::put_json_explanation(page, at, path, table, room, v);
+        let open = report::put_json_judgement(page, at, path, v);
+        return reasons::put_json_reasons(page, open, table, room);
     }
-    report::put_explanation(page, at, table, room, v)
+    let to = report::put_judgement(page, at, table, room, v);
+    reasons::put_reasons(page, to, table, room, v.rule, v.condition)
 }
 
 fn put_judged(
@@ -186,9 +187,17 @@ pub fn put_outcome(
     match outcome {
         Outcome::OfRule(v) => put_judged(page, at, request, path, table, room, v),
         Outcome::OfTerms(spent) => report::put_evaluation(page, at, table, room, spent),
-        Outcome::OfTable(extent) => {
-            put_finished(page, at, room, extent, values, cells, allowance)
-        }
+        Outcome::OfTable(e) => forms::put_finished(
+            page,
+            at,
+            room,
+            e.terms,
+            e.condition,
+            e.last,
+            values,
+            cells,
+            allowance,
+        ),
         Outcome::OfRefusal(r) => put_refusal(
             page,
             at,

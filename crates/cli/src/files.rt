@@ -3,14 +3,14 @@
 ghost use lib.ListN.{length};
 ghost use Rattle.cases.specs.Reading.{Placed};
 use crate::answers;
-use crate::arguments;
-use crate::arguments::Request;
-use crate::faults::complain;
-use crate::finished::put_finished;
-use crate::status;
+use crate::printed;
 use cases::Case;
 use cases::Parsing;
 use finish::Finishing;
+use printer::Printing;
+use request::arguments;
+use request::arguments::Request;
+use request::status;
 
 const SMALL: usize = 65536;
 
@@ -45,9 +45,39 @@ fn finish_room() -> [u32; 448530] {
     [0u32; 448530]
 }
 
+// For solver text: short, and of 80,000 terms, which have at most 14,639 + 88 * 80,000 bytes.
+fn short_text() -> [u8; 65536] {
+    [0u8; 65536]
+}
+
+fn long_text() -> [u8; 7054639] {
+    [0u8; 7054639]
+}
+
 // The status after the page is written.
 fn written(page: &[u8], at: usize, ends: u32) -> u32 {
     ops::ite(page::end(page, at), ends, status::BROKEN)
+}
+
+// Whether a request is for solver text.
+fn prints(request: Request) -> bool {
+    arguments::FINISH < request.command
+}
+
+// Prints the table of a case, in a room for its text.
+fn print_parts(
+    command: u32,
+    path: &[u8],
+    case: &[u8],
+    table: &[u32],
+    values: &[u32],
+    cells: &[u32],
+    allowance: u64,
+    room: &mut [u32],
+    text: &mut [u8],
+) -> u32 {
+    let answer = printed::print(command, table, room, text);
+    printed::put(path, case, table, values, cells, allowance, text, answer)
 }
 
 // Answers a request on the parts of a case.
@@ -61,6 +91,20 @@ fn answer_parts(
     allowance: u64,
     room: &mut [u32],
 ) -> u32 {
+    if prints(request) {
+        let mut letters = short_text();
+        return print_parts(
+            request.command,
+            path,
+            text,
+            table,
+            values,
+            cells,
+            allowance,
+            room,
+            &mut letters,
+        );
+    }
     let outcome = answers::work(request.command, table, values, cells, allowance, room);
     let ends = answers::status_of(request.command, outcome);
     if ends == status::SHORT {
@@ -95,15 +139,9 @@ fn answer_case(
 ) -> u32
     requires { ⌜ Placed case (length (now numbers)) ⌝ }
 {
-    let table_from = case.table.from as usize;
-    let table_to = case.table.to as usize;
-    let values_from = case.values.from as usize;
-    let values_to = case.values.to as usize;
-    let cells_from = case.cells.from as usize;
-    let cells_to = case.cells.to as usize;
-    let table = &numbers[table_from..table_to];
-    let values = &numbers[values_from..values_to];
-    let cells = &numbers[cells_from..cells_to];
+    let table = forms::part(numbers, case.table);
+    let values = forms::part(numbers, case.values);
+    let cells = forms::part(numbers, case.cells);
     let allowance = table::number_at(numbers, case.allowance) as u64;
     answer_parts(request, path, text, table, values, cells, allowance, room)
 }
@@ -122,9 +160,23 @@ fn answer_text(
         Parsing::NotParsed(e) => {
             let from = e.from;
             let to = e.to;
-            complain(path, e, &text[from..to]);
+            forms::complain(path, e, &text[from..to]);
             status::ERROR
         }
+    }
+}
+
+// Prints the table of a case in the longest rooms, which no table is too long for.
+fn print_long(command: u32, numbers: &[u32], case: Case) -> u32
+    requires { ⌜ Placed case (length (now numbers)) ⌝ }
+{
+    let table = forms::part(numbers, case.table);
+    let mut room = finish_room();
+    let mut text = long_text();
+    let answer = printed::print(command, table, &mut room, &mut text);
+    match answer {
+        Printing::Printed(bytes) => printed::put_text(&text, bytes),
+        Printing::NotPrinted(_) => status::ERROR,
     }
 }
 
@@ -132,74 +184,60 @@ fn answer_text(
 fn finish_long(numbers: &[u32], case: Case) -> u32
     requires { ⌜ Placed case (length (now numbers)) ⌝ }
 {
-    let table_from = case.table.from as usize;
-    let table_to = case.table.to as usize;
-    let values_from = case.values.from as usize;
-    let values_to = case.values.to as usize;
-    let cells_from = case.cells.from as usize;
-    let cells_to = case.cells.to as usize;
-    let table = &numbers[table_from..table_to];
-    let values = &numbers[values_from..values_to];
-    let cells = &numbers[cells_from..cells_to];
+    let table = forms::part(numbers, case.table);
+    let values = forms::part(numbers, case.values);
+    let cells = forms::part(numbers, case.cells);
     let allowance = table::number_at(numbers, case.allowance) as u64;
     let mut room = finish_room();
     let mut page = io::buffer();
     let answer = finish::finish(table, &mut room);
     match answer {
-        Finishing::Finished(extent) => {
-            let at = put_finished(&mut page, 0, &room, extent, values, cells, allowance);
+        Finishing::Finished(e) => {
+            let at = forms::put_finished(
+                &mut page,
+                0,
+                &room,
+                e.terms,
+                e.condition,
+                e.last,
+                values,
+                cells,
+                allowance,
+            );
             written(&page, at, status::DONE)
         }
         Finishing::NotFinished(_) => status::ERROR,
     }
 }
 
-// Finishes the table of a text that was read before.
-fn answer_long(text: &[u8], numbers: &mut [u32]) -> u32 {
+// A command that needs the longest rooms. The call for a text stands twice, so that its rooms are not put into this
+// function's frame.
+fn case_long(command: u32, numbers: &[u32], case: Case) -> u32
+    requires { ⌜ Placed case (length (now numbers)) ⌝ }
+{
+    if command == arguments::PRINT {
+        return print_long(arguments::PRINT, numbers, case);
+    }
+    if command == arguments::PRINT_FINISHED {
+        return print_long(arguments::PRINT_FINISHED, numbers, case);
+    }
+    finish_long(numbers, case)
+}
+
+// Answers a command on a text that was read before.
+fn answer_long(command: u32, text: &[u8], numbers: &mut [u32]) -> u32 {
     let parsing = cases::read_case(text, numbers);
     match parsing {
-        Parsing::Parsed(case) => finish_long(numbers, case),
+        Parsing::Parsed(case) => case_long(command, numbers, case),
         Parsing::NotParsed(_) => status::ERROR,
     }
-}
-
-// Whether reading has ended at the end of the file, and not by an error, which is told.
-fn ended_well(path: &[u8], fd: i32) -> bool {
-    let mut more = [0u8; 1];
-    if libc::read(fd, &mut more) < 0 {
-        os::fail(path);
-        return false;
-    }
-    true
-}
-
-// Sets a byte; one past the end is left out.
-fn set(bytes: &mut [u8], i: usize, byte: u8) {
-    if i < bytes.len() {
-        bytes[i] = byte;
-    }
-}
-
-// Copies some bytes to the front of others.
-fn copy(from: &[u8], to: &mut [u8]) {
-    for i in 0..from.len() {
-        set(to, i, from[i]);
-    }
-}
-
-// Puts the bytes that are read after some others, and answers how many there are in all.
-fn read_rest(fd: i32, front: &[u8], text: &mut [u8]) -> usize {
-    copy(front, text);
-    let start = page::filled(text, front.len());
-    let got = io::read_full(fd, &mut text[start..]);
-    std::num::wrapping_add_usize(start, got)
 }
 
 // Answers a request on a large file, whose first bytes are read.
 fn answer_large(request: Request, path: &[u8], fd: i32, front: &[u8]) -> u32 {
     let mut text = large_text();
-    let got = read_rest(fd, front, &mut text);
-    if !ended_well(path, fd) {
+    let got = forms::read_rest(fd, front, &mut text);
+    if !forms::ended_well(path, fd) {
         return status::ERROR;
     }
     let end = page::filled(&text, got);
@@ -207,7 +245,7 @@ fn answer_large(request: Request, path: &[u8], fd: i32, front: &[u8]) -> u32 {
     let mut room = large_room();
     let ends = answer_text(request, path, &text[..end], &mut numbers, &mut room);
     if ends == status::SHORT {
-        return answer_long(&text[..end], &mut numbers);
+        return answer_long(request.command, &text[..end], &mut numbers);
     }
     ends
 }
@@ -218,7 +256,7 @@ fn answer_small(request: Request, path: &[u8], text: &[u8]) -> u32 {
     let mut room = small_room();
     let ends = answer_text(request, path, text, &mut numbers, &mut room);
     if ends == status::SHORT {
-        return answer_long(text, &mut numbers);
+        return answer_long(request.command, text, &mut numbers);
     }
     ends
 }
@@ -234,19 +272,15 @@ fn answer_open(request: Request, path: &[u8], fd: i32) -> u32 {
         }
         return answer_large(request, path, fd, &text[..got]);
     }
-    if !ended_well(path, fd) {
+    if !forms::ended_well(path, fd) {
         return status::ERROR;
     }
     answer_small(request, path, &text[..got])
 }
 
-fn hyphen(path: &[u8]) -> bool {
-    (path.len() == 1) & (arguments::first(path) == b'-')
-}
-
 // Answers a request on the file of a name; a hyphen is standard input.
 pub fn answer_file(request: Request, path: &[u8]) -> u32 {
-    if hyphen(path) {
+    if arguments::hyphen(path) {
         return answer_open(request, path, 0);
     }
     let fd = os::open_read(path);

@@ -1,14 +1,13 @@
 // The program: commands on case files (docs/PROGRAM.md). Its status goes to descriptor 3.
 mod answers; // a command on a case
-mod arguments; // the command, the options, the files
-mod faults; // what is wrong with a file
 mod files; // reading a file, in a small room or a large one
-mod finished; // the command finish
-mod status; // what the program ends with
+mod printed; // the commands print and print-finished
 
-use arguments::Options;
 use libc::STDERR_FILENO;
-use status::Run;
+use request::arguments;
+use request::arguments::Options;
+use request::status;
+use request::status::Run;
 
 // One argument after the command: an option is passed by, a file is answered.
 fn answer_argument(command: u32, options: Options, i: usize, run: Run) -> Run {

@@ -3,7 +3,6 @@ ghost use mathlib.Core.Path.{_≡_};
 ghost use mathlib.Core.Bool.{_&&_};
 ghost use Prim.Native.Nat.{_<_};
 ghost use Rattle.table.specs.Terms.{termAt};
-ghost use Rattle.table.specs.Ranks.{fieldsOf};
 ghost use Rattle.table.specs.Faults.{fields, isVariable, conflicts};
 ghost use Rattle.table.specs.Folds.{firstFrom};
 ghost use Rattle.diagnosis.specs.Telling.{tell, unless};
@@ -18,7 +17,7 @@ use crate::told::plain;
 use crate::told::sized;
 use crate::told::unless;
 use crate::told::vector_sort;
-use table::Rank;
+use table::Fields;
 use table::Sort;
 use table::Term;
 use table::is_variable;
@@ -60,26 +59,16 @@ fn held(p: Use, q: Use, r: Use) -> Uses
     Uses { p, q, r }
 }
 
-// What the fields of a rank hold.
-fn uses_of(rank: Rank) -> Uses
-    ensures { λ r. ⌜ r ≡ uses (fieldsOf rank) ⌝ }
+// What the fields of an operator hold.
+fn uses_of(fields: Fields) -> Uses
+    ensures { λ r. ⌜ r ≡ uses fields ⌝ }
 {
-    let one = held(Use::Operand, Use::Unused, Use::Unused);
-    let two = held(Use::Operand, Use::Operand, Use::Unused);
-    let three = held(Use::Operand, Use::Operand, Use::Operand);
-    match rank {
-        Rank::Literal => held(Use::Number, Use::Unused, Use::Unused),
-        Rank::Input => held(Use::Number, Use::Number, Use::Unused),
-        Rank::BoolUnary => one,
-        Rank::BoolBinary => two,
-        Rank::Equality => two,
-        Rank::Choice => three,
-        Rank::BvUnary => one,
-        Rank::BvBinary => two,
-        Rank::BvCompare => two,
-        Rank::Read => two,
-        Rank::Write => three,
-        Rank::Other => three,
+    match fields {
+        Fields::Value => held(Use::Number, Use::Unused, Use::Unused),
+        Fields::Slot => held(Use::Number, Use::Number, Use::Unused),
+        Fields::One => held(Use::Operand, Use::Unused, Use::Unused),
+        Fields::Two => held(Use::Operand, Use::Operand, Use::Unused),
+        Fields::Three => held(Use::Operand, Use::Operand, Use::Operand),
     }
 }
 
@@ -108,7 +97,7 @@ fn field_told(u: Use, part: u32, i: u32, v: u32) -> Diagnosis
 fn fields_told(i: u32, x: Term) -> Diagnosis
     ensures { λ r. ⌜ r ≡ tell (fieldLines (uses (fields x)) i x) ⌝ }
 {
-    let u = uses_of(table::rank_of(x.op));
+    let u = uses_of(table::fields_of(x.op));
     let first = u.p;
     let second = u.q;
     let third = u.r;

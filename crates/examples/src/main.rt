@@ -1,16 +1,16 @@
 // Runs the worked examples of paper 01, and our own, that standard input describes, and prints a line for each. The
 // file stdin says how they are written; what is printed is held to the file stdout.
-mod parts; // what a routine is called with
 mod routines; // calling a routine, and printing what it answers
 mod shows; // printing answers and rooms
-mod tokens; // numbers and words
 
 use libc::STDIN_FILENO;
-use parts::TABLE;
-use parts::WRONG;
-use parts::taken;
+use lines::parts;
+use lines::parts::TABLE;
+use lines::parts::WRONG;
+use lines::parts::taken;
+use lines::tokens;
+use lines::tokens::Token;
 use shows::show_count;
-use tokens::Token;
 
 // Takes a line, and answers the part that the next line goes on with; or a number above the parts', where the line is
 // wrong. After a routine's word the rest of the line is the example's name.

@@ -2,21 +2,21 @@
 ghost use Prim.Native.Nat.{_≤_, min};
 ghost use mathlib.Core.Path.{_≡_};
 ghost use lib.ListN.{length, replicate};
-use crate::parts;
-use crate::parts::ALLOWANCE;
-use crate::parts::CELLS;
-use crate::parts::FINISHED;
-use crate::parts::LIMIT;
-use crate::parts::ROOM;
-use crate::parts::VALUES;
-use crate::parts::WRONG;
-use crate::parts::row;
 use crate::shows::say;
 use crate::shows::show_admission;
 use crate::shows::show_evaluation;
 use crate::shows::show_finishing;
 use crate::shows::show_judgement;
 use crate::shows::show_room;
+use lines::parts;
+use lines::parts::ALLOWANCE;
+use lines::parts::CELLS;
+use lines::parts::FINISHED;
+use lines::parts::LIMIT;
+use lines::parts::ROOM;
+use lines::parts::VALUES;
+use lines::parts::WRONG;
+use lines::parts::row;
 use table::number_at;
 
 // A room of 256 numbers.

@@ -28,7 +28,11 @@ use Rattle.finish.proofs.AgreedSettings.{finishing-numbers}
 use Rattle.records.specs.Answers as recorded
 use Rattle.records.specs.Laws.{recordNumbers}
 use Rattle.records.proofs.Numbers as record-numbers
-use Rattle.hiranthok.specs.Replies.{admissionReply, finishingReply, evaluationReply, judgementReply}
+use Rattle.printer.specs.declared.Printing.{Printing}
+use Rattle.printer.specs.declared.Printing.the-variants.{Printed, NotPrinted}
+use Rattle.printer.specs.Printing.{printing, printNumbers, NotPrintedBy}
+use Rattle.printer.proofs.Answers.{printing-numbers}
+use Rattle.hiranthok.specs.Replies.{admissionReply, finishingReply, evaluationReply, judgementReply, printingReply}
 use Rattle.hiranthok.specs.Laws.{orZero, KnownNumbers, NeverEleven}
 
 -- a reply has the refusal's number, or 0
@@ -52,6 +56,10 @@ module _ (numbers : ℕ → Bool) where
   of-judgement (Judged v) h = refl
   of-judgement (NotJudged r) h = refusal (r .number) h
 
+  of-printing : (a : Printing) → NotPrintedBy numbers a → orZero numbers (printingReply a .number) ≡ true
+  of-printing (Printed n) h = refl
+  of-printing (NotPrinted r) h = refusal (r .number) h
+
 pub known-numbers : KnownNumbers
 known-numbers =
     record {
@@ -63,6 +71,7 @@ known-numbers =
           of-evaluation recordNumbers (recorded.evaluation w values cells allowance room) (record-numbers.evaluation-numbers w values cells allowance room);
       judge-records = λ w values cells allowance room.
           of-judgement recordNumbers (recorded.judgement w values cells allowance room) (record-numbers.judgement-numbers w values cells allowance room);
+      print = λ w room. of-printing printNumbers (printing w room) (printing-numbers w room);
     }
 
 no-eleven : (number : ℕ) → orZero recordNumbers number ≡ true → number ≡ 11 → ⊥

@@ -12,6 +12,8 @@ use Rattle.judge.specs.declared.Judgement.{Judgement}
 use Rattle.judge.specs.declared.Judgement.the-variants.{Judged, NotJudged}
 use Rattle.finish.specs.declared.Finishing.{Finishing}
 use Rattle.finish.specs.declared.Finishing.the-variants.{Finished, NotFinished}
+use Rattle.printer.specs.declared.Printing.{Printing}
+use Rattle.printer.specs.declared.Printing.the-variants.{Printed, NotPrinted}
 use Rattle.hiranthok.specs.declared.replies.Reply.{Reply}
 
 abbrev pub results : ℕ → ℕ → ℕ → ℕ → Reply
@@ -42,3 +44,8 @@ evaluationReply (NotEvaluated r) = refusal r
 abbrev pub judgementReply : Judgement → Reply
 judgementReply (Judged v) = results (bit (v .rule)) (bit (v .condition)) (v .steps) (v .left)
 judgementReply (NotJudged r) = refusal r
+
+-- bytes written
+abbrev pub printingReply : Printing → Reply
+printingReply (Printed n) = results n 0 0 0
+printingReply (NotPrinted r) = refusal r

@@ -19,8 +19,12 @@ ghost use Rattle.judge.specs.Judgement as judges;
 ghost use Rattle.judge.specs.Demand3 as judges-laws;
 ghost use Rattle.records.specs.Answers as recorded;
 ghost use Rattle.records.specs.Laws as recorded-laws;
+ghost use Rattle.printer.specs.Printing.{printing};
+ghost use Rattle.printer.specs.Printing as prints;
+ghost use Rattle.printer.specs.Meaning as prints-laws;
 ghost use Rattle.hiranthok.specs.Laws.{FinishingRecordPromise};
 ghost use Rattle.hiranthok.specs.Replies.{row, admissionReply, finishingReply, evaluationReply, judgementReply};
+ghost use Rattle.hiranthok.specs.Replies.{printingReply};
 
 #[no_mangle]
 pub extern "C" fn hiranthok_admit(table: &[u32], answer: &mut [u64; 4]) -> u32
@@ -154,4 +158,19 @@ pub extern "C" fn hiranthok_judge_records(
 {
     let judgement = records::judge_records(table, values, cells, allowance, work);
     answer_judged(judgement, answer)
+}
+
+// bytes written
+#[no_mangle]
+pub extern "C" fn hiranthok_print(table: &[u32], text: &mut [u8], answer: &mut [u64; 4]) -> u32
+    ensures { λ r. ⌜ r ≡ printingReply (printing (now (table .entry)) (length (now (text .entry)))) .number ⌝ }
+    ensures { λ r. ⌜ now (answer .exit)
+        ≡ row (printingReply (printing (now (table .entry)) (length (now (text .entry))))) ⌝ }
+    ensures { λ r. ⌜ now (text .exit)
+        ≡ prints.roomAfter (printing (now (table .entry)) (length (now (text .entry)))) (now (table .entry))
+        (now (text .entry)) ⌝ }
+    ensures { λ r. ⌜ prints-laws.PrintingPromise (now (table .entry)) (now (text .exit))
+        (printing (now (table .entry)) (length (now (text .entry)))) ⌝ }
+{
+    deliver(replies::printing_reply(printer::print(table, text)), answer)
 }

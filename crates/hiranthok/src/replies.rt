@@ -1,10 +1,11 @@
 // The library's answers as C's: a number, and four numbers.
 ghost use mathlib.Core.Path.{_≡_};
 ghost use Rattle.hiranthok.specs.Replies.{results, refusal, row, admissionReply, finishingReply};
-ghost use Rattle.hiranthok.specs.Replies.{evaluationReply, judgementReply};
+ghost use Rattle.hiranthok.specs.Replies.{evaluationReply, judgementReply, printingReply};
 use evaluate::Evaluation;
 use finish::Finishing;
 use judge::Judgement;
+use printer::Printing;
 use table::Acceptance;
 use table::Refusal;
 
@@ -84,6 +85,15 @@ pub fn judgement_reply(answer: Judgement) -> Reply
             v.left,
         ),
         Judgement::NotJudged(refused) => refusal(refused),
+    }
+}
+
+pub fn printing_reply(answer: Printing) -> Reply
+    ensures { λ r. ⌜ r ≡ printingReply answer ⌝ }
+{
+    match answer {
+        Printing::Printed(bytes) => results(bytes, 0, 0, 0),
+        Printing::NotPrinted(refused) => refusal(refused),
     }
 }
 

@@ -19,7 +19,6 @@ pub use numbers::truth;
 pub use numbers::two;
 pub use numbers::value;
 pub use texts::fill;
-pub use texts::say;
 
 const BROKEN: usize = 18446744073709551615;
 
@@ -70,68 +69,6 @@ fn put_number(page: &mut [u8], at: usize, n: u64) -> usize {
     let mut digits = [0u8; 20];
     let count = io::decimal(n, &mut digits);
     put_all(page, at, &digits[..count])
-}
-
-// The line of a byte in a string of JSON: 0 as it is, 1 by its number, 2 and 3 after a backslash.
-fn escape(byte: u8) -> u32 {
-    if byte < 32 {
-        1
-    } else if byte == b'"' {
-        2
-    } else if byte == b'\\' {
-        3
-    } else {
-        0
-    }
-}
-
-// The line of a hexadecimal digit.
-fn digit(n: u8) -> u64 {
-    if n < 16 { 4 + (n as u64) } else { 4 }
-}
-
-// A byte as in a string of JSON.
-fn put_quoted(page: &mut [u8], at: usize, byte: u8) -> usize {
-    if escape(byte) == 0 {
-        return put(page, at, byte);
-    }
-    fill(
-        page,
-        at,
-        b"
-\\u00&&
-\\\"
-\\\\
-0
-1
-2
-3
-4
-5
-6
-7
-8
-9
-a
-b
-c
-d
-e
-f
-",
-        b"",
-        escape(byte),
-        five(digit(byte / 16), digit(byte % 16), 0, 0, 0),
-    )
-}
-
-// Bytes as in a string of JSON.
-pub fn put_string(page: &mut [u8], at: usize, bytes: &[u8]) -> usize {
-    let mut to = at;
-    for i in 0..bytes.len() {
-        to = put_quoted(page, to, bytes[i]);
-    }
-    to
 }
 
 // So many of some bytes, or all.

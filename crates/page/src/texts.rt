@@ -1,5 +1,6 @@
 // Messages: a line of a text with numbers put in. In a line
 //   #   is the next number, ? the next as a number or a word
+//   !   the operator that the next number counts: constant, variable, or SMT-LIB's name
 //   @   the line of the names that the next number counts, and & that of the text; there all of this holds, but no
 //       more than two lines stand in each other
 //   $   the end of a printed line
@@ -9,6 +10,7 @@ use crate::filled;
 use crate::numbers::Numbers;
 use crate::numbers::after;
 use crate::put;
+use crate::put_all;
 use crate::put_number;
 use crate::put_spaces;
 
@@ -65,6 +67,17 @@ fn put_shown(page: &mut [u8], at: usize, n: u64) -> usize {
     } else {
         put_line(page, at, b"false\ntrue\n-\nnull\n", n - 4294967296)
     }
+}
+
+// An operator by its number.
+fn put_operator(page: &mut [u8], at: usize, op: u64) -> usize {
+    if op < 2 {
+        return put_line(page, at, b"constant\nvariable\n", op);
+    }
+    let mut name = [0u8; 8];
+    let end = smtlib::operator(&mut name, 0, (op % 4294967296) as u32);
+    let count = filled(&name, end);
+    put_all(page, at, &name[..count])
 }
 
 fn digits(n: u64) -> usize {
@@ -135,6 +148,9 @@ fn put_step(page: &mut [u8], at: usize, from: usize, byte: u8, after: u8, n: u64
     if byte == b'?' {
         return put_shown(page, at, n);
     }
+    if byte == b'!' {
+        return put_operator(page, at, n);
+    }
     if blank(byte) {
         let count = spaces(byte, after, since(from, at, page.len()), n);
         return put_spaces(page, at, count);
@@ -144,7 +160,7 @@ fn put_step(page: &mut [u8], at: usize, from: usize, byte: u8, after: u8, n: u64
 
 // The numbers after a byte of a line.
 fn left(byte: u8, numbers: Numbers) -> Numbers {
-    if (byte == b'#') | (byte == b'?') {
+    if (byte == b'#') | (byte == b'?') | (byte == b'!') {
         after(numbers)
     } else {
         numbers
@@ -260,12 +276,4 @@ pub fn fill(
         f = step(page, text, names, f, byte);
     }
     f.at
-}
-
-// Line `n` of a text with its numbers, to a descriptor, of at most 255 bytes.
-pub fn say(fd: i32, text: &[u8], n: u32, numbers: Numbers) -> bool {
-    let mut page = [0u8; 256];
-    let at = fill(&mut page, 0, text, b"", n, numbers);
-    let count = filled(&page, at);
-    io::write_all(fd, &page[..count])
 }

@@ -1,6 +1,8 @@
 // A table's terms in rows, one a line.
 use crate::verdicts::put_spent;
+use crate::verdicts::put_told;
 use evaluate::Spent;
+use judge::Verdict;
 use table::number_at;
 
 // Each term with its value.
@@ -13,7 +15,7 @@ fn put_rows(page: &mut [u8], at: usize, table: &[u32], values: &[u32], terms: u3
 }
 
 // Each term with its mark, value and condition.
-pub fn put_judged_rows(
+fn put_judged_rows(
     page: &mut [u8],
     at: usize,
     table: &[u32],
@@ -41,4 +43,15 @@ pub fn put_evaluation(
     let head = show::put_head(page, at, false);
     let rows = put_rows(page, head, table, room, show::terms_within(table, 80000));
     put_spent(page, rows, spent.steps, spent.left)
+}
+
+// A judgement, whose room is the values, then the conditions' truths: its rows, and the verdict below them.
+pub fn put_judgement(page: &mut [u8], at: usize, table: &[u32], room: &[u32], v: Verdict) -> usize {
+    let terms = show::terms_within(table, 512);
+    let middle = show::front(terms, room);
+    let values = &room[..middle];
+    let truths = &room[middle..];
+    let head = show::put_head(page, at, true);
+    let rows = put_judged_rows(page, head, table, values, truths, terms);
+    put_told(page, rows, v, std::num::wrapping_sub_u32(terms, 1))
 }

@@ -5,47 +5,29 @@ ghost use Prim.Native.Nat.{min};
 ghost use lib.ListN.{length};
 ghost use Rattle.io.specs.Counts.{Counts};
 ghost use Rattle.ops.specs.Numbers.{opOf};
-ghost use Rattle.table.specs.Ranks.{rankOf};
+ghost use Rattle.table.specs.Ranks.{rankOf, fieldsOf, operandCount};
 ghost use Rattle.table.specs.Terms.{terms};
-ghost use Rattle.show.specs.Operands.{operandCount};
 use page::Numbers;
 use page::push;
 use page::push_if;
 use page::push_long;
-use table::Rank;
+use table::Fields;
 use table::Sort;
 use table::Term;
 use table::WORDS;
 
-// Line `n` of a text, with the names. Names 0 to 16 are those of the operators, by their numbers.
+// Line `n` of a text, with the names of terms, sorts and marks.
 pub fn put(page: &mut [u8], at: usize, text: &[u8], n: u32, numbers: Numbers) -> usize {
     page::fill(
         page,
         at,
         text,
-        b"constant
-variable
-not
-and
-or
-=>
-=
-ite
-bvnot
-bvand
-bvor
-bvadd
-bvmul
-bvshl
-bvult
-select
-store
-?
+        b"?
 (_ bv# #)
 slot #
-(@ t#)
-(@ t# t#)
-(@ t# t# t#)
+(! t#)
+(! t# t#)
+(! t# t# t#)
 Bool
 BitVec #
 Array # #
@@ -87,21 +69,14 @@ pub fn front(n: u32, room: &[u32]) -> usize
 
 // How many operands an operator has.
 pub fn operands(op: u32) -> u32
-    ensures { λ r. ⌜ r ≡ operandCount (rankOf (opOf op)) ⌝ }
+    ensures { λ r. ⌜ r ≡ operandCount (fieldsOf (rankOf (opOf op))) ⌝ }
 {
-    match table::rank_of(op) {
-        Rank::Literal => 0,
-        Rank::Input => 0,
-        Rank::BoolUnary => 1,
-        Rank::BoolBinary => 2,
-        Rank::Equality => 2,
-        Rank::Choice => 3,
-        Rank::BvUnary => 1,
-        Rank::BvBinary => 2,
-        Rank::BvCompare => 2,
-        Rank::Read => 2,
-        Rank::Write => 3,
-        Rank::Other => 0,
+    match table::fields_of(op) {
+        Fields::Value => 0,
+        Fields::Slot => 0,
+        Fields::One => 1,
+        Fields::Two => 2,
+        Fields::Three => 3,
     }
 }
 
@@ -118,34 +93,34 @@ pub fn operator(x: Term, rest: Numbers) -> Numbers {
     if x.op == 0 {
         let width = push_if(!boolean, x.sort.n, rest);
         return push(
-            ops::ite(boolean, 17, 18),
+            ops::ite(boolean, 0, 1),
             push_long(page::value(boolean, x.p), width),
         );
     }
     if x.op == 1 {
-        return push(19, push(x.p, rest));
+        return push(2, push(x.p, rest));
     }
     push(form(operands(x.op)), push(x.op, operand_numbers(x, rest)))
 }
 
 // The line of an operator with so many operands.
 fn form(count: u32) -> u32 {
-    ops::ite(count == 1, 20, ops::ite(count == 2, 21, 22))
+    ops::ite(count == 1, 3, ops::ite(count == 2, 4, 5))
 }
 
 fn sorted(s: Sort, vector: u32, array: u32, rest: Numbers) -> Numbers {
-    let line = ops::ite(s.m != 0, array, ops::ite(s.n == 0, 23, vector));
+    let line = ops::ite(s.m != 0, array, ops::ite(s.n == 0, 6, vector));
     push(line, push_if(s.m != 0, s.m, push_if(s.n != 0, s.n, rest)))
 }
 
 // A sort, for @: Bool, BitVec n, Array m n.
 pub fn sort(s: Sort, rest: Numbers) -> Numbers {
-    sorted(s, 24, 25, rest)
+    sorted(s, 7, 8, rest)
 }
 
 // A sort as SMT-LIB writes it, for @.
 pub fn smt_sort(s: Sort, rest: Numbers) -> Numbers {
-    sorted(s, 26, 27, rest)
+    sorted(s, 9, 10, rest)
 }
 
 // A value, for ?; of an array the word for none.
@@ -164,7 +139,7 @@ pub fn condition(x: Term, free: bool, none: u64) -> u64 {
 
 // The line of a variable's mark.
 fn mark(x: Term) -> u32 {
-    ops::ite(x.op != 1, 28, ops::ite(x.q == 1, 29, 30))
+    ops::ite(x.op != 1, 11, ops::ite(x.q == 1, 12, 13))
 }
 
 fn put_columns(page: &mut [u8], at: usize, n: u32, numbers: Numbers) -> usize {

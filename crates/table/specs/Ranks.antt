@@ -2,6 +2,7 @@
 -- what its fields hold.
 -- Assumes nothing.
 use mathlib.Core.Bool.{Bool, true, false}
+use Prim.Native.Nat.{ℕ}
 use Rattle.ops.specs.declared.Op.{Op}
 use Rattle.ops.specs.declared.Op.the-variants.{Constant, Variable, Apply, Ite, Select, Store, Unknown}
 use Rattle.ops.specs.Ranks.{Arity, FunctionRank, functionRank}
@@ -43,6 +44,14 @@ fieldsOf BvCompare = Two
 fieldsOf Read = Two
 fieldsOf Write = Three
 fieldsOf Other = Three
+
+-- how many operands the fields hold
+abbrev pub operandCount : Fields → ℕ
+operandCount Value = 0
+operandCount Slot = 0
+operandCount One = 1
+operandCount Two = 2
+operandCount Three = 3
 
 -- one of seven by the case of Op: constant, variable, function, choice, read, store, unknown
 abbrev pub byOp : {A : Type 0} → A → A → A → A → A → A → A → Op → A

@@ -7,7 +7,9 @@ mod words; // a table's numbers as terms
 
 pub use operands::rank_fault;
 pub use operands::refuse_unless;
+pub use ranks::Fields;
 pub use ranks::Rank;
+pub use ranks::fields_of;
 pub use ranks::is_constant;
 pub use ranks::is_read;
 pub use ranks::is_store;

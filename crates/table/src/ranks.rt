@@ -1,7 +1,7 @@
 // What each operator asks of its fields and sorts.
 ghost use mathlib.Core.Path.{_≡_};
 ghost use Rattle.ops.specs.Numbers.{opOf};
-ghost use Rattle.table.specs.Ranks.{rankOf};
+ghost use Rattle.table.specs.Ranks.{rankOf, fieldsOf};
 ghost use Rattle.table.specs.Faults.{isVariable, isConstant, isRead, isStore};
 use crate::words::Term;
 
@@ -53,6 +53,26 @@ pub fn rank_of(op: u32) -> Rank
         15 => Rank::Read,
         16 => Rank::Write,
         _ => Rank::Other,
+    }
+}
+
+// What an operator's fields hold.
+pub fn fields_of(op: u32) -> Fields
+    ensures { λ r. ⌜ r ≡ fieldsOf (rankOf (opOf op)) ⌝ }
+{
+    match rank_of(op) {
+        Rank::Literal => Fields::Value,
+        Rank::Input => Fields::Slot,
+        Rank::BoolUnary => Fields::One,
+        Rank::BoolBinary => Fields::Two,
+        Rank::Equality => Fields::Two,
+        Rank::Choice => Fields::Three,
+        Rank::BvUnary => Fields::One,
+        Rank::BvBinary => Fields::Two,
+        Rank::BvCompare => Fields::Two,
+        Rank::Read => Fields::Two,
+        Rank::Write => Fields::Three,
+        Rank::Other => Fields::Three,
     }
 }
 

@@ -7,8 +7,8 @@ use borrow.Author.Needs.{needs}
 use Rattle.cli.proofs.files.answer_long.Statement.{statement}
 use Rattle.cli.proofs.files.answer_long.Tie as tie
 
-finish-long-requires : tie.Need-finish-long-requires
-finish-long-requires c κs =
+case-long-requires : tie.Need-case-long-requires
+case-long-requires c κs =
     let r = c .before .before .before .before .before .before .read-case in
     let bytes = length (c .before .before .before .before .before .before .before .before .before .before .args .text .now) in
     subst (λ (k : Parsing). Inside k (length (r .last .1 .0)) bytes) (c .before .before .parsing .given .1)
@@ -20,7 +20,7 @@ answer-long-spec =
     (tie.spec
     (λ c κs. search needs)
     (λ c. search needs)
-    finish-long-requires
+    case-long-requires
     (λ c. search needs)
     (λ c. search needs)
     (λ c. search needs)

@@ -1,0 +1,138 @@
+// A judgement's terms and repair in JSON, the rest of an object that is open.
+use page::Numbers;
+use page::none;
+use page::push;
+use page::push_long;
+use page::truth;
+use table::Term;
+use table::number_at;
+
+fn say(page: &mut [u8], at: usize, n: u32, numbers: Numbers) -> usize {
+    show::put(
+        page,
+        at,
+        b",\"terms\":[
+],\"repair\":[
+]}$
+&{\"term\":#,\"op\":#,\"operator\":\"!\",\"sort\":\"@\",\"operands\":[&],
+&\"value\":?,\"free\":?,\"way\":?}
+\"slot\":#,\"marked\":?,
+
+#
+#,#
+#,#,#
+,
+&#
+",
+        n,
+        numbers,
+    )
+}
+
+// A term's operands, for &.
+fn operands(x: Term) -> Numbers {
+    let count = show::operands(x.op);
+    let line = ops::ite(
+        count == 0,
+        6,
+        ops::ite(count == 1, 7, ops::ite(count == 2, 8, 9)),
+    );
+    push(line, show::operand_numbers(x, none()))
+}
+
+// What a variable has, for &.
+fn is_variable(x: Term, rest: Numbers) -> Numbers {
+    if x.op == 1 {
+        return push(5, push(x.p, push_long(truth(x.q == 1), rest)));
+    }
+    push(6, rest)
+}
+
+// Term `k`, with its value, whether it is free and whether it is on the way.
+fn put_term(
+    page: &mut [u8],
+    at: usize,
+    x: Term,
+    k: u32,
+    value: u32,
+    free: bool,
+    way: bool,
+) -> usize {
+    let typed = push(x.op, push(x.op, show::smt_sort(x.sort, operands(x))));
+    let to = say(page, at, 3, push(ops::ite(k == 0, 6, 10), push(k, typed)));
+    let held = show::value(x.sort, value, page::NULL);
+    let told = page::five(held, show::condition(x, free, page::NULL), truth(way), 0, 0);
+    say(page, to, 4, is_variable(x, told))
+}
+
+fn put_term_at(
+    page: &mut [u8],
+    at: usize,
+    table: &[u32],
+    values: &[u32],
+    truths: &[u32],
+    way: &[u32; 512],
+    k: u32,
+) -> usize {
+    put_term(
+        page,
+        at,
+        table::term_at(table, k),
+        k,
+        number_at(values, k),
+        number_at(truths, k) == 1,
+        number_at(way, k) == 1,
+    )
+}
+
+fn put_terms(
+    page: &mut [u8],
+    at: usize,
+    table: &[u32],
+    values: &[u32],
+    truths: &[u32],
+    way: &[u32; 512],
+    terms: u32,
+) -> usize {
+    let mut to = at;
+    for k in 0..terms {
+        to = put_term_at(page, to, table, values, truths, way, k);
+    }
+    to
+}
+
+// The slots of a repair.
+fn put_slots(page: &mut [u8], at: usize, slots: &[u32; 256]) -> usize {
+    let mut to = at;
+    let mut first = true;
+    for k in 0..256u32 {
+        if number_at(slots, k) != 1 {
+            continue;
+        }
+        to = say(page, to, 11, page::two(ops::ite(first, 6, 10), k));
+        first = false;
+    }
+    to
+}
+
+fn put_repair(page: &mut [u8], at: usize, slots: &[u32; 256]) -> usize {
+    let start = say(page, at, 1, none());
+    let to = put_slots(page, start, slots);
+    say(page, to, 2, none())
+}
+
+// Each term and the slots of the repair, given the terms on the way.
+pub fn put_json_terms(
+    page: &mut [u8],
+    at: usize,
+    table: &[u32],
+    values: &[u32],
+    truths: &[u32],
+    terms: u32,
+    way: &[u32; 512],
+    slots: &[u32; 256],
+) -> usize {
+    let start = say(page, at, 0, none());
+    let to = put_terms(page, start, table, values, truths, way, terms);
+    put_repair(page, to, slots)
+}

@@ -1,0 +1,6 @@
+pub mod Scripts
+pub mod Printed
+pub mod Printing
+pub mod Sharing
+pub mod Meaning
+pub mod Code

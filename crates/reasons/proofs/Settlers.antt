@@ -1,0 +1,68 @@
+-- What the program names as settling an operator does.
+-- Assumes nothing.
+use mathlib.Core.Path.{_≡_, refl, sym, ap, _∙_}
+use mathlib.Core.Bool.{Bool, true, false, cond, _&&_, _||_}
+use Prim.Native.Nat.{ℕ, _≤_}
+use native.Mathlib.Nat.{le-refl}
+use lib.Dec.{ltb}
+use borrow.Author.Tests.{eq-eqb, le-leb, le-ltb}
+use Rattle.ops.specs.declared.Op.{Op}
+use Rattle.ops.specs.Numbers.{opOf}
+use Rattle.ops.specs.Meaning.{ones}
+use Rattle.ops.specs.Condition.{settles}
+use Rattle.ops.proofs.Booleans.{or-open}
+use Rattle.explain.specs.Operands.{wouldSettle}
+use Rattle.reasons.specs.Settling.{firstOf, SettlingSettles}
+
+both : (a b : Bool) → a ≡ true → b ≡ true → (a && b) ≡ true
+both true b h k = k
+both false b h k = h
+
+-- where one of the four does, the first that does is named
+first-does : (test : ℕ → Bool) (n : ℕ) → n ≤ 32 → (((test 0 || test 1) || test n) || test (ones n)) ≡ true → test (firstOf test n) ≡ true
+first-does test n small h = go (test 0) (test 1) (test n) refl refl refl h
+  where
+    go : (a b c : Bool) → test 0 ≡ a → test 1 ≡ b → test n ≡ c → (((a || b) || c) || test (ones n)) ≡ true → test (cond a 0 (cond b 1 (cond (c || ltb 32 n) n (ones n)))) ≡ true
+    go true b c e f g k = e
+    go false true c e f g k = f
+    go false false true e f g k = g
+    go false false false e f g k = rw (le-ltb 32 n small) k
+
+abbrev pub by : ℕ → Bool → ℕ → ℕ → Bool
+by op second n v = wouldSettle (opOf op) n v second
+
+-- 0, 1, the width, all ones
+pub settling-settles : SettlingSettles
+unfolding settles
+settling-settles n h =
+    let zero-or-one : (op : ℕ) (second : Bool) → (by op second n 0 || by op second n 1) ≡ true → by op second n (firstOf (by op second n) n) ≡ true =
+    λ op second e. first-does (by op second n) n h (rw e) in
+    let all-ones : (second : Bool) → by 10 second n (ones n) ≡ true → by 10 second n (firstOf (by 10 second n) n) ≡ true =
+    λ second e. first-does (by 10 second n) n h (rw e (or-open ((by 10 second n 0 || by 10 second n 1) || by 10 second n n))) in
+    let width : by 13 true n n ≡ true = rw (le-leb n n (le-refl n)) in
+    both _ _ (both _ _ (zero-or-one 3 false refl) (zero-or-one 3 true refl))
+    (both _ _ (both _ _ (zero-or-one 4 false refl) (zero-or-one 4 true refl))
+    (both _ _ (both _ _ (zero-or-one 5 false refl) (zero-or-one 5 true refl))
+    (both _ _ (both _ _ (zero-or-one 9 false refl) (zero-or-one 9 true refl))
+    (both _ _ (both _ _ (all-ones false (rw (eq-eqb (ones n) (ones n) refl))) (all-ones true (rw (eq-eqb (ones n) (ones n) refl))))
+    (both _ _ (both _ _ (zero-or-one 12 false refl) (zero-or-one 12 true refl))
+    (first-does (by 13 true n) n h (rw (width, or-open (by 13 true n 0 || by 13 true n 1)))))))))
+
+-- The code, way by way
+
+module _ (test : ℕ → Bool) (n : ℕ) where
+  pub zero-first : test 0 ≡ true → 0 ≡ firstOf test n
+  zero-first e = rw e
+
+  pub one-first : test 0 ≡ false → test 1 ≡ true → 1 ≡ firstOf test n
+  one-first e f = rw (e, f)
+
+  pub width-first : test 0 ≡ false → test 1 ≡ false → (test n || ltb 32 n) ≡ true → n ≡ firstOf test n
+  width-first e f g = rw (e, f, g)
+
+  pub ones-first : test 0 ≡ false → test 1 ≡ false → (test n || ltb 32 n) ≡ false → ones n ≡ firstOf test n
+  ones-first e f g = rw (e, f, g)
+
+-- what a call answered of the operator of a number
+pub told : {o o′ : Op} {z b : Bool} (n v : ℕ) (second : Bool) → o ≡ o′ → z ≡ wouldSettle o n v second → z ≡ b → wouldSettle o′ n v second ≡ b
+told n v second e is h = sym (ap (λ (o : Op). wouldSettle o n v second) e) ∙ sym is ∙ h

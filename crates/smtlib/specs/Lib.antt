@@ -1,0 +1,5 @@
+pub mod Bytes
+pub mod Numerals
+pub mod Symbols
+pub mod Laws
+pub mod Writing

@@ -1,5 +1,5 @@
 /* Judges rule G, 0 < a * x + b at width 8 with x marked, in three settings, and refuses a fourth; then rule H, t with 42 stored at a
- * is 42 at c, with t marked, where some cells of t are listed as records; then finishes rule G. */
+ * is 42 at c, with t marked, where some cells of t are listed as records; then finishes rule G and prints it for a solver. */
 #include <stdio.h>
 
 #include "hiranthok.h"
@@ -84,6 +84,24 @@ static void finish(size_t length)
                (unsigned long long)answer[1], (unsigned long long)answer[2]);
 }
 
+/* What a solver is asked: finds a setting that passes, or says that there is none. In a room of so many bytes, of one that is long
+ * enough for any finished table of so many terms. */
+static void print_finished(size_t length)
+{
+    uint32_t room[HIRANTHOK_FINISH_ROOM(TERMS)];
+    uint8_t text[HIRANTHOK_PRINT_ROOM(HIRANTHOK_FINISHED_TERMS(TERMS))];
+    uint64_t answer[4];
+    uint32_t refused = hiranthok_finish(rule_g, LENGTH(rule_g), room, LENGTH(room), answer);
+
+    if (!refused)
+        refused = hiranthok_print(room, HIRANTHOK_TERM_WORDS * (size_t)answer[0], text, length, answer);
+    printf("printed in %u bytes: ", (unsigned)length);
+    if (refused)
+        show_refusal(refused, answer);
+    else
+        printf("%llu bytes\n%.*s", (unsigned long long)answer[0], (int)answer[0], (const char *)text);
+}
+
 int main(void)
 {
     judge(0, 5, 1);   /* a is 0: whatever x is, the product is 0 */
@@ -95,5 +113,7 @@ int main(void)
     judge_records(0, 3); /* false here, and t decides */
     finish(0); /* the refusal's place is the count of terms needed */
     finish(HIRANTHOK_FINISH_ROOM(TERMS));
+    print_finished(0); /* the refusal's place is the count of bytes needed */
+    print_finished(HIRANTHOK_PRINT_ROOM(HIRANTHOK_FINISHED_TERMS(TERMS)));
     return 0;
 }

@@ -1,5 +1,6 @@
 /* The C interface from C++: rows are vectors, and some of them are empty. The data() of an empty vector may be null, and then
- * hiranthok_row, hiranthok_room and hiranthok_cells give a pointer that may be passed. */
+ * hiranthok_row, hiranthok_room, hiranthok_cells and hiranthok_text give a pointer that may be passed. */
+#include <cstddef>
 #include <cstdio>
 #include <string>
 #include <vector>
@@ -8,6 +9,7 @@
 
 using Row = std::vector<uint32_t>;
 using Cells = std::vector<hiranthok_cell>;
+using Text = std::vector<uint8_t>;
 
 static const std::size_t terms = 3;
 
@@ -56,13 +58,27 @@ static void finish(const char *what, const Row &table, Row room)
         std::printf("%s: %llu terms\n", what, static_cast<unsigned long long>(answer[0]));
 }
 
+static void print(const char *what, const Row &table, Text text)
+{
+    uint64_t answer[4];
+    const uint32_t refused = hiranthok_print(hiranthok_row(table.data()), table.size(), hiranthok_text(text.data()),
+                                             text.size(), answer);
+    if (refused)
+        show(what, refused, answer);
+    else
+        std::printf("%s: %llu bytes\n%s", what, static_cast<unsigned long long>(answer[0]),
+                    std::string(text.begin(), text.begin() + static_cast<std::ptrdiff_t>(answer[0])).c_str());
+}
+
 /* A null pointer becomes one that is not; any other stays as it is. */
 static bool replaced()
 {
     uint32_t number = 0;
+    uint8_t byte = 0;
     const hiranthok_cell cell = {0, 0, 0};
-    return hiranthok_row(nullptr) && hiranthok_room(nullptr) && hiranthok_cells(nullptr) && hiranthok_row(&number) == &number
-        && hiranthok_room(&number) == &number && hiranthok_cells(&cell) == &cell;
+    return hiranthok_row(nullptr) && hiranthok_room(nullptr) && hiranthok_cells(nullptr) && hiranthok_text(nullptr)
+        && hiranthok_row(&number) == &number && hiranthok_room(&number) == &number && hiranthok_cells(&cell) == &cell
+        && hiranthok_text(&byte) == &byte;
 }
 
 static bool versioned()
@@ -81,8 +97,11 @@ int main()
     finish("the largest finished room", rule, Row(HIRANTHOK_MAX_FINISH_ROOM));
     std::printf("any table, finished: at most %d terms, %d numbers\n", HIRANTHOK_FINISHED_TERMS(HIRANTHOK_MAX_TERMS),
                 HIRANTHOK_MAX_FINISH_ROOM);
+    print("no text room", rule, {});
+    print("a text room", rule, Text(HIRANTHOK_PRINT_ROOM(terms)));
+    std::printf("any table, printed: at most %d bytes\n", HIRANTHOK_MAX_PRINT_ROOM);
     std::printf("null pointers replaced: %s; version %s\n", replaced() ? "yes" : "no", versioned() ? HIRANTHOK_VERSION : "wrong");
-    for (uint32_t number = 0; number <= 24; number++)
+    for (uint32_t number = 0; number <= 25; number++)
         std::printf("%2u %s\n", static_cast<unsigned>(number), hiranthok_refusal_text(number));
     return 0;
 }

@@ -3,18 +3,18 @@
  *
  * A rule is a table of terms, six 32-bit numbers a term: op, index width m, width n, fields p, q, r. A setting is a row of values by
  * slot and a row of cells, three numbers a cell: slot, index, value. All lengths count numbers, not bytes; of a row
- * of records, the records. docs/RULES.md has the rules whole, with worked examples.
+ * of records, the records; of text, the bytes. docs/RULES.md has the rules whole, with worked examples.
  *
  * Every function takes any input and answers 0, or the number of the first refusal; then answer[0] is the refusal's place, the
- * rest of answer is 0, and no lent number but those of answer has changed. Where it answers 0, answer holds the results that
- * are named below, and 0 in the entries that are not named. A row of length 0 may be any pointer that is not null.
+ * rest of answer is 0, and no lent number or byte but those of answer has changed. Where it answers 0, answer holds the results
+ * that are named below, and 0 in the entries that are not named. A row of length 0 may be any pointer that is not null.
  *
  * answer is written in either case: it is the function's result, and no room that was lent, so a refusal that "writes nothing"
  * tells its place there. The allowance is passed by value: a refusal spends nothing of it.
  *
  * Lent rows must not overlap a room, and rooms must not overlap each other; answer overlaps none of them. Every pointer is aligned
- * as its type asks (4 bytes; answer 8), one of length 0 too. hiranthok_row, hiranthok_room and hiranthok_cells below put a pointer
- * that may be passed with length 0 in the place of a null one.
+ * as its type asks (4 bytes; answer 8; text any), one of length 0 too. hiranthok_row, hiranthok_room, hiranthok_cells and
+ * hiranthok_text below put a pointer that may be passed with length 0 in the place of a null one.
  *
  * No function keeps anything between calls: any number of threads may call at once, provided that no room and no answer is used by
  * two calls at a time. Rows that are only read (table, values, cells) may be shared, so long as nobody writes them. A call takes
@@ -47,14 +47,14 @@
  * The refusals:
  *
  *   1 table length 0 or not a multiple of six      11 cell row not a multiple of three
- *   2 more than 512 terms (evaluate: 80,000)       12 slot outside the value row
+ *   2 over 512 terms (evaluate, print: 80,000)    12 slot outside the value row
  *   3 op over 16                                   13 value too wide
  *   4 not one of the three sorts                   14 a cell's slot is no array variable's
  *   5 an operand not below, an unused field not 0  15 a cell's index or value too wide
  *   6 sorts not as the operator asks               21 the finished room is too short (place: terms needed)
  *   7 a constant, slot or mark too large           22 the work room is too short (place: numbers needed)
  *   8 one slot with two sorts or marks             23 the allowance is below the table's steps (place: steps needed)
- *   9 a 17th store in a chain
+ *   9 a 17th store in a chain                      24 the text room is too short (place: bytes needed)
  *  10 the last term is not Boolean
  *
  * Places of 1, 2, 11 are 0; of 3 to 10, 12, 13 the term's number; of 14, 15 the cell's.
@@ -66,18 +66,19 @@
 #include <stdint.h>
 
 /* The version of this interface. Major: a signature, a number or an answer is another than it was, and programs may have to change.
- * Minor: something was added; it counts the landings (docs/landings/), and 0.8 is paper 01 with the eighth. Patch: what is declared
- * here stayed as it was. The library has no version of its own to ask for: take header and library from one state of the repository. */
+ * Minor: something was added; it counts the landings (docs/landings/): 0.8 is paper 01 with the eighth, and 0.11 has print. Patch:
+ * what is declared here stayed as it was. The library has no version of its own to ask for: take header and library from one state
+ * of the repository. */
 #define HIRANTHOK_VERSION_MAJOR 0
-#define HIRANTHOK_VERSION_MINOR 8
+#define HIRANTHOK_VERSION_MINOR 11
 #define HIRANTHOK_VERSION_PATCH 0
-#define HIRANTHOK_VERSION "0.8.0"
+#define HIRANTHOK_VERSION "0.11.0"
 
 /* The numbers of a term and of a cell. */
 #define HIRANTHOK_TERM_WORDS 6
 #define HIRANTHOK_CELL_WORDS 3
 
-/* The terms that a table may have: for admit, finish and judge; for evaluate. Every finished table is one that evaluate takes. */
+/* The terms that a table may have: for admit, finish and judge; for evaluate and print, which take every finished table. */
 #define HIRANTHOK_MAX_TERMS 512
 #define HIRANTHOK_MAX_EVALUATED_TERMS 80000
 
@@ -91,6 +92,11 @@
 #define HIRANTHOK_FINISHED_TERMS(terms) (146 * (terms) + 3)
 #define HIRANTHOK_FINISH_ROOM(terms) (HIRANTHOK_TERM_WORDS * HIRANTHOK_FINISHED_TERMS(terms))
 #define HIRANTHOK_MAX_FINISH_ROOM HIRANTHOK_FINISH_ROOM(HIRANTHOK_MAX_TERMS) /* 448530 */
+
+/* The bytes of a text room that is long enough: of a table of so many terms, and of any table. A shorter room may do: where it
+ * does not, it is refused 24, with the bytes needed as the place. */
+#define HIRANTHOK_PRINT_ROOM(terms) (88 * (terms) + 14639)
+#define HIRANTHOK_MAX_PRINT_ROOM HIRANTHOK_PRINT_ROOM(HIRANTHOK_MAX_EVALUATED_TERMS) /* 7054639 */
 
 #ifdef __cplusplus
 extern "C" {
@@ -133,8 +139,15 @@ uint32_t hiranthok_judge_records(const uint32_t *table, size_t table_len, const 
                                  const struct hiranthok_cell *cells, size_t count, uint64_t allowance, uint32_t *work,
                                  size_t work_len, uint64_t answer[4]);
 
-/* A row, a room, a row of records: the given pointer, or in the place of a null one a pointer to pass with length 0. In C, where there
- * are no cells, hiranthok_row(NULL), 0; in C++, where data() of an empty vector may be null,
+/* Writes the table as SMT-LIB 2.6 to the front of text, in ASCII and with no byte 0 behind it; the rest of text is untouched. The
+ * lines, each ended by a line feed: (set-logic QF_ABV); a declare-const for each slot in use, ascending, named v and the slot; a
+ * define-fun for each term that is no variable, ascending, named t and its number; an assert of the last term; (check-sat). Marks
+ * leave no trace: print a finished table to have a solver propose a setting that passes. Refuses 1 to 10, 24. Result: the count of
+ * bytes. */
+uint32_t hiranthok_print(const uint32_t *table, size_t table_len, uint8_t *text, size_t text_len, uint64_t answer[4]);
+
+/* A row, a room, a row of records, a text room: the given pointer, or in the place of a null one a pointer to pass with length 0. In
+ * C, where there are no cells, hiranthok_row(NULL), 0; in C++, where data() of an empty vector may be null,
  * hiranthok_row(cells.data()), cells.size(). */
 static inline const uint32_t *hiranthok_row(const uint32_t *row)
 {
@@ -154,13 +167,19 @@ static inline const struct hiranthok_cell *hiranthok_cells(const struct hirantho
     return cells ? cells : none;
 }
 
+static inline uint8_t *hiranthok_text(uint8_t *text)
+{
+    static uint8_t none[1] = {0};
+    return text ? text : none;
+}
+
 /* What a function answered, in words: of a refusal's number, of 0 and of a number that no function answers. */
 static inline const char *hiranthok_refusal_text(uint32_t number)
 {
     switch (number) {
     case 0: return "not refused";
     case 1: return "the table has no numbers, or not six for each term";
-    case 2: return "too many terms: at most 512, and 80000 for evaluate";
+    case 2: return "too many terms: at most 512, and 80000 for evaluate and print";
     case 3: return "no operator has this number: op is over 16";
     case 4: return "not a sort: (0, 0), (0, n) or (m, n), widths 1 to 32";
     case 5: return "an operand not below the term, or an unused field not 0";
@@ -177,6 +196,7 @@ static inline const char *hiranthok_refusal_text(uint32_t number)
     case 21: return "the room is too short: so many terms are needed";
     case 22: return "the work room is too short: so many numbers are needed";
     case 23: return "the allowance is too small: so many steps are needed";
+    case 24: return "the text room is too short: so many bytes are needed";
     default: return "no refusal has this number";
     }
 }

@@ -2,7 +2,7 @@
 
 /// The version of the interface: hiranthok.h says what its numbers mean.
 #[allow(dead_code)]
-pub const VERSION: &str = "0.8.0";
+pub const VERSION: &str = "0.11.0";
 
 /// The limits, and the rooms' sizes in numbers: the macros of hiranthok.h.
 #[allow(dead_code)]
@@ -11,7 +11,7 @@ pub mod sizes {
     pub const TERM_WORDS: usize = 6;
     pub const CELL_WORDS: usize = 3;
 
-    /// The terms that a table may have: for admit, finish and judge; for evaluate.
+    /// The terms that a table may have: for admit, finish and judge; for evaluate and print.
     pub const MAX_TERMS: usize = 512;
     pub const MAX_EVALUATED_TERMS: usize = 80_000;
 
@@ -35,6 +35,13 @@ pub mod sizes {
     }
 
     pub const MAX_FINISH_ROOM: usize = finish_room(MAX_TERMS);
+
+    /// A text room that is long enough, in bytes: of a table of so many terms, and of any table.
+    pub const fn print_room(terms: usize) -> usize {
+        88 * terms + 14_639
+    }
+
+    pub const MAX_PRINT_ROOM: usize = print_room(MAX_EVALUATED_TERMS);
 }
 
 /// The signature of evaluate and of judge: table, values, cells and work each as a pointer and a length, the allowance before work.
@@ -129,6 +136,13 @@ unsafe extern "C" {
         allowance: u64,
         work: *mut u32,
         work_len: usize,
+        answer: *mut [u64; 4],
+    ) -> u32;
+    pub fn hiranthok_print(
+        table: *const u32,
+        table_len: usize,
+        text: *mut u8,
+        text_len: usize,
         answer: *mut [u64; 4],
     ) -> u32;
 }

@@ -1,12 +1,12 @@
 //! Both sides on one input: the number, the answer and the whole room must be equal.
 
 use crate::inputs::{Input, Random};
-use crate::sides::{Library, ROUTINES, Routine, Rust, Side};
+use crate::sides::{Library, ROUTINES, Room, Routine, Rust, Side};
 
-type Outcome = (u32, [u64; 4], Vec<u32>);
+type Outcome = (u32, [u64; 4], Room);
 
 fn outcome<S: Side>(routine: Routine, input: &Input, allowance: u64, room: usize) -> Outcome {
-    let (mut room, mut answer) = (vec![0xa5a5_a5a5; room], [u64::MAX; 4]);
+    let (mut room, mut answer) = (routine.room(room), [u64::MAX; 4]);
     let number = S::call(routine, input, allowance, &mut room, &mut answer);
     (number, answer, room)
 }
@@ -20,20 +20,25 @@ fn agreed(routine: Routine, input: &Input, allowance: u64, room: usize) -> Outco
         eprintln!("{}: the sides differ", routine.name());
         eprintln!("table {table:?}\nvalues {values:?}\ncells {cells:?}\nallowance {allowance}, room {room}");
         eprintln!("library {:?} {:?}\nRust    {:?} {:?}", one.0, one.1, other.0, other.1);
-        let place = one.2.iter().zip(&other.2).position(|(a, b)| a != b);
-        eprintln!("the first number of the room that differs: {place:?}");
+        let place = one.2.numbers.iter().zip(&other.2.numbers).position(|(a, b)| a != b);
+        let byte = one.2.text.iter().zip(&other.2.text).position(|(a, b)| a != b);
+        eprintln!("the first number of the room that differs: {place:?}; the first byte: {byte:?}");
         std::process::exit(1);
     }
     one
 }
 
-/// Compares on an input: with more room than is needed, with just enough, with one number less, and
-/// with no allowance. The input must not be refused with room and allowance enough. The room it needs.
+/// Compares on an input: with more room than is needed, with just enough, with one number or byte less,
+/// and with no allowance. The input must not be refused with room and allowance enough. The room it needs.
 pub fn compare(routine: Routine, input: &Input) -> usize {
-    let enough = routine.room(input.terms());
+    let enough = routine.enough(input.terms());
     let (number, answer, _) = agreed(routine, input, u64::MAX, enough + 5);
     assert_eq!(number, 0, "{}: refused at {}", routine.name(), answer[0]);
-    let needed = if routine == Routine::Finish { 6 * answer[0] as usize } else { enough };
+    let needed = match routine {
+        Routine::Finish => 6 * answer[0] as usize,
+        Routine::Print => answer[0] as usize,
+        _ => enough,
+    };
     agreed(routine, input, u64::MAX, needed);
     agreed(routine, input, u64::MAX, needed.saturating_sub(1));
     agreed(routine, input, 0, needed);

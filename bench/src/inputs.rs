@@ -175,6 +175,19 @@ pub fn reads_among(cells: u32) -> Input {
     Input { table, values: vec![5], cells }
 }
 
+/// So many reads of an array variable under 16 stores: finished, it is far longer.
+pub fn chained(reads: u32) -> Input {
+    let mut table = vec![1, 8, 8, 0, 1, 0, 1, 0, 8, 1, 0, 0, 1, 0, 8, 2, 1, 0];
+    for k in 0..16 {
+        table.extend([16, 8, 8, if k == 0 { 0 } else { 2 + k }, 1 + k % 2, 2]);
+    }
+    for k in 0..reads {
+        table.extend([15, 0, 8, 18, 1 + k % 2, 0]);
+    }
+    table.extend([14, 0, 0, 1, 18 + reads, 0]);
+    Input { table, values: vec![5, 7, 9], cells: vec![] }
+}
+
 /// So many variables, each in a slot of its own, and as many sums of them.
 pub fn variables(slots: u32) -> Input {
     let mut table = vec![];

@@ -19,6 +19,10 @@ pub fn finish(table: &[u32], room: &mut [u32], answer: &mut [u64; 4]) -> u32 {
     unsafe { hiranthok_finish(table.as_ptr(), table.len(), room.as_mut_ptr(), room.len(), answer) }
 }
 
+pub fn print(table: &[u32], text: &mut [u8], answer: &mut [u64; 4]) -> u32 {
+    unsafe { hiranthok_print(table.as_ptr(), table.len(), text.as_mut_ptr(), text.len(), answer) }
+}
+
 /// Evaluate or judge.
 fn in_setting(call: InSetting, rows: [&[u32]; 3], allowance: u64, work: &mut [u32], answer: &mut [u64; 4]) -> u32 {
     let [table, values, cells] = rows;

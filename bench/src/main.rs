@@ -1,7 +1,7 @@
 //! Times the library beside an implementation in Rust, in one run, and prints Markdown.
 //!
 //! `calls SIDE ROUTINE KIND SIZE N` instead makes N calls and prints nothing: a driver for a profiler.
-//! The size is a count of terms, of cells or of variables.
+//! The size is a count of terms, of cells, of variables or of reads.
 
 mod compare;
 mod fast;
@@ -11,16 +11,16 @@ mod measure;
 mod report;
 mod sides;
 
-use inputs::{Input, Random, mixed, reads_among, variables};
+use inputs::{Input, Random, chained, mixed, reads_among, variables};
 use sides::{Library, ROUTINES, Routine, Rust, Side};
 use std::hint::black_box;
 
 /// The finished table of an input, with the input's setting.
 pub fn finished(input: &Input) -> Input {
-    let (mut room, mut answer) = (vec![0; Routine::Finish.room(input.terms())], [0; 4]);
+    let (mut room, mut answer) = (Routine::Finish.room(Routine::Finish.enough(input.terms())), [0; 4]);
     assert_eq!(Rust::call(Routine::Finish, input, 0, &mut room, &mut answer), 0);
-    room.truncate(6 * answer[0] as usize);
-    Input { table: room, ..input.clone() }
+    room.numbers.truncate(6 * answer[0] as usize);
+    Input { table: room.numbers, ..input.clone() }
 }
 
 fn calls(words: &[String]) -> Option<()> {
@@ -33,9 +33,10 @@ fn calls(words: &[String]) -> Option<()> {
         "finished" => finished(&mixed(size as usize, true)),
         "cells" => reads_among(size),
         "variables" => variables(size),
+        "chained" => finished(&chained(size)),
         _ => return None,
     };
-    let (mut room, mut answer) = (vec![0; routine.room(input.terms())], [0; 4]);
+    let (mut room, mut answer) = (routine.room(routine.enough(input.terms())), [0; 4]);
     let call = if side == "library" { Library::call } else { Rust::call };
     for _ in 0..count.parse::<usize>().ok()? {
         black_box(call(routine, black_box(&input), u64::MAX, &mut room, &mut answer));
@@ -50,7 +51,7 @@ fn main() {
         Some("calls") if calls(&words).is_some() => {}
         Some(_) => {
             eprintln!(
-                "usage: hiranthok-bench [calls library|rust ROUTINE plain|arrays|finished|cells|variables SIZE N]"
+                "usage: hiranthok-bench [calls library|rust ROUTINE plain|arrays|finished|cells|variables|chained SIZE N]"
             );
             std::process::exit(2);
         }

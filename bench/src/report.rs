@@ -2,7 +2,7 @@
 
 use crate::compare::{compare, compare_altered};
 use crate::finished;
-use crate::inputs::{Input, Random, mixed, reads_among, variables};
+use crate::inputs::{Input, Random, chained, mixed, reads_among, variables};
 use crate::measure::improve;
 use crate::sides::{Library, ROUTINES, Routine, Rust, Side};
 use std::hint::black_box;
@@ -31,7 +31,7 @@ impl Line {
 
     fn measure(&mut self) {
         let Line { routine, input, best, .. } = self;
-        let mut rooms = [(); 2].map(|_| (vec![0; routine.room(input.terms())], [0; 4]));
+        let mut rooms = [(); 2].map(|_| (routine.room(routine.enough(input.terms())), [0; 4]));
         let [(room, answer), (other_room, other_answer)] = &mut rooms;
         improve(
             best,
@@ -57,17 +57,23 @@ fn section(heading: &'static str, unit: &'static str, routines: &[Routine], inpu
     Section { heading, unit, lines: routines.iter().flat_map(|&routine| line(routine)).collect() }
 }
 
-/// Tables without and with arrays: each routine, and evaluating the finished table.
-fn ratio_sections() -> [Section; 2] {
-    [("No arrays", false), ("With arrays", true)].map(|(heading, arrays)| {
+/// Tables without and with arrays: each routine, and evaluating and printing the finished table; then a long one.
+fn ratio_sections() -> [Section; 3] {
+    let of_finished = |input: &Input| {
+        let line = |routine| Line::new(routine, finished(input), input.terms());
+        [Routine::Evaluate, Routine::Print].map(line)
+    };
+    let section = |heading, arrays| {
         let mut lines = vec![];
         for terms in [8, 64, 512] {
             let input = mixed(terms, arrays);
             lines.extend(ROUTINES.map(|routine| Line::new(routine, input.clone(), terms)));
-            lines.push(Line::new(Routine::Evaluate, finished(&input), terms));
+            lines.extend(of_finished(&input));
         }
         Section { heading, unit: "term", lines }
-    })
+    };
+    let long = Section { heading: "A long table", unit: "term", lines: of_finished(&chained(479)).into() };
+    [section("No arrays", false), section("With arrays", true), long]
 }
 
 fn growth_sections() -> [Section; 4] {

@@ -9,29 +9,46 @@ pub enum Routine {
     Finish,
     Evaluate,
     Judge,
+    Print,
 }
 
-pub const ROUTINES: [Routine; 4] = [Routine::Admit, Routine::Finish, Routine::Evaluate, Routine::Judge];
+pub const ROUTINES: [Routine; 5] = [Routine::Admit, Routine::Finish, Routine::Evaluate, Routine::Judge, Routine::Print];
 
 impl Routine {
     pub fn name(self) -> &'static str {
-        ["admit", "finish", "evaluate", "judge"][self as usize]
+        ["admit", "finish", "evaluate", "judge", "print"][self as usize]
     }
 
-    /// Numbers of room that any input of so many terms has enough of.
-    pub fn room(self, terms: usize) -> usize {
+    /// Numbers of room that any input of so many terms has enough of; for print bytes.
+    pub fn enough(self, terms: usize) -> usize {
         match self {
             Routine::Admit => 0,
             Routine::Finish => library::sizes::finish_room(terms),
             Routine::Evaluate => library::sizes::evaluate_work(terms),
             Routine::Judge => library::sizes::judge_work(terms),
+            Routine::Print => library::sizes::print_room(terms),
+        }
+    }
+
+    /// A room of so many numbers, or bytes.
+    pub fn room(self, length: usize) -> Room {
+        match self {
+            Routine::Print => Room { numbers: vec![], text: vec![0xa5; length] },
+            _ => Room { numbers: vec![0xa5a5_a5a5; length], text: vec![] },
         }
     }
 }
 
+/// What is lent for writing: numbers, or text.
+#[derive(PartialEq)]
+pub struct Room {
+    pub numbers: Vec<u32>,
+    pub text: Vec<u8>,
+}
+
 /// A side: the library, or the implementation in Rust.
 pub trait Side {
-    fn call(routine: Routine, input: &Input, allowance: u64, room: &mut [u32], answer: &mut [u64; 4]) -> u32;
+    fn call(routine: Routine, input: &Input, allowance: u64, room: &mut Room, answer: &mut [u64; 4]) -> u32;
 }
 
 macro_rules! side {
@@ -40,13 +57,15 @@ macro_rules! side {
 
         impl Side for $name {
             #[inline(always)]
-            fn call(routine: Routine, input: &Input, allowance: u64, room: &mut [u32], answer: &mut [u64; 4]) -> u32 {
+            fn call(routine: Routine, input: &Input, allowance: u64, room: &mut Room, answer: &mut [u64; 4]) -> u32 {
                 let Input { table, values, cells } = input;
+                let Room { numbers, text } = room;
                 match routine {
                     Routine::Admit => $module::admit(table, answer),
-                    Routine::Finish => $module::finish(table, room, answer),
-                    Routine::Evaluate => $module::evaluate(table, values, cells, allowance, room, answer),
-                    Routine::Judge => $module::judge(table, values, cells, allowance, room, answer),
+                    Routine::Finish => $module::finish(table, numbers, answer),
+                    Routine::Evaluate => $module::evaluate(table, values, cells, allowance, numbers, answer),
+                    Routine::Judge => $module::judge(table, values, cells, allowance, numbers, answer),
+                    Routine::Print => $module::print(table, text, answer),
                 }
             }
         }

@@ -1,4 +1,5 @@
-"""What must occur in a comparison: every reason of a refusal, fault of a file, sentence of explain, form of answer."""
+"""What must occur in a comparison: every reason of a refusal, fault of a file, sentence of explain, line of a text, form of
+answer."""
 import re
 
 SORT = r"(?:Bool|BitVec \d+|Array \d+ \d+)"
@@ -88,26 +89,36 @@ TREE = [r".*t\d+: see above", r".*t\d+: see below", r".*t\d+ store", r".*: array
         r".* constant = \w+, free", r".* = \w+, not free, marked"]
 NOTES = [r".*:\d+: note: this line of the table has \d+ numbers, no multiple of six",
          r".*:\d+: note: this line of the table has 1 number, no multiple of six"]
+VECTOR = r"\(_ BitVec \d+\)"
+NAME = r"[tv]\d+"
+TEXT = [r"\(declare-const v\d+ %s\)" % sort for sort in ("Bool", VECTOR, r"\(Array %s %s\)" % (VECTOR, VECTOR))] + [
+    r"\(define-fun t\d+ \(\) Bool true\)", r"\(define-fun t\d+ \(\) Bool false\)", r"\(define-fun t\d+ \(\) %s #b[01]+\)" % VECTOR,
+    r"\(assert t\d+\)", r"\(assert v\d+\)"] + [
+    r"\(define-fun t\d+ \(\) .* \(%s(?: %s){%d}\)\)" % (word, NAME, operands) for words, operands in (
+        ("not bvnot", 1), ("and or => = bvand bvor bvadd bvmul bvshl bvult select", 2), ("ite store", 3)) for word in words.split()]
 
 WANTED = [("judge", ".*:\\d+: refused %d at (?:term|cell|place) \\d+: %s" % (number, reason))
           for number, reasons in REASONS.items() for reason in reasons]
 WANTED += [("fault", ".*\\.case:" + fault) for fault in FAULTS]
 WANTED += [("explain", line) for line in SETTLED + WHY + REPAIR + VERDICTS]
 WANTED += [("judge", line) for line in LINES + NOTES] + [("tree", line) for line in TREE]
+WANTED += [("print", line) for line in TEXT]
 COMPILED = [(where, line, re.compile("^" + line + "$", re.M)) for where, line in WANTED]
 STATUSES = ["status %s %d" % (c, s) for c, ss in (("judge", (0, 1, 2, 3)), ("finish", (0, 2, 3)), ("graph", (0, 2, 3)),
-                                                  ("evaluate", (0, 2, 3)), ("tree", (2, 3))) for s in ss]
+                                                  ("evaluate", (0, 2, 3)), ("tree", (2, 3)), ("print", (0, 2, 3)),
+                                                  ("print-finished", (0, 2, 3))) for s in ss]
 
 
 def tally(counts, arguments, out, err, status):
-    """Counts what occurred. No line is over 80 columns, but a refusal's or one with a file's name."""
+    """Counts what occurred. No line is over 80 columns, but a refusal's, one with a file's name and those of a text."""
     counts["status %s %d" % (arguments[0], status)] += 1
-    if arguments in (("judge",), ("explain",), ("tree",)):
+    text = arguments[0] in ("print", "print-finished")
+    if text or arguments in (("judge",), ("explain",), ("tree",)):
         out, err = out.decode(), err.decode("latin-1")
         for line in out.split("\n"):
-            assert ".case" in line or (len(line) <= 80 and not line.endswith(" ")), line
+            assert text or ".case" in line or (len(line) <= 80 and not line.endswith(" ")), line
         for where, line, form in COMPILED:
-            if where == arguments[0]:
+            if where == ("print" if text else arguments[0]):
                 counts[where + ": " + line] += len(form.findall(out))
             elif where == "fault" and arguments == ("judge",):
                 counts[where + ": " + line] += len(form.findall(err))

@@ -1,5 +1,5 @@
 #!/usr/bin/env python3
-"""What ./hiranthok prints, written a second time from paper 01 and docs/PROGRAM.md alone.
+"""What ./hiranthok prints, written a second time from the papers and docs/PROGRAM.md alone.
 
 It shares no code or table with the program; its modules are in the folder reference. It takes the program's
 arguments, so that HIRANTHOK="python3 tests/cases/reference.py" tests/cases/run holds it to the expected output.

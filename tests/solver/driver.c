@@ -4,7 +4,9 @@
  *   e table values cells    evaluate
  *   j table values cells    judge
  *   f table                 finish
- * The answer is one line: the number that the function answers, its four answers, and the room's front. */
+ *   p table                 print
+ * The answer is one line: the number that the function answers, its four answers, and the room's front; of print the text comes
+ * after the line. */
 #include <inttypes.h>
 #include <stdint.h>
 #include <stdio.h>
@@ -20,6 +22,7 @@ struct row {
 };
 
 static struct row table, values, cells, room;
+static uint8_t text[HIRANTHOK_MAX_PRINT_ROOM];
 
 static void take(struct row *row) {
     if (scanf("%zu", &row->len) != 1 || row->len > LONGEST) exit(2);
@@ -44,6 +47,13 @@ int main(void) {
         if (request == 'f') {
             number = hiranthok_finish(table.numbers, table.len, room.numbers, LONGEST, answer);
             give(number, answer, HIRANTHOK_TERM_WORDS * answer[0]);
+            continue;
+        }
+        if (request == 'p') {
+            number = hiranthok_print(table.numbers, table.len, text, sizeof text, answer);
+            give(number, answer, 0);
+            if (number == 0) fwrite(text, 1, answer[0], stdout);
+            fflush(stdout);
             continue;
         }
         take(&values);

@@ -8,11 +8,13 @@ pub enum Routine {
     Finish,
     Evaluate,
     Judge,
+    Print,
 }
 
-pub const ROUTINES: [Routine; 4] = [Routine::Admit, Routine::Finish, Routine::Evaluate, Routine::Judge];
+pub const ROUTINES: [Routine; 5] = [Routine::Admit, Routine::Finish, Routine::Evaluate, Routine::Judge, Routine::Print];
 
-/// The arguments of a call. `room` is the length of the lent room; a routine that takes no setting ignores the rest.
+/// The arguments of a call. `room` is the length of the lent room, for print in bytes; a routine that takes no setting ignores the
+/// rest.
 #[derive(Clone, PartialEq, Debug)]
 pub struct Case {
     pub routine: Routine,
@@ -23,12 +25,13 @@ pub struct Case {
     pub room: usize,
 }
 
-/// What a call answered: 0 or a refusal's number, the four numbers, and the whole room after the call.
+/// What a call answered: 0 or a refusal's number, the four numbers, and the whole room after the call: numbers, or for print bytes.
 #[derive(Clone, PartialEq, Debug)]
 pub struct Answer {
     pub number: u32,
     pub numbers: [u64; 4],
     pub room: Vec<u32>,
+    pub text: Vec<u8>,
     /// Something outside the room was changed: the numbers around it, or a row that was lent for reading.
     pub strayed: bool,
 }
@@ -45,14 +48,42 @@ pub trait Checker {
 }
 
 /// What a room holds before the call: no number that a routine writes there by chance.
-pub fn pattern(length: usize) -> Vec<u32> {
+fn pattern(length: usize) -> Vec<u32> {
     (0..length as u32).map(|i| 0xA5C0_0000 ^ i).collect()
+}
+
+/// What a text room holds before the call: no byte of ASCII.
+fn text_pattern(length: usize) -> Vec<u8> {
+    (0..length).map(|i| 0x80 | i as u8).collect()
+}
+
+impl Routine {
+    /// The terms that a table may have.
+    pub fn limit(self) -> usize {
+        match self {
+            Routine::Admit | Routine::Finish | Routine::Judge => 512,
+            Routine::Evaluate | Routine::Print => 80_000,
+        }
+    }
 }
 
 impl Case {
     pub fn terms(&self) -> usize {
         self.table.len() / 6
     }
+
+    /// What the lent room holds before the call: the numbers and the bytes, one of them none.
+    pub fn rooms(&self) -> (Vec<u32>, Vec<u8>) {
+        match self.routine {
+            Routine::Print => (vec![], text_pattern(self.room)),
+            _ => (pattern(self.room), vec![]),
+        }
+    }
+}
+
+/// How much of a room's front was written.
+fn written<T: PartialEq>(room: &[T], before: &[T]) -> usize {
+    (0..room.len()).rev().find(|&i| room[i] != before[i]).map_or(0, |i| i + 1)
 }
 
 impl fmt::Display for Case {
@@ -75,13 +106,17 @@ impl fmt::Display for Case {
 
 impl fmt::Display for Answer {
     fn fmt(&self, f: &mut fmt::Formatter) -> fmt::Result {
-        let untouched = pattern(self.room.len());
-        let written = (0..self.room.len()).rev().find(|&i| self.room[i] != untouched[i]).map_or(0, |i| i + 1);
+        let numbers = written(&self.room, &pattern(self.room.len()));
+        let bytes = written(&self.text, &text_pattern(self.text.len()));
         match self.number {
             0 => write!(f, "result {:?}", self.numbers)?,
             n => write!(f, "refusal {n}, place {}, rest {:?}", self.numbers[0], &self.numbers[1..])?,
         }
-        write!(f, "; room {:?}, then {} untouched", &self.room[..written], self.room.len() - written)?;
+        write!(f, "; room {:?}, then {} untouched", &self.room[..numbers], self.room.len() - numbers)?;
+        if !self.text.is_empty() {
+            let front = String::from_utf8_lossy(&self.text[..bytes]);
+            write!(f, "; text {front:?}, then {} bytes untouched", self.text.len() - bytes)?;
+        }
         if self.strayed {
             write!(f, "; OUTSIDE THE ROOM something was changed")?;
         }

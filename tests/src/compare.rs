@@ -4,7 +4,7 @@ use crate::case::{Answer, Case, Checker, Routine};
 use crate::counts::Counts;
 use crate::generate;
 use crate::random::Random;
-use crate::{finished, pairs};
+use crate::{finished, pairs, printed};
 
 /// What is checked of a call.
 #[derive(Clone, Copy, Debug)]
@@ -17,6 +17,8 @@ pub enum Check {
     Pair(u64),
     /// The finished table agrees with judging.
     Finished,
+    /// The laws of printing for the table and the partners with this seed.
+    Printed(u64),
 }
 
 /// A check that failed, and the call.
@@ -46,6 +48,7 @@ impl Check {
             }
             Check::Pair(seed) => pairs::fault(subject, case, seed),
             Check::Finished => finished::fault(subject, case),
+            Check::Printed(seed) => printed::fault(subject, case, seed),
         }
     }
 }
@@ -67,6 +70,9 @@ impl<'a> Comparison<'a> {
                 if random.chance(25) || case.terms() > 100 {
                     self.finished(case)?;
                 }
+            }
+            if case.routine == Routine::Print && answer.number == 0 && random.chance(15) {
+                self.printed(case, random.next())?;
             }
         }
         Ok(())
@@ -118,14 +124,30 @@ impl<'a> Comparison<'a> {
 
     fn finished(&mut self, case: &Case) -> Result<(), Difference> {
         self.counts.finished += 1;
-        self.counts.calls += 5;
+        self.counts.calls += 6;
         let calls = finished::calls(self.reference, case).expect("a judged table");
         self.compare(&calls.finish)?;
         self.compare(&calls.evaluate)?;
+        self.compare(&printed::call(&calls.evaluate.table))?;
         self.hold(Check::Finished, case)?;
-        self.counts.count(("finished table evaluated", 0, 0));
+        self.counts.count(("finished table evaluated and printed", 0, 0));
         if calls.evaluate.terms() > 10_000 {
             self.counts.count(("finished table over 10,000 terms", 0, 0));
+        }
+        Ok(())
+    }
+
+    fn printed(&mut self, case: &Case, seed: u64) -> Result<(), Difference> {
+        self.counts.printed += 1;
+        self.counts.calls += 4;
+        self.hold(Check::Printed(seed), case)?;
+        let partners = printed::partners(case, seed);
+        if partners.marked != case.table {
+            self.counts.count(("printed with other marks", 0, 0));
+        }
+        if let Some((plain, other)) = partners.pair.filter(|(plain, other)| plain != other) {
+            let in_order = printed::differ_in_order(&plain, &other);
+            self.counts.count(("printed beside another table, text shared", in_order.into(), 0));
         }
         Ok(())
     }

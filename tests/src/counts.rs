@@ -10,24 +10,26 @@ pub struct Counts {
     pub calls: u64,
     pub pairs: u64,
     pub finished: u64,
+    pub printed: u64,
 }
 
 /// What is counted: a name with up to two numbers, e.g. an operator and a width.
 pub type Key = (&'static str, u32, u32);
 
-const ROUTINE_NAMES: [&str; 4] = ["admit refuses", "finish refuses", "evaluate refuses", "judge refuses"];
+const ROUTINE_NAMES: [&str; 5] = ["admit refuses", "finish refuses", "evaluate refuses", "judge refuses", "print refuses"];
 const RECORD_NAMES: [&str; 2] = ["evaluate, records, refuses", "judge, records, refuses"];
 const LIKE: &str = "refusal 6, operands of one sort: operator, kind of sort";
-const REFUSALS: [&[u32]; 4] = [
+const REFUSALS: [&[u32]; 5] = [
     &[1, 2, 3, 4, 5, 6, 7, 8, 9, 10],
     &[1, 2, 3, 4, 5, 6, 7, 8, 9, 10, 21],
     &[1, 2, 3, 4, 5, 6, 7, 8, 9, 10, 11, 12, 13, 14, 15, 22, 23],
     &[1, 2, 3, 4, 5, 6, 7, 8, 9, 10, 11, 12, 13, 14, 15, 22, 23],
+    &[1, 2, 3, 4, 5, 6, 7, 8, 9, 10, 24],
 ];
 
 impl Counts {
     pub fn new() -> Counts {
-        Counts { seen: BTreeMap::new(), calls: 0, pairs: 0, finished: 0 }
+        Counts { seen: BTreeMap::new(), calls: 0, pairs: 0, finished: 0, printed: 0 }
     }
 
     pub fn count(&mut self, key: Key) {
@@ -55,7 +57,8 @@ impl Counts {
             }
             13..=15 => self.observe_setting(case, answer),
             21 if case.room as u64 == 6 * answer.numbers[0] - 1 => self.count(("room one short", routine as u32, 0)),
-            22 if case.room as u64 == answer.numbers[0] - 1 => self.count(("room one short", routine as u32, 0)),
+            22 | 24 if case.room as u64 == answer.numbers[0] - 1 => self.count(("room one short", routine as u32, 0)),
+            21 | 22 | 24 if case.room == 0 => self.count(("no room at all", routine as u32, 0)),
             23 if case.allowance == answer.numbers[0] - 1 => self.count(("allowance one below", routine as u32, 0)),
             _ => {}
         }
@@ -84,8 +87,7 @@ impl Counts {
     }
 
     fn observe_length(&mut self, case: &Case, answer: &Answer) {
-        let limit = if case.routine == Routine::Evaluate { 80_000 } else { 512 };
-        if answer.number == 2 && case.terms() == limit + 1 {
+        if answer.number == 2 && case.terms() == case.routine.limit() + 1 {
             self.count(("one term over the limit", case.routine as u32, 0));
         }
         if case.table.is_empty() {
@@ -112,8 +114,7 @@ impl Counts {
 
     fn observe_result(&mut self, case: &Case, answer: &Answer) {
         let routine = case.routine as u32;
-        let limit = if case.routine == Routine::Evaluate { 80_000 } else { 512 };
-        if case.terms() == limit {
+        if case.terms() == case.routine.limit() {
             self.count(("terms at the limit", routine, 0));
         }
         if case.terms() > 10_000 {
@@ -124,6 +125,7 @@ impl Counts {
             Routine::Finish => (6 * answer.numbers[0] as usize, None),
             Routine::Evaluate => (case.terms(), Some((answer.numbers[0], answer.numbers[1]))),
             Routine::Judge => (2 * case.terms(), Some((answer.numbers[2], answer.numbers[3]))),
+            Routine::Print => (answer.numbers[0] as usize, None),
         };
         self.count((if case.room == needed { "room exactly enough" } else { "room longer" }, routine, 0));
         if let Some((steps, left)) = spent {
@@ -136,6 +138,33 @@ impl Counts {
             self.count(("rule, condition", answer.numbers[0] as u32, answer.numbers[1] as u32));
             self.observe_terms(case, &answer.room);
             self.observe_cells(case);
+        }
+        if case.routine == Routine::Print {
+            self.observe_printed(case);
+        }
+    }
+
+    /// The words, numerals, bits and sorts of a text, and where slots and terms stand.
+    fn observe_printed(&mut self, case: &Case) {
+        let terms: Vec<Term> = case.table.chunks(6).map(Term::of).collect();
+        let mut slots = vec![];
+        for (number, t) in terms.iter().enumerate() {
+            match t.op {
+                VARIABLE if slots.contains(&t.p) => self.count(("printed: a slot used again", 0, 0)),
+                VARIABLE => {
+                    self.count(("printed: digits of a slot, kind of sort", digits(t.p), kind(&[0, t.m, t.n])));
+                    slots.push(t.p);
+                }
+                CONSTANT if t.n == 0 => self.count(("printed: true or false", t.p, 0)),
+                CONSTANT => self.count(("printed: constant, width", t.n, 0)),
+                _ => self.count(("printed: operator, digits of its number", t.op, digits(number as u32))),
+            }
+        }
+        if !slots.is_sorted() {
+            self.count(("printed: slots not in the order of use", 0, 0));
+        }
+        if terms.last().is_some_and(|t| t.op == VARIABLE) {
+            self.count(("printed: the rule is a variable", 0, 0));
         }
     }
 
@@ -251,6 +280,10 @@ fn kind(term: &[u32]) -> u32 {
     }
 }
 
+fn digits(number: u32) -> u32 {
+    number.checked_ilog10().unwrap_or(0) + 1
+}
+
 fn wanted() -> Vec<Key> {
     let mut keys = vec![];
     for (routine, name) in ROUTINE_NAMES.iter().enumerate() {
@@ -264,7 +297,22 @@ fn wanted() -> Vec<Key> {
     keys.extend([0, 1].map(|refused| ("records, of some cells", refused, 0)));
     wanted_of_tables(&mut keys);
     wanted_of_results(&mut keys);
+    wanted_of_texts(&mut keys);
     keys
+}
+
+fn wanted_of_texts(keys: &mut Vec<Key>) {
+    for op in NOT..=STORE {
+        keys.extend((1..=5).map(|digits| ("printed: operator, digits of its number", op, digits)));
+    }
+    for sort in 0..=2 {
+        keys.extend((1..=3).map(|digits| ("printed: digits of a slot, kind of sort", digits, sort)));
+    }
+    keys.extend((1..=32).map(|width| ("printed: constant, width", width, 0)));
+    keys.extend([0, 1].map(|value| ("printed: true or false", value, 0)));
+    keys.extend([0, 1].map(|shared| ("printed beside another table, text shared", shared, 0)));
+    let shapes = ["printed: a slot used again", "printed: slots not in the order of use", "printed: the rule is a variable"];
+    keys.extend(shapes.iter().chain(&["printed with other marks"]).map(|&name| (name, 0, 0)));
 }
 
 fn wanted_of_tables(keys: &mut Vec<Key>) {
@@ -309,7 +357,8 @@ fn wanted_of_results(keys: &mut Vec<Key>) {
         let number = routine as u32;
         keys.extend(["one term over the limit", "terms at the limit", "no numbers at all"].map(|name| (name, number, 0)));
         if routine != Routine::Admit {
-            keys.extend(["room exactly enough", "room longer", "room one short"].map(|name| (name, number, 0)));
+            let rooms = ["room exactly enough", "room longer", "room one short", "no room at all"];
+            keys.extend(rooms.map(|name| (name, number, 0)));
         }
         if matches!(routine, Routine::Evaluate | Routine::Judge) {
             keys.extend([0, 1].map(|some| ("allowance exact", number, some)));
@@ -317,14 +366,14 @@ fn wanted_of_results(keys: &mut Vec<Key>) {
             keys.push(("allowance enough by its high half", number, 0));
         }
     }
-    keys.push(("over 10,000 terms", Routine::Evaluate as u32, 0));
+    keys.extend([Routine::Evaluate, Routine::Print].map(|routine| ("over 10,000 terms", routine as u32, 0)));
     keys.extend([(0, 0), (0, 1), (1, 0), (1, 1)].map(|(rule, condition)| ("rule, condition", rule, condition)));
     keys.extend([0, 1, 3, 4].map(|slot| ("cell of no array, kind of slot", slot, 0)));
     keys.extend([0, 1].map(|index| ("cell too wide, by index", index, 0)));
     let cells = ["cell hidden by an earlier one", "cell listed twice", "one index, cells of two slots"];
     let reads = ["read from a cell", "read from the slot's value", "read settled by equal values"];
     let pairs = ["pair: condition true, marked values differ", "pair: condition false, rules differ", "pair: cells relisted"];
-    let finished = ["finished table evaluated", "finished table over 10,000 terms"];
+    let finished = ["finished table evaluated and printed", "finished table over 10,000 terms"];
     for name in cells.iter().chain(&reads).chain(&pairs).chain(&finished) {
         keys.push((name, 0, 0));
     }

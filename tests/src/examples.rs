@@ -1,14 +1,15 @@
-//! Paper 01's bench examples, and a case for each point that the paper leaves open, with the expected answers.
+//! Paper 01's bench examples, request 01's texts, and a case for each point that the papers leave open, with the expected answers.
 
 use crate::case::{Case, Checker, Routine};
 
-/// A call, the answer it should get (0 or a refusal, and the numbers) and the numbers that its room should begin with.
+/// A call, the answer it should get (0 or a refusal, and the numbers) and what its room should begin with, numbers or text.
 pub struct Example {
     pub name: &'static str,
     pub case: Case,
     pub number: u32,
     pub numbers: [u64; 4],
     pub front: Vec<u32>,
+    pub text: String,
 }
 
 type Term = [u32; 6];
@@ -81,11 +82,15 @@ fn call(routine: Routine, terms: &[Term], values: &[u32], cells: &[u32], allowan
 /// A judgement with an allowance of 100: rule, condition and steps.
 fn judged(name: &'static str, terms: &[Term], values: &[u32], rule: bool, condition: bool, steps: u64) -> Example {
     let case = call(Routine::Judge, terms, values, &[], 100);
-    Example { name, case, number: 0, numbers: [rule.into(), condition.into(), steps, 100 - steps], front: vec![] }
+    example(name, case, 0, [rule.into(), condition.into(), steps, 100 - steps])
+}
+
+fn example(name: &'static str, case: Case, number: u32, numbers: [u64; 4]) -> Example {
+    Example { name, case, number, numbers, front: vec![], text: String::new() }
 }
 
 fn refused(name: &'static str, case: Case, number: u32, place: u64) -> Example {
-    Example { name, case, number, numbers: [place, 0, 0, 0], front: vec![] }
+    example(name, case, number, [place, 0, 0, 0])
 }
 
 fn not_admitted(name: &'static str, terms: &[Term], number: u32, place: u64) -> Example {
@@ -94,7 +99,14 @@ fn not_admitted(name: &'static str, terms: &[Term], number: u32, place: u64) -> 
 
 fn finished(name: &'static str, terms: &[Term], numbers: [u64; 3], front: Vec<u32>) -> Example {
     let [count, condition, last] = numbers;
-    Example { name, case: call(Routine::Finish, terms, &[], &[], 0), number: 0, numbers: [count, condition, last, 0], front }
+    Example { front, ..example(name, call(Routine::Finish, terms, &[], &[], 0), 0, [count, condition, last, 0]) }
+}
+
+/// A table printed in a room that is just long enough, with these lines between the first and the last.
+fn printed(name: &'static str, terms: &[Term], lines: &[&str]) -> Example {
+    let text = [&["(set-logic QF_ABV)"], lines, &["(check-sat)"]].concat().join("\n") + "\n";
+    let case = Case { room: text.len(), ..call(Routine::Print, terms, &[], &[], 0) };
+    Example { text: text.clone(), ..example(name, case, 0, [text.len() as u64, 0, 0, 0]) }
 }
 
 pub fn all() -> Vec<Example> {
@@ -102,6 +114,9 @@ pub fn all() -> Vec<Example> {
     examples.extend(more_bench());
     examples.extend(open_points());
     examples.extend(open_points_of_settings());
+    examples.extend(texts());
+    examples.extend(sharing_texts());
+    examples.extend(open_points_of_texts());
     examples
 }
 
@@ -109,11 +124,8 @@ pub fn all() -> Vec<Example> {
 fn bench() -> Vec<Example> {
     let h = h(1, 0);
     let value = |name, op, x, y, is| Example {
-        name,
-        case: call(Routine::Evaluate, &calculation(op, x, y, is), &[], &[], 0),
-        number: 0,
-        numbers: [0; 4],
         front: vec![x, y, is, is, 1],
+        ..example(name, call(Routine::Evaluate, &calculation(op, x, y, is), &[], &[], 0), 0, [0; 4])
     };
     vec![
         judged("P1", &G, &[0, 5, 1], true, true, 0),
@@ -136,16 +148,10 @@ fn bench() -> Vec<Example> {
 fn more_bench() -> Vec<Example> {
     let h = h(1, 0);
     let with = |allowance| call(Routine::Judge, &h, &[9, 0, 0], &[], allowance);
-    let admitted = |name, terms: &[Term]| Example {
-        name,
-        case: call(Routine::Admit, terms, &[], &[], 0),
-        number: 0,
-        numbers: [0; 4],
-        front: vec![],
-    };
+    let admitted = |name, terms: &[Term]| example(name, call(Routine::Admit, terms, &[], &[], 0), 0, [0; 4]);
     vec![
         refused("H with allowance 0", with(0), 23, 1),
-        Example { name: "H with allowance 1", case: with(1), number: 0, numbers: [1, 1, 1, 0], front: vec![] },
+        example("H with allowance 1", with(1), 0, [1, 1, 1, 0]),
         finished("G finished", &G, [20, 18, 19], finished_g()),
         finished("H finished", &h, [21, 19, 20], finished_h()),
         admitted("16 stores", &stores(16, true)),
@@ -232,11 +238,115 @@ fn open_points_of_settings() -> Vec<Example> {
     ]
 }
 
+/// Rules G and H as text.
+fn texts() -> Vec<Example> {
+    let finished: Vec<Term> = finished_g().chunks(6).map(|term| term.try_into().expect("six numbers")).collect();
+    vec![
+        printed("the constant true, 72 bytes", &[TRUE], &["(define-fun t0 () Bool true)", "(assert t0)"]),
+        printed("G printed", &G, &[&TEXT_OF_G[..], &["(assert t6)"]].concat()),
+        printed("G finished and printed", &finished, &[&TEXT_OF_G[..], &TEXT_OF_G_FINISHED].concat()),
+        printed(
+            "H printed",
+            &h(1, 0),
+            &[
+                "(declare-const v0 (Array (_ BitVec 8) (_ BitVec 8)))",
+                "(declare-const v1 (_ BitVec 8))",
+                "(declare-const v2 (_ BitVec 8))",
+                "(define-fun t3 () (_ BitVec 8) #b00101010)",
+                "(define-fun t4 () (Array (_ BitVec 8) (_ BitVec 8)) (store v0 v1 t3))",
+                "(define-fun t5 () (_ BitVec 8) (select t4 v2))",
+                "(define-fun t6 () Bool (= t5 t3))",
+                "(assert t6)",
+            ],
+        ),
+    ]
+}
+
+const TRUE: Term = [0, 0, 0, 1, 0, 0];
+
+const TEXT_OF_G: [&str; 7] = [
+    "(declare-const v0 (_ BitVec 8))",
+    "(declare-const v1 (_ BitVec 8))",
+    "(declare-const v2 (_ BitVec 8))",
+    "(define-fun t3 () (_ BitVec 8) (bvmul v0 v1))",
+    "(define-fun t4 () (_ BitVec 8) (bvadd t3 v2))",
+    "(define-fun t5 () (_ BitVec 8) #b00000000)",
+    "(define-fun t6 () Bool (bvult t5 t4))",
+];
+
+const TEXT_OF_G_FINISHED: [&str; 14] = [
+    "(define-fun t7 () Bool true)",
+    "(define-fun t8 () Bool false)",
+    "(define-fun t9 () (_ BitVec 8) #b00000000)",
+    "(define-fun t10 () Bool (= v0 t9))",
+    "(define-fun t11 () Bool (and t7 t10))",
+    "(define-fun t12 () Bool (= v1 t9))",
+    "(define-fun t13 () Bool (and t8 t12))",
+    "(define-fun t14 () Bool (or t11 t13))",
+    "(define-fun t15 () Bool (and t7 t8))",
+    "(define-fun t16 () Bool (or t14 t15))",
+    "(define-fun t17 () Bool (and t16 t7))",
+    "(define-fun t18 () Bool (and t7 t17))",
+    "(define-fun t19 () Bool (and t6 t18))",
+    "(assert t19)",
+];
+
+/// Tables that share a text with another, and one that does not.
+fn sharing_texts() -> Vec<Example> {
+    let (a, b) = ([1, 0, 8, 4, 0, 0], [1, 0, 8, 7, 0, 0]);
+    let less = |x, y| [14, 0, 0, x, y, 0];
+    let lines = [
+        "(declare-const v4 (_ BitVec 8))",
+        "(declare-const v7 (_ BitVec 8))",
+        "(define-fun t2 () Bool (bvult v4 v7))",
+        "(assert t2)",
+    ];
+    let p = [1, 0, 0, 0, 0, 0];
+    let q = [1, 0, 0, 1, 0, 0];
+    let booleans = ["(declare-const v0 Bool)", "(declare-const v1 Bool)"];
+    vec![
+        printed("two variables", &[a, b, less(0, 1)], &lines),
+        printed("the same variables in the other order, operands following", &[b, a, less(1, 0)], &lines),
+        printed("the same with marks", &[[1, 0, 8, 4, 1, 0], b, less(0, 1)], &lines),
+        printed("a variable that is the rule", &[p, q], &[&booleans[..], &["(assert v1)"]].concat()),
+        printed("the other variable is the rule", &[q, p], &[&booleans[..], &["(assert v0)"]].concat()),
+    ]
+}
+
+/// Points that request 01 leaves open.
+fn open_points_of_texts() -> Vec<Example> {
+    let room = |terms: &[Term], room| Case { room, ..call(Routine::Print, terms, &[], &[], 0) };
+    let (boolean, byte) = ([1, 0, 0, 3, 0, 0], [0, 0, 8, 1, 0, 0]);
+    let (ninth, tenth) = ([1, 0, 1, 9, 0, 0], [1, 0, 32, 10, 0, 0]);
+    let both = ["(declare-const v9 (_ BitVec 1))", "(declare-const v10 (_ BitVec 32))"];
+    vec![
+        printed("a sole variable", &[boolean], &["(declare-const v3 Bool)", "(assert v3)"]),
+        printed(
+            "v9 before v10, needed by the rule or not",
+            &[tenth, ninth, TRUE],
+            &[&both[..], &["(define-fun t2 () Bool true)", "(assert t2)"]].concat(),
+        ),
+        printed(
+            "a slot used twice is declared once",
+            &[boolean, boolean, [3, 0, 0, 0, 1, 0]],
+            &["(declare-const v3 Bool)", "(define-fun t2 () Bool (and v3 v3))", "(assert t2)"],
+        ),
+        printed(
+            "a term that the rule does not need",
+            &[[0, 0, 3, 1, 0, 0], boolean],
+            &["(declare-const v3 Bool)", "(define-fun t0 () (_ BitVec 3) #b001)", "(assert v3)"],
+        ),
+        refused("a text room one byte short", room(&[TRUE], 71), 24, 72),
+        refused("no text room", room(&[TRUE], 0), 24, 72),
+        refused("10 before 24", room(&[byte], 0), 10, 0),
+    ]
+}
+
 /// The first example that a checker answers otherwise, if any.
 pub fn check(checker: &dyn Checker) -> Result<(), String> {
     for example in all() {
         for answer in [Some(checker.call(&example.case)), checker.call_with_records(&example.case)].into_iter().flatten() {
-            let front = answer.room.starts_with(&example.front);
+            let front = answer.room.starts_with(&example.front) && answer.text.starts_with(example.text.as_bytes());
             if (answer.number, answer.numbers) != (example.number, example.numbers) || !front || answer.strayed {
                 return Err(format!("{}\n{}\nanswered: {answer}", example.name, example.case));
             }

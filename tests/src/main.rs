@@ -16,6 +16,7 @@ mod finished;
 mod generate;
 mod library;
 mod pairs;
+mod printed;
 mod random;
 mod reference;
 mod shrink;
@@ -96,12 +97,13 @@ fn run(options: &Options) -> Result<(), String> {
         println!("{}", counts.lines().join("\n"));
     }
     println!(
-        "{} calls in {:.1} s, {} refusals, {} pairs, {} finished tables, no difference; seed {}",
+        "{} calls in {:.1} s, {} refusals, {} pairs, {} finished tables, {} texts by the laws, no difference; seed {}",
         counts.calls,
         start.elapsed().as_secs_f64(),
         counts.refusals(),
         counts.pairs,
         counts.finished,
+        counts.printed,
         options.seed
     );
     match counts.missing() {

@@ -1,8 +1,9 @@
-//! Tests of the test: the reference on paper 01's examples, and whether the comparison can fail.
+//! Tests of the test: the reference on the papers' examples, and whether the comparison can fail.
 
 use crate::case::{Case, Checker, Routine};
 use crate::compare::{Check, Comparison, Difference};
 use crate::examples::{self, h};
+use crate::printed::{self, differ_in_order};
 use crate::reference::flaw::{Flaw, FLAWS};
 use crate::reference::setting::Content;
 use crate::reference::{admission, values, Reference};
@@ -19,7 +20,7 @@ fn first_difference(subject: &dyn Checker, reference: &dyn Checker, rounds: u64)
 }
 
 #[test]
-fn the_reference_answers_paper_01s_examples() {
+fn the_reference_answers_the_papers_examples() {
     examples::check(&REFERENCE).unwrap();
 }
 
@@ -75,6 +76,68 @@ fn pairs_alone_find_conditions_that_are_too_weak() {
         let mut comparison = Comparison::new(&flawed, &flawed);
         let pair = |d: &Difference| matches!(d.check, Check::Pair(_));
         let found = (0..40_000).find_map(|number| comparison.round(1, number).err().filter(pair));
+        assert!(found.is_some(), "{flaw:?}");
+    }
+}
+
+/// Tables of up to three Boolean terms, without marks and each slot used once.
+fn small_tables() -> Vec<Vec<u32>> {
+    let mut tables: Vec<Vec<u32>> = vec![vec![]];
+    for place in 0..3 {
+        let mut leaves = vec![[0, 0, 0, 0, 0, 0], [0, 0, 0, 1, 0, 0]];
+        leaves.extend((0..3).map(|slot| [1, 0, 0, slot, 0, 0]));
+        leaves.extend((0..place).map(|p| [2, 0, 0, p, 0, 0]));
+        leaves.extend((0..place * place).map(|pq| [3, 0, 0, pq / place, pq % place, 0]));
+        let longest = tables.iter().filter(|t| t.len() == 6 * place as usize).cloned().collect::<Vec<_>>();
+        tables.extend(longest.iter().flat_map(|table| leaves.iter().map(|leaf| [&table[..], leaf].concat())));
+    }
+    let slots = |t: &[u32]| t.chunks(6).filter(|t| t[0] == 1).map(|t| t[3]).collect::<Vec<_>>();
+    let once = |t: &Vec<u32>| !t.is_empty() && slots(t).iter().all(|s| slots(t).iter().filter(|&x| x == s).count() == 1);
+    tables.into_iter().filter(once).collect()
+}
+
+/// The sentence of the request, word by word: some permutation of the places does it.
+fn some_order(a: &[u32], b: &[u32]) -> bool {
+    let n = a.len() / 6;
+    let orders = [[0, 1, 2], [0, 2, 1], [1, 0, 2], [1, 2, 0], [2, 0, 1], [2, 1, 0]];
+    let does = |f: &&[usize; 3]| {
+        f[..n].iter().all(|&x| x < n)
+            && (0..n).all(|i| {
+                let t = &a[6 * i..6 * i + 6];
+                let follow = |x: u32, is: bool| if is { f[x as usize] as u32 } else { x };
+                let (p, q) = (follow(t[3], t[0] > 1), follow(t[4], t[0] == 3));
+                (t[0] == 1 || f[i] == i) && b[6 * f[i]..6 * f[i] + 6] == [t[0], t[1], t[2], p, q, 0]
+            })
+            && (a[6 * n - 6] != 1 || f[n - 1] == n - 1)
+    };
+    a.len() == b.len() && orders.iter().any(|f| does(&f))
+}
+
+/// On all small tables: text is shared just where the request says, and where the comparison's own test says.
+#[test]
+fn small_tables_share_text_just_where_only_the_order_differs() {
+    let tables = small_tables();
+    let texts: Vec<Vec<u8>> = tables.iter().map(|t| REFERENCE.call(&printed::call(t)).text).collect();
+    let front = |text: &[u8]| text.iter().take_while(|b| b.is_ascii()).count();
+    let mut shared = 0;
+    for (i, a) in tables.iter().enumerate() {
+        for (j, b) in tables.iter().enumerate() {
+            let same = texts[i][..front(&texts[i])] == texts[j][..front(&texts[j])];
+            assert_eq!((same, same), (some_order(a, b), differ_in_order(a, b)), "{a:?} {b:?}");
+            shared += usize::from(same && i != j);
+        }
+    }
+    assert!(tables.len() > 300 && shared > 10, "{} tables, {shared} pairs", tables.len());
+}
+
+/// The laws alone show what the texts get wrong, without a reference.
+#[test]
+fn laws_alone_find_texts_that_are_wrong() {
+    for flaw in [Flaw::SlotsByUse, Flaw::VariableByNumber] {
+        let flawed = Reference { flaw };
+        let mut comparison = Comparison::new(&flawed, &flawed);
+        let law = |d: &Difference| matches!(d.check, Check::Printed(_));
+        let found = (0..40_000).find_map(|number| comparison.round(1, number).err().filter(law));
         assert!(found.is_some(), "{flaw:?}");
     }
 }

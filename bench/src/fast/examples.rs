@@ -1,6 +1,6 @@
 //! Paper 01's bench examples, and those of docs/DECISIONS.md, on the Rust side.
 
-use super::{admit, evaluate, finish, judge};
+use super::{admit, evaluate, finish, judge, print};
 
 const G: [u32; 42] = [
     1, 0, 8, 0, 0, 0, 1, 0, 8, 1, 1, 0, 1, 0, 8, 2, 0, 0, 12, 0, 8, 0, 1, 0, 11, 0, 8, 3, 2, 0, 0, 0, 8, 0, 0, 0, 14,
@@ -65,6 +65,32 @@ fn rule_h() {
     assert_eq!((answer, work), ([1, 1, 1, 0], [0, 0, 0, 42, 0, 42, 1, 0, 1, 1, 1, 0, 1, 1, 5]));
     assert_eq!(finish(&h(1, 0), &mut [0; 200], &mut answer), 0);
     assert_eq!(answer, [21, 19, 20, 0]);
+}
+
+/// The text of a table, in a room that is just long enough; one byte less is refused.
+fn text(table: &[u32]) -> String {
+    let mut answer = [0; 4];
+    assert_eq!(print(table, &mut [], &mut answer), 24);
+    let mut room = vec![9; answer[0] as usize];
+    let needed = room.len();
+    assert_eq!((print(table, &mut room[..needed - 1], &mut answer), answer[0]), (24, needed as u64));
+    assert!(room.iter().all(|&byte| byte == 9));
+    assert_eq!((print(table, &mut room, &mut answer), answer), (0, [needed as u64, 0, 0, 0]));
+    String::from_utf8(room).expect("ASCII")
+}
+
+#[test]
+fn texts() {
+    let one = "(set-logic QF_ABV)\n(define-fun t0 () Bool true)\n(assert t0)\n(check-sat)\n";
+    assert_eq!((text(&[0, 0, 0, 1, 0, 0]).as_str(), one.len()), (one, 72));
+    let g = text(&G);
+    assert!(g.contains("\n(declare-const v2 (_ BitVec 8))\n(define-fun t3 () (_ BitVec 8) (bvmul v0 v1))\n"));
+    assert!(g.ends_with("\n(define-fun t6 () Bool (bvult t5 t4))\n(assert t6)\n(check-sat)\n"));
+    let h = text(&h(1, 0));
+    assert!(h.contains("\n(define-fun t3 () (_ BitVec 8) #b00101010)\n"));
+    assert!(h.contains("\n(define-fun t4 () (Array (_ BitVec 8) (_ BitVec 8)) (store v0 v1 t3))\n"));
+    let twice = text(&[1, 0, 1, 10, 0, 0, 1, 0, 0, 9, 0, 0, 1, 0, 0, 9, 0, 0]);
+    assert!(twice.contains("\n(declare-const v9 Bool)\n(declare-const v10 (_ BitVec 1))\n(assert v9)\n"));
 }
 
 /// Two vectors (or a test and two), an operator, and an equality with a constant.

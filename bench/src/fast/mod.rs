@@ -1,6 +1,6 @@
-//! The four routines of paper 01 in Rust, written for speed: what the library is measured against.
+//! The routines of paper 01, and print of paper 02, in Rust, written for speed: what the library is measured against.
 //!
-//! Written from paper 01 alone. Rows are flat slices, nothing is allocated, and every access is
+//! Written from the papers alone. Rows are flat slices, nothing is allocated, and every access is
 //! checked as Rust checks it. The interface is the library's: a number (0, or the refusal's), and
 //! the answer in four numbers.
 
@@ -8,11 +8,13 @@ mod admission;
 mod evaluation;
 mod finishing;
 mod judgement;
+mod printing;
 mod setting;
 
 pub use evaluation::evaluate;
 pub use finishing::finish;
 pub use judgement::judge;
+pub use printing::print;
 
 use admission::{Known, admitted};
 

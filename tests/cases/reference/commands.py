@@ -3,19 +3,22 @@ import json
 import os
 import sys
 
-from admission import Refused
+from admission import Refused, admit
 from casefile import Misread, read_case
 from drawing import graph, tree
 from explaining import evaluate_rows, explain, repair, way_down
-from finishing import finish
+from finishing import Finished, finish
 from judging import Setting
+from printing import text as solver_text
 from words import BOOL, NAMES, is_array, operands, smt_sort, truth
 
 OPTIONS = {"judge": ["--json"], "explain": ["--json"], "tree": ["--color", "--no-color"],
-           "evaluate": [], "finish": [], "graph": []}
-SINGLE = ["finish", "graph"]
+           "evaluate": [], "finish": [], "graph": [], "print": [], "print-finished": []}
+FOR_SOLVERS = ["print", "print-finished"]
+SINGLE = ["finish", "graph"] + FOR_SOLVERS
 WORST = [0, 1, 3, 2]
-USAGE = "usage: ./hiranthok judge|explain|evaluate|tree FILE..., ./hiranthok graph|finish FILE, or ./hiranthok help"
+USAGE = ("usage: ./hiranthok judge|explain|evaluate|tree FILE..., ./hiranthok graph|finish|print|print-finished FILE, "
+         "or ./hiranthok help")
 
 
 # ---- one file ----
@@ -45,6 +48,8 @@ def lines_of(command, case, options, several):
     """The lines that a command prints of a case, and its status."""
     if command == "finish":
         return finish(case), 0
+    if command in FOR_SOLVERS:
+        return solver_text(admit(case, 80000).terms if command == "print" else Finished(case).terms), 0
     if command == "evaluate":
         j = Setting(case, 80000, judged=False)
         return evaluate_rows(j) + steps_left(j), 0
@@ -136,7 +141,8 @@ def respond(command, options, files):
             statuses.append(2)
             continue
         head = b"==> %s <==\n" % name if headed else b""
-        out.append((b"\n" if headed and out else b"") + head + printed)
+        refused_apart = status == 3 and command in FOR_SOLVERS      # standard output is another program's input
+        (err if refused_apart else out).append((b"\n" if headed and out else b"") + head + printed)
         statuses.append(status)
     return b"".join(out), b"".join(err), max(statuses, key=WORST.index)
 
@@ -151,6 +157,9 @@ HELP = """./hiranthok judges case files.
   tree FILE...       the rule as a tree
   graph FILE         the rule for Graphviz
   finish FILE        the finished table as a case file
+  print FILE         the table as SMT-LIB text
+  print-finished FILE
+                     the finished table as SMT-LIB text
   help               this text
 
 A file has four parts: table, values, cells, allowance. - is standard input.

@@ -1,4 +1,4 @@
-//! Random rounds. A round is one table in one setting, handed to all four routines; rooms and allowances are each call's own.
+//! Random rounds. A round is one table in one setting, handed to all routines; rooms and allowances are each call's own.
 
 pub mod damage;
 pub mod draft;
@@ -7,6 +7,7 @@ pub mod table;
 
 use crate::case::{Case, Routine, ROUTINES};
 use crate::random::Random;
+use crate::reference::{admission, flaw::Flaw, printing};
 use draft::Draft;
 
 /// Every so many rounds comes a large table.
@@ -84,14 +85,21 @@ fn large(random: &mut Random, turn: u64) -> Vec<Case> {
     cases
 }
 
-/// The numbers that the room of a call needs.
+/// The numbers that the room of a call needs, or the bytes.
 fn needed(draft: &Draft, routine: Routine) -> usize {
     match routine {
         Routine::Admit => 0,
         Routine::Finish => 6 * draft.finished(),
         Routine::Evaluate => draft.terms.len(),
         Routine::Judge => 2 * draft.terms.len(),
+        Routine::Print => printed(draft),
     }
+}
+
+/// The bytes of the table's text.
+fn printed(draft: &Draft) -> usize {
+    let table = admission::admit(&draft.numbers(), usize::MAX, Flaw::None);
+    table.map_or(0, |table| printing::text(&table, Flaw::None).len())
 }
 
 fn cases(random: &mut Random, draft: &Draft, table: Vec<u32>, setting: setting::Setting) -> Vec<Case> {

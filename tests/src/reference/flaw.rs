@@ -27,9 +27,21 @@ pub enum Flaw {
     AllowanceFirst,
     /// The values are written although the allowance is too small.
     WritesRefused,
+    /// Slots declared in the order of their first use.
+    SlotsByUse,
+    /// A slot declared for each of its variables.
+    DeclaredAgain,
+    /// A variable that is an operand named by its number, not by its slot.
+    VariableByNumber,
+    /// Bits lowest first.
+    BitsReversed,
+    /// No line feed after the last line.
+    NoLastLineFeed,
+    /// 24 where the room is just long enough.
+    TextSpare,
 }
 
-pub const FLAWS: [(&str, Flaw); 12] = [
+pub const FLAWS: [(&str, Flaw); 18] = [
     ("joins-indexes", Flaw::JoinsIndexes),
     ("shifts-modulo", Flaw::ShiftsModulo),
     ("factor-alone", Flaw::FactorAlone),
@@ -42,4 +54,10 @@ pub const FLAWS: [(&str, Flaw); 12] = [
     ("clash-last", Flaw::ClashLast),
     ("allowance-first", Flaw::AllowanceFirst),
     ("writes-refused", Flaw::WritesRefused),
+    ("slots-by-use", Flaw::SlotsByUse),
+    ("declared-again", Flaw::DeclaredAgain),
+    ("variable-by-number", Flaw::VariableByNumber),
+    ("bits-reversed", Flaw::BitsReversed),
+    ("no-last-line-feed", Flaw::NoLastLineFeed),
+    ("text-spare", Flaw::TextSpare),
 ];

@@ -1,14 +1,15 @@
-//! A second evaluator, written from paper 01 alone and for plainness: admitting, finishing, evaluating and judging.
+//! A second evaluator, written from the papers alone and for plainness: admitting, finishing, evaluating, judging, printing.
 
 pub mod admission;
 pub mod conditions;
 pub mod finishing;
 pub mod flaw;
+pub mod printing;
 pub mod setting;
 pub mod term;
 pub mod values;
 
-use crate::case::{pattern, Answer, Case, Checker, Routine};
+use crate::case::{Answer, Case, Checker, Routine};
 use admission::Table;
 use flaw::Flaw;
 use term::READ;
@@ -19,10 +20,12 @@ pub struct Refusal {
     pub place: u64,
 }
 
-/// A result: the numbers of the answer, and what the room's front holds.
+/// A result: the numbers of the answer, and what the room's front holds, numbers or text.
+#[derive(Default)]
 struct Outcome {
     numbers: Vec<u64>,
     front: Vec<u32>,
+    text: String,
 }
 
 pub struct Reference {
@@ -31,18 +34,20 @@ pub struct Reference {
 
 impl Checker for Reference {
     fn call(&self, case: &Case) -> Answer {
-        let mut room = pattern(case.room);
+        let (mut room, mut text) = case.rooms();
         let outcome = match case.routine {
             Routine::Admit => self.admit(case),
             Routine::Finish => self.finish(case),
             Routine::Evaluate => self.evaluate(case, &mut room),
             Routine::Judge => self.judge(case),
+            Routine::Print => self.print(case),
         };
         let mut numbers = [0; 4];
         let number = match outcome {
             Ok(outcome) => {
                 numbers[..outcome.numbers.len()].copy_from_slice(&outcome.numbers);
                 room[..outcome.front.len()].copy_from_slice(&outcome.front);
+                text[..outcome.text.len()].copy_from_slice(outcome.text.as_bytes());
                 0
             }
             Err(refusal) => {
@@ -50,29 +55,29 @@ impl Checker for Reference {
                 refusal.number
             }
         };
-        Answer { number, numbers, room, strayed: false }
+        Answer { number, numbers, room, text, strayed: false }
     }
 }
 
 impl Reference {
     fn admit(&self, case: &Case) -> Result<Outcome, Refusal> {
-        admission::admit(&case.table, 512, self.flaw)?;
-        Ok(Outcome { numbers: vec![], front: vec![] })
+        admission::admit(&case.table, case.routine.limit(), self.flaw)?;
+        Ok(Outcome::default())
     }
 
     fn finish(&self, case: &Case) -> Result<Outcome, Refusal> {
-        let table = admission::admit(&case.table, 512, self.flaw)?;
+        let table = admission::admit(&case.table, case.routine.limit(), self.flaw)?;
         let finished = finishing::finish(&table, self.flaw);
         let count = finished.terms.len();
         if case.room < 6 * count {
             return Err(Refusal { number: 21, place: count as u64 });
         }
         let numbers = vec![count as u64, finished.condition.into(), count as u64 - 1];
-        Ok(Outcome { numbers, front: finished.terms.concat() })
+        Ok(Outcome { numbers, front: finished.terms.concat(), ..Outcome::default() })
     }
 
     fn evaluate(&self, case: &Case, room: &mut [u32]) -> Result<Outcome, Refusal> {
-        let table = admission::admit(&case.table, 80_000, self.flaw)?;
+        let table = admission::admit(&case.table, case.routine.limit(), self.flaw)?;
         setting::check(&table, &case.values, &case.cells, self.flaw)?;
         let inputs = setting::interpret(&table, &case.values, &case.cells, self.flaw);
         let values = values::values(&table, &inputs, self.flaw);
@@ -83,11 +88,11 @@ impl Reference {
             room[..front.len()].copy_from_slice(&front);
         }
         afforded?;
-        Ok(Outcome { numbers: vec![steps, case.allowance - steps], front })
+        Ok(Outcome { numbers: vec![steps, case.allowance - steps], front, ..Outcome::default() })
     }
 
     fn judge(&self, case: &Case) -> Result<Outcome, Refusal> {
-        let table = admission::admit(&case.table, 512, self.flaw)?;
+        let table = admission::admit(&case.table, case.routine.limit(), self.flaw)?;
         setting::check(&table, &case.values, &case.cells, self.flaw)?;
         let inputs = setting::interpret(&table, &case.values, &case.cells, self.flaw);
         let values = values::values(&table, &inputs, self.flaw);
@@ -98,7 +103,17 @@ impl Reference {
         self.afford(case, front.len(), steps)?;
         let last = table.terms.len() - 1;
         let numbers = vec![values.number(last as u32), conditions[last].into(), steps, case.allowance - steps];
-        Ok(Outcome { numbers, front })
+        Ok(Outcome { numbers, front, ..Outcome::default() })
+    }
+
+    fn print(&self, case: &Case) -> Result<Outcome, Refusal> {
+        let table = admission::admit(&case.table, case.routine.limit(), self.flaw)?;
+        let text = printing::text(&table, self.flaw);
+        let spare = usize::from(self.flaw == Flaw::TextSpare);
+        if case.room < text.len() + spare {
+            return Err(Refusal { number: 24, place: text.len() as u64 });
+        }
+        Ok(Outcome { numbers: vec![text.len() as u64], text, ..Outcome::default() })
     }
 
     /// Refusals 22 and 23.

@@ -8,42 +8,37 @@ use native.Mathlib.Nat.{pow-suc, div-lt-iff-lt-mul}
 use native.Mathlib.Omega.{arith}
 use lib.Dec.{ltb}
 use borrow.Author.Tests.{ltb-true, ltb-false, lt-ltb, le-ltb}
-use Rattle.smtlib.specs.Numerals.{digit, numeralWithin, numeral, bits}
+use Rattle.smtlib.specs.Numerals.{digit, numeralWithin, numeral, bits, valueOf}
 use Rattle.smtlib.specs.Laws.{above, NumeralsTold, BitsTold, NumeralsAbove, BitsAbove}
 use Rattle.smtlib.proofs.Cuts.{above-append}
 
--- the number that digits to a base say, after those that say v
-value : ℕ → ℕ → List ℕ → ℕ
-value base v [] = v
-value base v (d ∷ x) = value base (v * base + (d - 48)) x
-
-value-more : (base v d : ℕ) (x : List ℕ) → value base v (x ++ digit d) ≡ value base v x * base + d
-unfolding value
+value-more : (base v d : ℕ) (x : List ℕ) → valueOf base v (x ++ digit d) ≡ valueOf base v x * base + d
+unfolding valueOf
 value-more base v d [] = ap (λ (k : ℕ). v * base + k) (omega arith)
 value-more base v d (c ∷ x) = value-more base (v * base + (c - 48)) d x
 
-numeral-value : (k v : ℕ) → v ≤ k → value 10 0 (numeralWithin k v) ≡ v
-unfolding value numeralWithin
+numeral-value : (k v : ℕ) → v ≤ k → valueOf 10 0 (numeralWithin k v) ≡ v
+unfolding valueOf numeralWithin
 numeral-value zero v h = omega arith
 numeral-value (suc k) v h = go (ltb v 10) refl (λ big. numeral-value k (v / 10) (omega arith))
   where
-    go : (t : Bool) → ltb v 10 ≡ t → (10 ≤ v → value 10 0 (numeralWithin k (v / 10)) ≡ v / 10) → value 10 0 (elim t [ true ↦ digit v | false ↦ numeralWithin k (v / 10) ++ digit (v % 10) ]) ≡ v
+    go : (t : Bool) → ltb v 10 ≡ t → (10 ≤ v → valueOf 10 0 (numeralWithin k (v / 10)) ≡ v / 10) → valueOf 10 0 (elim t [ true ↦ digit v | false ↦ numeralWithin k (v / 10) ++ digit (v % 10) ]) ≡ v
     go true e ih = omega arith
     go false e ih = rw (value-more 10 0 (v % 10) (numeralWithin k (v / 10)), ih (ltb-false v 10 e)) (omega arith)
 
 -- numerals differ
 pub numeral-told : NumeralsTold
-numeral-told a b e = sym (numeral-value a a (omega arith)) ∙ ap (value 10 0) e ∙ numeral-value b b (omega arith)
+numeral-told a b e = sym (numeral-value a a (omega arith)) ∙ ap (valueOf 10 0) e ∙ numeral-value b b (omega arith)
 
-bits-value : (n v : ℕ) → v < 2 ^ n → value 2 0 (bits n v) ≡ v
-unfolding value bits
+bits-value : (n v : ℕ) → v < 2 ^ n → valueOf 2 0 (bits n v) ≡ v
+unfolding valueOf bits
 bits-value zero v h = omega arith
 bits-value (suc n) v h =
     let small : v / 2 < 2 ^ n = div-lt-iff-lt-mul {k = 2} (omega arith) .1 (rw (← pow-suc) h) in
     rw (value-more 2 0 (v % 2) (bits n (v / 2)), bits-value n (v / 2) small) (omega arith)
 
 pub bits-told : BitsTold
-bits-told n a b p q e = sym (bits-value n a p) ∙ ap (value 2 0) e ∙ bits-value n b q
+bits-told n a b p q e = sym (bits-value n a p) ∙ ap (valueOf 2 0) e ∙ bits-value n b q
 
 -- and consist of digits
 digit-above : (d : ℕ) → above 47 (digit d) ≡ true

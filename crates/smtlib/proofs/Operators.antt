@@ -1,17 +1,17 @@
 -- What holds of every entry of a table, by one test that is computed.
 -- Assumes nothing.
-use mathlib.Core.Path.{_≡_, refl, sym, ap, ap₂, _∙_}
-use mathlib.Core.Bool.{Bool, true, false, _&&_}
+use mathlib.Core.Path.{_≡_, refl, sym, ap, _∙_}
+use mathlib.Core.Bool.{Bool, true, false, _&&_, _||_}
 use mathlib.Core.List.{List, [], _∷_}
 use Prim.Native.Nat.{ℕ, zero, suc, _+_, _-_, _≤_, _<_}
-use native.Mathlib.Numerals.{add-one}
 use native.Mathlib.Omega.{arith}
-use lib.Dec.{eqb, leb}
-use lib.ListN.{length, take, drop, getD, List·getD-eq-default}
-use borrow.Author.Tests.{eqb-true, leb-true}
-use Rattle.smtlib.specs.Bytes.{bytes}
-use Rattle.smtlib.specs.Symbols.{operators, operatorName}
+use lib.Dec.{eqb, ltb, leb, eqb·suc-zero}
+use lib.ListN.{take, drop, getD, List·getD-eq-default}
+use borrow.Author.Tests.{leb-true, ltb-true, ltb-false, lt-ltb, le-ltb}
+use Rattle.smtlib.specs.Bytes.{bytes, sameBytes, placeIn, cuts}
+use Rattle.smtlib.specs.Symbols.{operators, operatorName, operatorOf}
 use Rattle.smtlib.proofs.Cuts.{and-left, and-right}
+use Rattle.smtlib.proofs.Searches.{same-is}
 
 -- every number below n passes
 unfoldable pub passes : ℕ → (ℕ → Bool) → Bool
@@ -23,20 +23,6 @@ unfolding passes
 passed zero f k p h = absurd (omega arith)
 passed (suc n) f zero p h = and-left (f 0) (passes n (λ j. f (suc j))) p
 passed (suc n) f (suc k) p h = passed n (λ j. f (suc j)) k (and-right (f 0) (passes n (λ j. f (suc j))) p) (omega arith)
-
--- the same bytes
-unfoldable pub same : List ℕ → List ℕ → Bool
-same [] [] = true
-same [] (b ∷ y) = false
-same (a ∷ x) [] = false
-same (a ∷ x) (b ∷ y) = eqb a b && same x y
-
-same-is : (x y : List ℕ) → same x y ≡ true → x ≡ y
-unfolding same
-same-is [] [] e = refl
-same-is [] (b ∷ y) e = absurd (let z : _≡_ {A = ℕ} 0 1 = cc in omega arith)
-same-is (a ∷ x) [] e = absurd (let z : _≡_ {A = ℕ} 0 1 = cc in omega arith)
-same-is (a ∷ x) (b ∷ y) e = ap₂ _∷_ (eqb-true a b (and-left (eqb a b) (same x y) e)) (same-is x y (and-right (eqb a b) (same x y) e))
 
 -- The operators' words in one row
 
@@ -50,10 +36,10 @@ abbrev pub from : ℕ → ℕ
 from op = getD starts op 0
 
 right : ℕ → Bool
-right op = leb (from op) (from (op + 1)) && (leb (from (op + 1)) 59 && same (take (from (op + 1) - from op) (drop (from op) row)) (operatorName op))
+right op = leb (from op) (from (op + 1)) && (leb (from (op + 1)) 59 && sameBytes (take (from (op + 1) - from op) (drop (from op) row)) (operatorName op))
 
 all-right : (op : ℕ) → op < 17 → right op ≡ true
-unfolding passes right same
+unfolding passes right sameBytes
 all-right op h = passed 17 right op refl h
 
 pub word-there : (op : ℕ) → op ≤ 16 → (from op ≤ from (op + 1)) × (from (op + 1) ≤ 59)
@@ -71,3 +57,40 @@ word-is op h =
 
 pub no-word : (op : ℕ) → 16 < op → [] ≡ operatorName op
 no-word op h = sym (List·getD-eq-default operators [] h)
+
+-- A word that is looked up in the row, where the first name is at 1
+
+first-is : (xs : List (List ℕ)) (b : ℕ) (y : List ℕ) → placeIn ([] ∷ xs) (b ∷ y) ≡ suc (placeIn xs (b ∷ y))
+unfolding placeIn sameBytes
+first-is xs b y = refl
+
+row-is : cuts row 0 starts ≡ [] ∷ operators
+unfolding cuts
+row-is = refl
+
+nothing-first : placeIn (cuts row 0 starts) [] ≡ 0
+unfolding placeIn sameBytes cuts
+nothing-first = refl
+
+pub record Looked (w : List ℕ) (k : ℕ) : Type 0 where
+  pub low : 1 ≤ k
+  pub high : k ≤ 17
+  pub is : k - 1 ≡ operatorOf w
+
+pub not-named : (w : List ℕ) (k : ℕ) → k ≡ placeIn (cuts row 0 starts) w → eqb k 0 || ltb 17 k ≡ true → 0 ≡ operatorOf w
+unfolding placeIn sameBytes
+not-named [] k is e = refl
+not-named (b ∷ y) k is e =
+    let m = placeIn operators (b ∷ y) in
+    let f : k ≡ suc m = is ∙ ap (λ (xs : List (List ℕ)). placeIn xs (b ∷ y)) row-is ∙ first-is operators b y in
+    let g : ltb 17 (suc m) ≡ true = rw (f, eqb·suc-zero m) at e in
+    rw (le-ltb m 17 (omega (arith, ltb-true 17 (suc m) g)))
+
+pub named-at : (w : List ℕ) (k : ℕ) → k ≡ placeIn (cuts row 0 starts) w → eqb k 0 || ltb 17 k ≡ false → Looked w k
+named-at [] k is e = absurd (let f : true ≡ false = rw (is, nothing-first) at e in let z : _≡_ {A = ℕ} 0 1 = cc in omega arith)
+named-at (b ∷ y) k is e =
+    let m = placeIn operators (b ∷ y) in
+    let f : k ≡ suc m = is ∙ ap (λ (xs : List (List ℕ)). placeIn xs (b ∷ y)) row-is ∙ first-is operators b y in
+    let g : ltb 17 (suc m) ≡ false = rw (f, eqb·suc-zero m) at e in
+    let h : suc m ≤ 17 = ltb-false 17 (suc m) g in
+    record { low = omega arith; high = omega arith; is = rw (lt-ltb m 17 (omega arith)) (omega arith) }

@@ -1,19 +1,21 @@
 -- Numbers, sorts, constants and operators give back what they were written from.
 -- Assumes nothing.
 use mathlib.Core.Path.{_≡_, refl, sym, ap, _∙_}
-use mathlib.Core.Bool.{Bool, true, false, _&&_, _||_}
+use mathlib.Core.Bool.{Bool, true, false, cond, _&&_, _||_}
 use mathlib.Core.List.{List, [], _∷_, _++_, append-cancel-left}
 use Prim.Native.Nat.{ℕ, zero, suc, _^_, _≤_, _<_}
 use native.Mathlib.Omega.{arith}
+use lib.ListN.{getD}
 use lib.Dec.{eqb, ltb, leb, eqb·suc-zero}
-use borrow.Author.Tests.{eqb-true, leb-true, ltb-true, le-ltb}
+use borrow.Author.Tests.{eqb-true, leb-true, ltb-true, lt-ltb, le-ltb}
 use Rattle.ops.specs.Fits.{fits}
-use Rattle.smtlib.specs.Bytes.{bytes}
+use Rattle.smtlib.specs.Bytes.{bytes, sameBytes, placeIn, isIn}
 use Rattle.smtlib.specs.Numerals.{numeral, bits}
-use Rattle.smtlib.specs.Symbols.{operators, operatorName, vectorSort, sortName, constantName}
-use Rattle.smtlib.specs.Laws.{above, stops, Named, OperatorsTold, OperatorsAbove, SortsTold, ConstantsTold}
+use Rattle.smtlib.specs.Symbols.{operators, operatorName, operatorOf, vectorSort, sortName, constantName}
+use Rattle.smtlib.specs.Laws.{above, stops, Named, OperatorsTold, OperatorsAbove, OperatorsRead, OperatorsNamed, SortsTold, ConstantsTold}
 use Rattle.smtlib.proofs.Cuts.{above-less, head-same, tail-same, cut, regroup, and-left, and-right}
-use Rattle.smtlib.proofs.Operators.{passes, passed, same}
+use Rattle.smtlib.proofs.Searches.{word-at}
+use Rattle.smtlib.proofs.Operators.{passes, passed}
 use Rattle.smtlib.proofs.Digits.{numeral-told, numeral-above, bits-told, bits-above}
 
 -- Numbers
@@ -34,7 +36,7 @@ vector-told n n′ r s e =
     let (x, y) = number-told n n′ refl refl (regroup (numeral n) (41 ∷ []) r (numeral n′) (41 ∷ []) s (append-cancel-left (bytes "(_ BitVec ") _ _ e)) in
     (x, tail-same y)
 
-pub sort-told : (m n m′ n′ : ℕ) (r s : List ℕ) → sortName m n ++ r ≡ sortName m′ n′ ++ s → (m ≡ m′) × (n ≡ n′) × (r ≡ s)
+pub sort-told : SortsTold
 unfolding sortName vectorSort
 sort-told zero zero zero zero r s e = (refl, refl, append-cancel-left (bytes "Bool") r s e)
 sort-told zero zero zero (suc n′) r s e = absurd (omega (arith, head-same e))
@@ -52,27 +54,42 @@ sort-told (suc m) n (suc m′) n′ r s e =
 
 -- Operators
 
--- the place of a word among others
-place : List (List ℕ) → List ℕ → ℕ
-place [] w = 0
-place (x ∷ xs) w = elim (same x w) [ true ↦ 0 | false ↦ suc (place xs w) ]
-
 right : ℕ → Bool
-right op = ltb op 2 || (eqb (place operators (operatorName op)) op && above 41 (operatorName op))
+right op = ltb op 2 || (eqb (placeIn operators (operatorName op)) op && above 41 (operatorName op))
 
-all-right : (op : ℕ) → 2 ≤ op → op ≤ 16 → eqb (place operators (operatorName op)) op && above 41 (operatorName op) ≡ true
-unfolding passes same place above right
+all-right : (op : ℕ) → 2 ≤ op → op ≤ 16 → eqb (placeIn operators (operatorName op)) op && above 41 (operatorName op) ≡ true
+unfolding passes sameBytes placeIn above right
 all-right op low high = rw (le-ltb op 2 low) at (passed 17 right op refl (omega arith))
 
+-- what a name is looked up as
+pub operators-read : OperatorsRead
+operators-read op h =
+    let e = eqb-true (placeIn operators (operatorName op)) op (and-left _ (above 41 (operatorName op)) (all-right op (h .0) (omega (arith, h .1)))) in
+    rw (e, lt-ltb op 17 (h .1))
+
+pub operators-named : OperatorsNamed
+operators-named w h = go (isIn operators w) refl h
+  where
+    go : (t : Bool) → isIn operators w ≡ t → 0 < cond t (placeIn operators w) 0 → getD operators (cond t (placeIn operators w) 0) [] ≡ w
+    go true e k = word-at operators w (ltb-true (placeIn operators w) 17 e)
+    go false e k = absurd (omega arith)
+
+pub operators-told : OperatorsTold
+operators-told a b h k e = sym (operators-read a h) ∙ ap operatorOf e ∙ operators-read b k
+
+pub operators-above : OperatorsAbove
+operators-above op h = and-right (eqb (placeIn operators (operatorName op)) op) _ (all-right op (h .0) (omega (arith, h .1)))
+
+-- the same, for a number up to the last
 pub operator-told : (a b : ℕ) → 2 ≤ a → a ≤ 16 → 2 ≤ b → b ≤ 16 → operatorName a ≡ operatorName b → a ≡ b
-operator-told a b h k l m e = sym (eqb-true (place operators (operatorName a)) a (and-left _ (above 41 (operatorName a)) (all-right a h k))) ∙ ap (place operators) e ∙ eqb-true (place operators (operatorName b)) b (and-left _ (above 41 (operatorName b)) (all-right b l m))
+operator-told a b h k l m e = operators-told a b (h, omega arith) (l, omega arith) e
 
 pub operator-above : (op : ℕ) → 2 ≤ op → op ≤ 16 → above 41 (operatorName op) ≡ true
-operator-above op h k = and-right (eqb (place operators (operatorName op)) op) _ (all-right op h k)
+operator-above op h k = operators-above op (h, omega arith)
 
 -- Constants
 
-pub constant-told : (n v w : ℕ) (r s : List ℕ) → fits n v ≡ true → fits n w ≡ true → stops 47 r ≡ true → stops 47 s ≡ true → constantName n v ++ r ≡ constantName n w ++ s → (v ≡ w) × (r ≡ s)
+pub constant-told : ConstantsTold
 unfolding constantName
 constant-told zero zero zero r s p q h k e = (refl, append-cancel-left (bytes "false") r s e)
 constant-told zero zero (suc w) r s p q h k e = absurd (omega (arith, head-same e))

@@ -1,7 +1,10 @@
 -- Texts as bytes.
 -- Assumes nothing.
+use mathlib.Core.Bool.{Bool, true, false, cond, _&&_}
 use mathlib.Core.List.{List, [], _∷_, _++_}
-use Prim.Native.Nat.{ℕ, zero, suc}
+use Prim.Native.Nat.{ℕ, zero, suc, _-_}
+use lib.Dec.{eqb, ltb}
+use lib.ListN.{length, take, drop}
 use Prim.Native.String as S
 use Prim.Native.String.{String}
 use Prim.Native.Char.{code}
@@ -20,3 +23,28 @@ bytes (S._∷_ c s) = code c ∷ bytes s
 unfoldable pub each : {A : Type 0} → (ℕ → List A) → ℕ → List A
 each line zero = []
 each line (suc n) = each line n ++ line n
+
+-- the bytes from one place to another
+abbrev pub part : List ℕ → ℕ → ℕ → List ℕ
+part text from to = take (to - from) (drop from text)
+
+unfoldable pub sameBytes : List ℕ → List ℕ → Bool
+sameBytes [] [] = true
+sameBytes [] (b ∷ y) = false
+sameBytes (a ∷ x) [] = false
+sameBytes (a ∷ x) (b ∷ y) = eqb a b && sameBytes x y
+
+-- the place of a word among others, their count where it is none of them
+unfoldable pub placeIn : List (List ℕ) → List ℕ → ℕ
+placeIn [] w = 0
+placeIn (x ∷ xs) w =
+    let rest = suc (placeIn xs w) in
+    cond (sameBytes x w) 0 rest
+
+abbrev pub isIn : List (List ℕ) → List ℕ → Bool
+isIn ws w = ltb (placeIn ws w) (length ws)
+
+-- words that stand one after the other in a text, by the places where each ends
+unfoldable pub cuts : List ℕ → ℕ → List ℕ → List (List ℕ)
+cuts all from [] = []
+cuts all from (to ∷ ends) = part all from to ∷ cuts all to ends

@@ -8,7 +8,7 @@ use lib.Dec.{ltb, leb}
 use lib.ListN.{length}
 use Rattle.ops.specs.Fits.{fits}
 use Rattle.smtlib.specs.Numerals.{numeral, bits}
-use Rattle.smtlib.specs.Symbols.{operators, operatorName, sortName, constantName}
+use Rattle.smtlib.specs.Symbols.{operators, operatorName, operatorOf, sortName, constantName}
 
 -- every byte of a text is above c
 unfoldable pub above : ℕ → List ℕ → Bool
@@ -50,6 +50,13 @@ OperatorsTold = (a b : ℕ) → Named a → Named b → operatorName a ≡ opera
 
 abbrev pub OperatorsAbove : Type 0
 OperatorsAbove = (op : ℕ) → Named op → above 41 (operatorName op) ≡ true
+
+-- A name that is looked up gives back the number it was written from; and a word is the name of the number it has.
+abbrev pub OperatorsRead : Type 0
+OperatorsRead = (op : ℕ) → Named op → operatorOf (operatorName op) ≡ op
+
+abbrev pub OperatorsNamed : Type 0
+OperatorsNamed = (w : List ℕ) → 0 < operatorOf w → operatorName (operatorOf w) ≡ w
 
 -- Sorts, whatever follows; constants of one width, before the end of a word.
 abbrev pub SortsTold : Type 0

@@ -2,7 +2,7 @@
 -- Assumes nothing.
 use mathlib.Core.Bool.{Bool, true, false}
 use mathlib.Core.List.{List, [], _∷_}
-use Prim.Native.Nat.{ℕ, zero, suc, _+_, _/_, _%_}
+use Prim.Native.Nat.{ℕ, zero, suc, _+_, _-_, _*_, _/_, _%_}
 use lib.Dec.{ltb}
 use Rattle.smtlib.specs.Bytes.{_⧺_}
 
@@ -22,3 +22,8 @@ numeral v = numeralWithin v v
 unfoldable pub bits : ℕ → ℕ → List ℕ
 bits zero v = []
 bits (suc n) v = bits n (v / 2) ⧺ digit (v % 2)
+
+-- the number that digits to a base say, after those that say v
+unfoldable pub valueOf : ℕ → ℕ → List ℕ → ℕ
+valueOf base v [] = v
+valueOf base v (d ∷ ds) = valueOf base (v * base + (d - 48)) ds

@@ -1,9 +1,10 @@
 -- SMT-LIB's names: of operators, by paper 01's numbers; of sorts, by their widths; of constants, by width and value.
 -- Assumes nothing.
+use mathlib.Core.Bool.{cond}
 use mathlib.Core.List.{List, [], _∷_}
 use Prim.Native.Nat.{ℕ, zero, suc}
 use lib.ListN.{getD}
-use Rattle.smtlib.specs.Bytes.{_⧺_, bytes}
+use Rattle.smtlib.specs.Bytes.{_⧺_, bytes, placeIn, isIn}
 use Rattle.smtlib.specs.Numerals.{numeral, bits}
 
 -- the operators' names in the order of their numbers; constant and variable, 0 and 1, have none
@@ -16,6 +17,10 @@ operators =
 
 abbrev pub operatorName : ℕ → List ℕ
 operatorName op = getD operators op []
+
+-- the number of the operator that a word names, 0 where it names none
+abbrev pub operatorOf : List ℕ → ℕ
+operatorOf w = cond (isIn operators w) (placeIn operators w) 0
 
 -- vector n
 unfoldable pub vectorSort : ℕ → List ℕ

@@ -3,10 +3,14 @@ ghost use mathlib.Core.Path.{_≡_};
 ghost use Prim.Native.Nat.{_-_, _≤_};
 ghost use lib.ListN.{length, take, drop};
 ghost use Rattle.smtlib.specs.Writing.{page, Wrote};
-ghost use Rattle.smtlib.specs.Symbols.{operatorName, vectorSort, sortName, constantName};
+ghost use Rattle.smtlib.specs.Symbols.{operatorName, operatorOf, vectorSort, sortName, constantName};
 use crate::bytes::bits;
 use crate::bytes::numeral;
 use crate::bytes::word;
+use crate::lookup::place_in;
+
+// The operators' names in a row.
+const NAMES: [u8; 59] = *b"notandor=>=itebvnotbvandbvorbvaddbvmulbvshlbvultselectstore";
 
 // Where the name of each operator begins among all, by its number, and where the last ends.
 const STARTS: [usize; 18] = [
@@ -47,8 +51,19 @@ pub fn operator(room: &mut [u8], at: usize, op: u32) -> usize
     if 16 < k {
         return at;
     }
-    let all = b"notandor=>=itebvnotbvandbvorbvaddbvmulbvshlbvultselectstore";
+    let all = &NAMES;
     part(room, at, all, STARTS[k], STARTS[k + 1])
+}
+
+// The number of the operator that a word names; 0 where it names none.
+pub fn operator_of(word: &[u8]) -> u32
+    ensures { λ r. ⌜ r ≡ operatorOf (now (word .entry)) ⌝ }
+{
+    let k = place_in(&NAMES, &STARTS, word);
+    if (k == 0) | (17 < k) {
+        return 0;
+    }
+    (k - 1) as u32
 }
 
 fn vector_sort(room: &mut [u8], at: usize, n: u32) -> usize

@@ -1,0 +1,9 @@
+pub mod Ahead
+pub mod Forward
+pub mod EveryByte
+pub mod Values
+pub mod WordKinds
+pub mod Samples
+pub mod Unique
+pub mod Tokens
+pub mod Scanned

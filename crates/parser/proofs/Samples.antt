@@ -1,14 +1,18 @@
--- Words and tokens by computation.
+-- Words, tokens and expressions by computation.
 -- Assumes nothing.
 use mathlib.Core.Path.{_≡_, refl}
 use mathlib.Core.Bool.{true, false}
 use mathlib.Core.List.{List, [], _∷_}
 use Prim.Native.Nat.{ℕ}
-use Rattle.smtlib.specs.Bytes.{bytes, sameBytes, placeIn}
+use Rattle.smtlib.specs.Bytes.{_⧺_, bytes, sameBytes, placeIn}
 use Rattle.smtlib.specs.Numerals.{valueOf}
 use Rattle.table.specs.Folds.{every}
 use Rattle.parser.specs.declared.words.Word.the-variants.{Open, Close, Keyword, Operator, Literal, Width, Name, Other, End}
+use Rattle.parser.specs.declared.words.Token.{Token}
+use Rattle.parser.specs.declared.states.State.{State}
 use Rattle.parser.specs.Words.{among, symbol, private, marked, plainOf, wordOf, ahead, wordFrom, tokenAt}
+use Rattle.parser.specs.Names.{closing, indexFrom}
+use Rattle.parser.specs.Expressions.{headOf, joinedTo, closedState, operandsBy, expressionOf}
 
 -- each of some texts by a function
 of : {A : Type 0} → (List ℕ → A) → List (List ℕ) → List A
@@ -66,3 +70,29 @@ tokens = refl
 unbroken : tokenAt (97 ∷ 11 ∷ 98 ∷ []) 0 ≡ record { word = Other; from = 0; next = 3 }
 unfolding sameBytes placeIn valueOf every among symbol private plainOf wordOf ahead wordFrom tokenAt
 unbroken = refl
+
+-- Expressions, after a declaration
+
+-- an expression at byte 22, where a is declared; no table is looked at
+read : List ℕ → State
+read expression = expressionOf 64 (bytes "(declare-const a Bool)" ⧺ expression) 1 (record { at = 22; count = 1; root = 0; fault = 0 }) [] .state
+
+-- a name is its declaration's term; a constant and a list add their own
+operands : of read (bytes "a" ∷ bytes "#b01" ∷ bytes "(not a)" ∷ bytes "(and a true)" ∷ [])
+    ≡ record { at = 23; count = 1; root = 0; fault = 0 } ∷ record { at = 26; count = 2; root = 1; fault = 0 }
+    ∷ record { at = 29; count = 2; root = 1; fault = 0 } ∷ record { at = 34; count = 3; root = 2; fault = 0 } ∷ []
+unfolding of read sameBytes placeIn valueOf every among symbol private plainOf wordOf ahead wordFrom tokenAt closing indexFrom headOf joinedTo closedState operandsBy expressionOf
+operands = refl
+
+-- at one word the lower number: an operand too many that is undeclared 32, no word 31, a list 34; too few at the parenthesis
+refusals : of read (bytes "(not a zz)" ∷ bytes "(not a #x1)" ∷ bytes "(not a (zz))" ∷ bytes "(and a)" ∷ [])
+    ≡ record { at = 29; count = 1; root = 0; fault = 32 } ∷ record { at = 29; count = 1; root = 0; fault = 31 }
+    ∷ record { at = 29; count = 1; root = 0; fault = 34 } ∷ record { at = 28; count = 1; root = 0; fault = 34 } ∷ []
+unfolding of read sameBytes placeIn valueOf every among symbol private plainOf wordOf ahead wordFrom tokenAt closing indexFrom headOf joinedTo closedState operandsBy expressionOf
+refusals = refl
+
+-- a parenthesis where no level is left; as an operand too many too
+depth : expressionOf 0 (bytes "(not a)") 0 (record { at = 0; count = 0; root = 0; fault = 0 }) [] .state ∷ expressionOf 1 (bytes "(not true (") 0 (record { at = 0; count = 0; root = 0; fault = 0 }) [] .state ∷ []
+    ≡ record { at = 0; count = 0; root = 0; fault = 33 } ∷ record { at = 10; count = 1; root = 0; fault = 33 } ∷ []
+unfolding sameBytes placeIn valueOf every among symbol private plainOf wordOf ahead wordFrom tokenAt closing indexFrom headOf joinedTo closedState operandsBy expressionOf
+depth = refl

@@ -3,17 +3,17 @@
 use mathlib.Core.Path.{_≡_, refl, sym, ap, _∙_}
 use mathlib.Core.Bool.{Bool, true, false, cond}
 use mathlib.Core.List.{List, [], _∷_}
-use Prim.Native.Nat.{ℕ, zero, suc, pred, _+_, _<_, _≤_}
+use Prim.Native.Nat.{ℕ, suc, _+_, _-_, _<_}
 use native.Mathlib.Numerals.{add-one}
 use native.Mathlib.Omega.{arith}
 use lib.Dec.{eqb}
 use lib.ListN.{length, drop, getD}
 use lib.Seq.{drop-cons, drop-drop}
 use borrow.Author.Tests.{eqb-true, ne-eqb}
-use Rattle.smtlib.specs.Bytes.{part, sameBytes, placeIn}
+use Rattle.smtlib.specs.Bytes.{part, placeIn}
 use Rattle.table.specs.declared.words.Sort.{Sort}
 use Rattle.parser.specs.declared.words.Word.{Word}
-use Rattle.parser.specs.declared.words.Word.the-variants.{Open, Close, Keyword, Operator, Literal, Width, Name, Other, End}
+use Rattle.parser.specs.declared.words.Word.the-variants.{Open, Close, Keyword, Width, Name}
 use Rattle.parser.specs.Words.{white, inside, ahead, past, tokenAt}
 use Rattle.parser.specs.Names.{nameFrom, nameTo, closing, declarationEnd, indexFrom}
 use Rattle.parser.specs.Grammar.{Declared, Stands, Named, Vector, Sorting, Declarations}
@@ -21,7 +21,6 @@ use Rattle.parser.specs.Grammar.Vector.{vector as vectored}
 use Rattle.parser.specs.Grammar.Sorting.{bool, vector, array}
 use Rattle.parser.specs.Grammar.Declarations.{none, more}
 use Rattle.parser.specs.Trees.{namesOf}
-use Rattle.parser.proofs.Unique.{kind}
 use Rattle.parser.proofs.Tokens.{Run, Bracket, opened, closed, Runs, runs}
 
 -- Parentheses are counted word by word
@@ -68,7 +67,7 @@ module _ (text : List ℕ) (from : ℕ) where
   unfolding closing
   open-step depth b =
       let at = past white text from in
-      let h : closing depth (drop at text) ≡ suc (closing (suc depth) (drop (suc at) text)) = closing-at text depth at (b .within) ∙ rw (b .byte) in
+      let h : closing depth (drop at text) ≡ suc (closing (suc depth) (drop (suc at) text)) = closing-at text depth at (b .within) ∙ rw (b .byte, add-one depth) in
       pass white refl refl text depth from ∙ rw (b .next, add-one at, h) (omega arith)
 
   close-step : (depth : ℕ) → Bracket text from 41 → reach text (suc (suc depth)) from ≡ reach text (suc depth) (tokenAt text from .next)
@@ -76,7 +75,8 @@ module _ (text : List ℕ) (from : ℕ) where
   close-step depth b =
       let at = past white text from in
       let two : ℕ = suc (suc depth) in
-      let h : closing two (drop at text) ≡ suc (closing (suc depth) (drop (suc at) text)) = closing-at text two at (b .within) ∙ rw (b .byte, ne-eqb two 1 (λ z. omega arith)) in
+      let less : two - 1 ≡ suc depth = omega arith in
+      let h : closing two (drop at text) ≡ suc (closing (suc depth) (drop (suc at) text)) = closing-at text two at (b .within) ∙ rw (b .byte, ne-eqb two 1 (λ z. omega arith), less) in
       pass white refl refl text two from ∙ rw (b .next, add-one at, h) (omega arith)
 
   close-end : Bracket text from 41 → reach text 1 from ≡ tokenAt text from .next

@@ -1,17 +1,17 @@
 -- A text has one reading: two derivations from one place agree.
 -- Assumes nothing.
 use mathlib.Core.Path.{_≡_, refl, sym, ap, _∙_}
-use mathlib.Core.List.{List, [], _∷_}
-use Prim.Native.Nat.{ℕ, suc, _≤_}
+use mathlib.Core.List.{List, _∷_}
+use Prim.Native.Nat.{ℕ, suc}
 use native.Mathlib.Omega.{arith}
 use Rattle.smtlib.specs.Bytes.{part}
 use Rattle.table.specs.declared.words.Sort.{Sort}
 use Rattle.parser.specs.declared.words.Word.{Word}
 use Rattle.parser.specs.declared.words.Word.the-variants.{Open, Close, Keyword, Operator, Literal, Width, Name, Other, End}
 use Rattle.parser.specs.Words.{tokenAt}
-use Rattle.parser.specs.Grammar.{Tree, Trees, Declared, Rule, Stands, Named, Vector, Sorting, Expression, Operands, Declarations, Asserts, Reads, OneReading}
+use Rattle.parser.specs.Grammar.{Tree, Trees, Declared, Rule, Stands, Named, Vector, Sorting, Expression, Operands, Declarations, Asserts, OneReading}
 use Rattle.parser.specs.Grammar.Tree.{literal, symbol, apply}
-use Rattle.parser.specs.Grammar.Trees.{nil, cons}
+use Rattle.parser.specs.Grammar.Trees.{cons}
 use Rattle.parser.specs.Grammar.Vector.{vector as vectored}
 use Rattle.parser.specs.Grammar.Sorting.{bool, vector, array}
 use Rattle.parser.specs.Grammar.Expression.{constant, name, list}

@@ -1,6 +1,6 @@
 -- How an expression is read, word by word from the left, into a table of terms: Req 02. After a fault nothing more is read.
 -- Assumes nothing.
-use mathlib.Core.Bool.{Bool, true, false, cond}
+use mathlib.Core.Bool.{cond}
 use mathlib.Core.List.{List}
 use Prim.Native.Nat.{ℕ, zero, suc, _+_}
 use lib.Dec.{eqb, ltb}
@@ -43,11 +43,15 @@ moreOf count = cond (ltb count 513) (count + 1) count
 abbrev pub added : State → ℕ → State
 added s at = record { at = at; count = moreOf (s .count); root = s .count; fault = 0 }
 
+-- no term has a number over 513
+abbrev pub number : ℕ → ℕ
+number i = cond (ltb i 513) i 513
+
 -- a name is the term of its declaration; 32 where it has none
 abbrev pub named : List ℕ → ℕ → State → Token → State
 named text names s t =
     let i = indexOf text names (part text (t .from) (t .next)) in
-    cond (ltb i names) (record { at = t .next; count = s .count; root = cond (ltb i 513) i 513; fault = 0 }) (faultyAt s 32 (t .from))
+    cond (ltb i names) (record { at = t .next; count = s .count; root = number i; fault = 0 }) (faultyAt s 32 (t .from))
 
 -- after a parenthesis only an operator is expected
 abbrev pub operatorIn : State → Token → Word → Head
@@ -120,15 +124,22 @@ termOf room op l =
 abbrev pub constantTerm : ℕ → ℕ → Term
 constantTerm n v = record { op = 0; sort = record { m = 0; n = n }; p = v; q = 0; r = 0 }
 
+-- the fault of a parenthesis, and of a name, that begins an operand too many
+abbrev pub tooDeep : ℕ → ℕ
+tooDeep levels = cond (eqb levels 0) 33 34
+
+abbrev pub tooMany : List ℕ → ℕ → Token → ℕ
+tooMany text names t = cond (declared text names (part text (t .from) (t .next))) 34 32
+
 -- what follows a list's operands: its end; else an operand too many, by its first word
 abbrev pub closedIn : List ℕ → ℕ → State → ℕ → Token → Word → State
-closedIn text names s levels t word.Open = faultyAt s (cond (eqb levels 0) 33 34) (t .from)
+closedIn text names s levels t word.Open = faultyAt s (tooDeep levels) (t .from)
 closedIn text names s levels t word.Close = added s (t .next)
 closedIn text names s levels t (word.Keyword k) = faultyAt s 31 (t .from)
 closedIn text names s levels t (word.Operator op) = faultyAt s 31 (t .from)
 closedIn text names s levels t (word.Literal n v) = faultyAt s 34 (t .from)
 closedIn text names s levels t (word.Width w) = faultyAt s 31 (t .from)
-closedIn text names s levels t (word.Name k) = faultyAt s (cond (declared text names (part text (t .from) (t .next))) 34 32) (t .from)
+closedIn text names s levels t (word.Name k) = faultyAt s (tooMany text names t) (t .from)
 closedIn text names s levels t word.Other = faultyAt s 31 (t .from)
 closedIn text names s levels t word.End = faultyAt s 31 (t .from)
 
@@ -145,12 +156,13 @@ closedBy text names levels op v =
       room = placed (v .room) (v .listed .state .count) (termOf (v .room) op (v .listed));
     }
 
--- left operands, read by one
+-- left operands, read by one; a fault ends the list
 unfoldable pub operandsBy : (State → List ℕ → Work) → ℕ → Listed → List ℕ → Listing
 operandsBy one zero l room = record { listed = l; room = room }
 operandsBy one (suc left) l room =
     let v = one (l .state) room in
-    operandsBy one left (joinedTo l (v .state)) (v .room)
+    let rest = operandsBy one left (joinedTo l (v .state)) (v .room) in
+    cond (eqb (v .state .fault) 0) rest (record { listed = joinedTo l (v .state); room = v .room })
 
 -- how many operands an operator has
 abbrev pub operandsOf : ℕ → ℕ

@@ -5,7 +5,7 @@
 --     vector      = "(" "_" "BitVec" width ")"
 --     assert      = "(" "assert" expression ")"
 --     expression  = constant | name | "(" operator { expression } ")"
--- Any count of operands, any depth, any names: what is asked besides is in Conditions.
+-- Any count of operands, any depth, any names: what is asked besides is in Trees.
 -- Assumes nothing.
 use mathlib.Core.Path.{_≡_}
 use mathlib.Core.List.{List, [], _∷_}

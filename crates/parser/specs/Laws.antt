@@ -1,4 +1,4 @@
--- What is to be proved of parsing, as named statements. Nothing of it is proved yet.
+-- What is proved of parsing, as named statements. The proofs are in proofs/.
 -- Assumes nothing.
 use mathlib.Core.Path.{_≡_}
 use mathlib.Core.Bool.{true}
@@ -22,9 +22,13 @@ pub record Accepted (text : List ℕ) : Type 0 where
   pub reads : Reads text rule
   pub met : meets rule ≡ true
 
+-- Names are counted up to 2^62: a text has no more bytes than that.
+abbrev pub Storable : List ℕ → Type 0
+Storable text = length text ≤ 4611686018427387904
+
 -- A text that is read without a fault is one of the language.
 abbrev pub Sound : Type 0
-Sound = (text : List ℕ) → ruleOf text .progress .state .fault ≡ 0 → Accepted text
+Sound = (text : List ℕ) → Storable text → ruleOf text .progress .state .fault ≡ 0 → Accepted text
 
 -- Every text of the language is read without a fault, and its table is that of its tree.
 pub record Tabled (text : List ℕ) (r : Rule) : Type 0 where
@@ -33,4 +37,4 @@ pub record Tabled (text : List ℕ) (r : Rule) : Type 0 where
   pub table : length (ruleTerms r) ≤ 512 → built text ≡ numbersOf (ruleTerms r)
 
 abbrev pub Complete : Type 0
-Complete = (text : List ℕ) (r : Rule) → Reads text r → meets r ≡ true → Tabled text r
+Complete = (text : List ℕ) (r : Rule) → Storable text → Reads text r → meets r ≡ true → Tabled text r

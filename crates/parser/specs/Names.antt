@@ -1,8 +1,8 @@
 -- Names that are declared: the name of each declaration at the front of a text, and the place of a word among them.
 -- Assumes nothing.
-use mathlib.Core.Bool.{Bool, cond}
+use mathlib.Core.Bool.{Bool, cond, _&&_}
 use mathlib.Core.List.{List, [], _∷_}
-use Prim.Native.Nat.{ℕ, zero, suc, pred, _+_}
+use Prim.Native.Nat.{ℕ, zero, suc, _+_, _-_}
 use lib.Dec.{eqb, ltb}
 use lib.ListN.{drop}
 use Rattle.smtlib.specs.Bytes.{sameBytes, part}
@@ -15,14 +15,16 @@ nameFrom text at = past white text (past inside text (past white text (past whit
 abbrev pub nameTo : List ℕ → ℕ → ℕ
 nameTo text at = past inside text (nameFrom text at)
 
+-- how many parentheses are open after a byte
+abbrev pub depthAfter : ℕ → ℕ → ℕ
+depthAfter depth b = cond (eqb b 40) (depth + 1) (cond (eqb b 41) (depth - 1) depth)
+
 -- how many bytes there are up to the parenthesis that closes, so many being open, and itself
 unfoldable pub closing : ℕ → List ℕ → ℕ
 closing depth [] = 0
 closing depth (b ∷ bs) =
-    let deeper = suc (closing (suc depth) bs) in
-    let higher = suc (closing (pred depth) bs) in
-    let further = suc (closing depth bs) in
-    cond (eqb b 40) deeper (cond (eqb b 41) (cond (eqb depth 1) 1 higher) further)
+    let further = suc (closing (depthAfter depth b) bs) in
+    cond (eqb b 41 && eqb depth 1) 1 further
 
 -- the place after a declaration
 abbrev pub declarationEnd : List ℕ → ℕ → ℕ

@@ -38,3 +38,8 @@ parsing text room =
 abbrev pub roomAfter : Parsing → List ℕ → List ℕ → List ℕ
 roomAfter (Parsed n) text room = built text ++ drop n room
 roomAfter (NotParsed r) text room = room
+
+-- how many numbers the room is given: none by a refusal
+abbrev pub givenBy : Parsing → ℕ
+givenBy (Parsed n) = n
+givenBy (NotParsed r) = 0

@@ -7,7 +7,6 @@ use lib.Dec.{eqb, ltb}
 use lib.ListN.{length, replicate}
 use Rattle.ops.specs.Meaning.{bit}
 use Rattle.smtlib.specs.Bytes.{part}
-use Rattle.table.specs.declared.words.Sort.{Sort}
 use Rattle.table.specs.declared.words.Term.{Term}
 use Rattle.table.specs.Code.Writing.{placed}
 use Rattle.parser.specs.declared.words.Word.{Word}
@@ -18,7 +17,7 @@ use Rattle.parser.specs.declared.states.Sorted.{Sorted}
 use Rattle.parser.specs.declared.states.Progress.{Progress}
 use Rattle.parser.specs.Words.{marked, tokenAt}
 use Rattle.parser.specs.Names.{declared}
-use Rattle.parser.specs.Expressions.{Work, faultyAt, moreOf, added, expressionOf}
+use Rattle.parser.specs.Expressions.{Work, faultyAt, added, number, expressionOf}
 
 -- Words that are asked for by themselves
 
@@ -111,10 +110,6 @@ newName text names s =
     (cond (declared text names (part text (t .from) (t .next))) (faultyAt s 32 (t .from)) (movedTo s (t .next)))
     (faultyAt s 31 (t .from)))
     s
-
--- no term has a number over 513
-abbrev pub number : ℕ → ℕ
-number i = cond (ltb i 513) i 513
 
 -- the variable of a declaration: its sort, its slot, its mark
 abbrev pub variableTerm : ℕ → ℕ → ℕ → Bool → Term

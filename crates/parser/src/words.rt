@@ -320,7 +320,7 @@ pub fn word_of(word: &[u8]) -> Word
 }
 
 // The first place from `at` on that has no white space.
-fn past_white(text: &[u8], at: usize) -> usize
+pub fn past_white(text: &[u8], at: usize) -> usize
     ensures { λ r. ⌜ r ≡ past white (now (text .entry)) at ⌝ }
 {
     let mut i = at;
@@ -334,7 +334,7 @@ fn past_white(text: &[u8], at: usize) -> usize
 }
 
 // The first place from `at` on that has white space or a parenthesis.
-fn past_word(text: &[u8], at: usize) -> usize
+pub fn past_word(text: &[u8], at: usize) -> usize
     ensures { λ r. ⌜ r ≡ past inside (now (text .entry)) at ⌝ }
 {
     let mut i = at;

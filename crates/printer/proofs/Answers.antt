@@ -6,6 +6,7 @@ use mathlib.Core.List.{List, _++_}
 use Prim.Native.Nat.{ℕ, _+_, _*_, _≤_, _<_}
 use native.Mathlib.Omega.{arith}
 use lib.Dec.{ltb}
+use mathlib.Core.Logic.{_⊎_, inl, inr}
 use lib.ListN.{length, take, drop}
 use lib.Seq.{take-append-seam}
 use borrow.Author.Tests.{lt-ltb, le-ltb}
@@ -46,6 +47,13 @@ module _ (needed room : ℕ) where
       go : (b : Bool) → Printed n ≡ answer b → n ≡ needed
       go true e = cc
       go false e = cc
+
+-- the room after both ways: the text written where it fits, else as it was
+pub left-so : (t room after : List ℕ) (r : Printing) → r ≡ fitting (length (text t)) (length room)
+    → ((length (text t) ≤ length room) × (after ≡ text t ++ drop (length (text t)) room)) ⊎ ((length room < length (text t)) × (after ≡ room))
+    → after ≡ roomAfter r t room
+left-so t room after r e (inl h) = h .1 ∙ ap (λ (x : Printing). roomAfter x t room) (sym (e ∙ sym (long-enough (length (text t)) (length room) (length (text t)) refl (h .0))))
+left-so t room after r e (inr h) = h .1 ∙ ap (λ (x : Printing). roomAfter x t room) (sym (e ∙ sym (too-short (length (text t)) (length room) (length (text t)) refl (h .0))))
 
 -- what a printed text promises, the room being as it was left
 pub promised : (t room : List ℕ) → Question t (text t) → (r : Printing) → r ≡ fitting (length (text t)) (length room) → PrintingPromise t (roomAfter r t room) r

@@ -1,9 +1,10 @@
 -- Looking for the first variable of a slot.
 -- Assumes nothing.
-use mathlib.Core.Path.{_≡_, refl, sym, ap, ap₂, _∙_}
+use mathlib.Core.Path.{_≡_, refl, sym, ap, ap₂, subst, _∙_}
 use mathlib.Core.Bool.{Bool, true, false, cond, _&&_}
 use mathlib.Core.List.{List, [], _++_}
-use Prim.Native.Nat.{ℕ, zero, suc, pred, _+_, _-_, _≤_, _<_}
+use Prim.Native.Nat.{ℕ, zero, suc, pred, _+_, _-_, _%_, _≤_, _<_}
+use native.Mathlib.Nat.{mod-eq-of-lt}
 use native.Mathlib.Numerals.{add-one}
 use native.Mathlib.Omega.{arith}
 use lib.Dec.{eqb, ltb}
@@ -53,13 +54,14 @@ module _ (t : List ℕ) (n : ℕ) where
         unused true p s low q = ne-eqb p s (λ same. omega (arith, ltb-false p 256 q))
         unused false p s low q = refl
 
-    pub one-looked : (x : Term) → x ≡ termAt t k → slotted x ≡ true → Looking t n (set row (x .p) k) (i + 1)
-    one-looked x at-k e =
-        record {
+    -- the slot's place is p % 256, p being below 256
+    pub one-looked : (x : Term) → x ≡ termAt t k → slotted x ≡ true → Looking t n (set row (x .p % 256) k) (i + 1)
+    one-looked x at-k e = subst (λ (j : ℕ). Looking t n (set row j k) (i + 1)) (sym (mod-eq-of-lt inside))
+        (record {
           within = omega arith;
           size = length-set row (x .p) k ∙ was .size;
           is = λ s low. go s low (eqb (x .p) s) refl;
-        }
+        })
       where
         is-variable : isVariable x ≡ true
         is-variable = and-parts (isVariable x) (ltb (x .p) 256) e .0

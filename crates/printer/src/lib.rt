@@ -18,6 +18,19 @@ pub enum Printing {
     NotPrinted(Refusal),
 }
 
+// 24 where the room is short of the bytes needed; else their count.
+fn fitted(needed: usize, room: usize) -> Printing
+    ensures { λ r. ⌜ r ≡ fitting needed room ⌝ }
+{
+    if room < needed {
+        return Printing::NotPrinted(Refusal {
+            number: 24,
+            place: needed as u64,
+        });
+    }
+    Printing::Printed(needed as u64)
+}
+
 // Counts the text's bytes by writing it into a room of one byte; then writes it where the room has them all.
 fn fit(table: &[u32], room: &mut [u8]) -> Printing
     requires { ⌜ WellFormed 80000 (now table) ⌝ }
@@ -26,14 +39,10 @@ fn fit(table: &[u32], room: &mut [u8]) -> Printing
 {
     let mut none = [0u8; 1];
     let needed = text::write(table, &mut none);
-    if room.len() < needed {
-        return Printing::NotPrinted(Refusal {
-            number: 24,
-            place: needed as u64,
-        });
+    if needed <= room.len() {
+        text::write(table, room);
     }
-    text::write(table, room);
-    Printing::Printed(needed as u64)
+    fitted(needed, room.len())
 }
 
 // Prints a table: the front of `room` holds its text. Answers the count of bytes, or refuses by 1 to 10, of a table of

@@ -22,7 +22,7 @@ pub fn first_uses(table: &[u32], n: u32) -> [u32; 256]
         if !slotted(x) {
             continue;
         }
-        let at = x.p as usize;
+        let at = (x.p % 256) as usize;
         row[at] = k;
     }
     row

@@ -1,11 +1,9 @@
 use Prim.Native.Nat.{_-_}
 use mathlib.Core.Path.{refl, sym, _∙_}
+use native.Mathlib.Nat.{mod-lt}
 use native.Mathlib.Omega.{arith}
-use lib.Dec.{ltb}
 use lib.ListN.{replicate, getD-replicate}
-use borrow.Author.Tests.{ltb-true, not-true, not-false}
-use Rattle.ops.proofs.Booleans.{and-parts}
-use Rattle.table.specs.Faults.{isVariable}
+use borrow.Author.Tests.{not-true, not-false}
 use Rattle.printer.proofs.Scans.{Looking, none-looked, one-passed, one-looked, all-looked}
 use borrow.Author.Needs.{needs}
 use Rattle.printer.proofs.slots.first_uses.Statement.{statement}
@@ -24,7 +22,7 @@ loop-again : tie.Need-loop-again Inv-loop μ-loop
 loop-again c = one-passed ((c .before .before .before .before .before .before .args .table .now)) (c .before .before .before .before .before .before .args .n) (c .before .before .before .before .loop .row) (c .before .before .before .before .loop .i) (c .before .before .before .before .loop .inv) (c .before .before .before .loop-test .taken) _ refl (c .before .before .term-at .result) (c .before .before .term-at .ensures) (sym (c .before .slotted .ensures) ∙ not-true _ (c .if1 .taken))
 
 array-write-row : tie.Need-array-write-row Inv-loop μ-loop
-array-write-row c = let x = (c .before .before .before .term-at .result) in ltb-true (x .p) 256 (and-parts (isVariable x) (ltb (x .p) 256) (sym (c .before .before .slotted .ensures) ∙ not-false _ (c .before .if1 .left)) .1)
+array-write-row c = mod-lt _ (omega arith)
 
 loop-again-2 : tie.Need-loop-again-2 Inv-loop μ-loop
 loop-again-2 c = one-looked ((c .before .before .before .before .before .before .before .args .table .now)) (c .before .before .before .before .before .before .before .args .n) (c .before .before .before .before .before .loop .row) (c .before .before .before .before .before .loop .i) (c .before .before .before .before .before .loop .inv) (c .before .before .before .before .loop-test .taken) _ refl (c .before .before .before .term-at .result) (c .before .before .before .term-at .ensures) (sym (c .before .before .slotted .ensures) ∙ not-false _ (c .before .if1 .left))

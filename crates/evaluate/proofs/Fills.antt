@@ -19,7 +19,7 @@ use Rattle.evaluate.specs.declared.turns.Turn.{Turn}
 use Rattle.evaluate.specs.Values.{valueAt, numbers}
 use Rattle.evaluate.specs.Code.Turns.{turnOf, numberOf, isReadAt, nextRead, onward, numbered}
 use Rattle.evaluate.proofs.Folds.{length-numbers, numbers-more}
-use Rattle.evaluate.proofs.Fronts.{front-more, front-length}
+use Rattle.table.proofs.Fronts.{front-more, front-length}
 use Rattle.evaluate.proofs.Meaning.{valueRead, number-is}
 use Rattle.evaluate.proofs.Onward.{Arrived, arrived}
 use Rattle.evaluate.proofs.Runs.{inCells, Running, Turning, turning, at-is, inside, answer-is}

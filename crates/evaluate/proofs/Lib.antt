@@ -4,7 +4,6 @@ pub mod Sums
 pub mod Answers
 pub mod Operands
 pub mod Meaning
-pub mod Fronts
 pub mod Onward
 pub mod Runs
 pub mod Fills

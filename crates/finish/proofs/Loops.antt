@@ -1,19 +1,17 @@
--- What is known at each turn of the loops: copying the table, counting the groups, writing them.
+-- What is known at each turn of the loops: counting the groups, writing them.
 -- Assumes nothing.
 use mathlib.Core.Path.{_≡_, refl, sym, ap, ap₂, _∙_}
 use mathlib.Core.List.{List, [], _∷_, _++_, map}
-use Prim.Native.Nat.{ℕ, zero, suc, pred, _+_, _*_, _≤_, _<_}
-use native.Mathlib.Nat.{le-refl}
+use Prim.Native.Nat.{ℕ, suc, pred, _+_, _*_, _≤_, _<_}
 use native.Mathlib.Numerals.{add-one}
 use native.Mathlib.Omega.{arith}
-use lib.ListN.{length, getD, take, drop, set, length-set}
-use lib.Seq.{take-suc, take-length, length-take-le, take-suc-set}
+use lib.ListN.{length, take, set, length-set}
+use lib.Seq.{length-take-le, take-suc-set}
 use Rattle.table.specs.declared.words.Term.{Term}
 use Rattle.table.specs.Folds.{fold}
 use Rattle.table.specs.Terms.{terms, termAt}
 use Rattle.table.specs.WellFormed.{WellFormed}
 use Rattle.table.proofs.FoldLaws.{length-map-fold, map-fold-more}
-use Rattle.evaluate.proofs.Fronts.{front-more, front-length}
 use Rattle.judge.specs.Conditions.{ownMarks}
 use Rattle.groups.specs.declared.groups.Written.{Written}
 use Rattle.groups.specs.Code.Writing.{placedFrom, placedAll, conditionNumbers, Numbered, written}
@@ -21,36 +19,6 @@ use Rattle.groups.specs.Plans.{Plan, planOf, groups, next, plans, planAt}
 use Rattle.groups.specs.Sizes.{sizeOf, sizes}
 use Rattle.groups.proofs.GroupSizes.{groups-more, groups-size, sizes-by-terms}
 use Rattle.groups.proofs.Rooms.{length-laid, laid-append}
-
--- Copying: the first i numbers of the table stand in front
-
-pub record Copied (t begin : List ℕ) (room : List ℕ) (i : ℕ) : Type 0 where
-  pub within : i ≤ length t
-  pub is : room ≡ take i t ++ drop i begin
-
-pub none-copied : (t begin : List ℕ) → Copied t begin begin 0
-none-copied t begin = record { within = omega arith; is = refl }
-
-module _ (t begin room : List ℕ) (i : ℕ) (enough : length t ≤ length begin) (h : Copied t begin room i) where
-  front-size : length (take i t) ≡ i
-  front-size = length-take-le i t (h .within)
-
-  pub copied-length : length room ≡ length begin
-  copied-length = let b : i ≤ length t = h .within in ap length (h .is) ∙ front-length (take i t) begin i front-size (omega arith)
-
-  pub one-copied : i < length t → (after : List ℕ) → after ≡ set room i (getD t i 0) → Copied t begin after (i + 1)
-  one-copied b after e =
-      record {
-        within = omega arith;
-        is =
-            e ∙ ap (λ (l : List ℕ). set l i (getD t i 0)) (h .is) ∙ front-more (take i t) begin i (getD t i 0) front-size (omega arith)
-            ∙ ap (λ (l : List ℕ). l ++ drop (i + 1) begin) (sym (take-suc t i 0 b) ∙ ap (λ (n : ℕ). take n t) (sym (add-one i)));
-      }
-
-  pub all-copied : length t ≤ i → room ≡ t ++ drop (length t) begin
-  all-copied end =
-      let e : i ≡ length t = let b : i ≤ length t = h .within in omega arith in
-      h .is ∙ ap (λ (n : ℕ). take n t ++ drop n begin) e ∙ ap (λ (l : List ℕ). l ++ drop (length t) begin) (take-length t)
 
 -- Counting: the groups of the first i terms
 

@@ -14,16 +14,6 @@ use groups::put_and;
 use groups::put_constant;
 use groups::write_group;
 
-// The table's numbers, at the room's front.
-fn copy(table: &[u32], room: &mut [u32])
-    requires { ⌜ length (now table) ≤ length (now room) ⌝ }
-    ensures { λ _. ⌜ now (room .exit) ≡ now (table .entry) ++ drop (length (now (table .entry))) (now (room .entry)) ⌝ }
-{
-    for i in 0..table.len() {
-        room[i] = table[i];
-    }
-}
-
 // The groups in ascending term order, after T and F. conditions has the numbers of the conditions so far.
 fn write_groups(table: &[u32], room: &mut [u32]) -> Written
     requires { ⌜ WellFormed 512 (now table) ⌝ }
@@ -55,7 +45,7 @@ pub fn fill(table: &[u32], room: &mut [u32]) -> u32
         ≡ finished (now (table .entry)) ++ drop (length (finished (now (table .entry)))) (now (room .entry)) ⌝ }
 {
     let terms = table::count(table);
-    copy(table, room);
+    table::copy(table, room);
     put_constant(room, terms, 0, 1);
     put_constant(room, terms + 1, 0, 0);
     let rule = write_groups(table, room);

@@ -11,7 +11,7 @@ use Rattle.table.specs.declared.words.Term.{Term}
 use Rattle.table.specs.Terms.{words}
 use Rattle.table.specs.Code.Writing.{placed}
 use Rattle.table.proofs.Places.{length-placed}
-use Rattle.evaluate.proofs.Fronts.{front-more, front-length}
+use Rattle.table.proofs.Fronts.{front-more, front-length}
 use Rattle.groups.specs.Added.{wordsOf, flat}
 use Rattle.groups.specs.Code.Writing.{placedFrom, placedAll}
 

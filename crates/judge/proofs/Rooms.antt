@@ -7,7 +7,7 @@ use native.Mathlib.Nat.{zero-add, suc-add}
 use native.Mathlib.Omega.{arith}
 use lib.ListN.{length, take, drop, set, length-append, length-take, length-drop, take-append-drop, drop-of-length-le}
 use lib.Seq.{take-at, drop-at, take-append-le, set-append-left, length-take-le, drop-drop}
-use Rattle.evaluate.proofs.Fronts.{front-more, front-length}
+use Rattle.table.proofs.Fronts.{front-more, front-length}
 
 set-right : (xs ys : List ℕ) (i a : ℕ) → set (xs ++ ys) (length xs + i) a ≡ xs ++ set ys i a
 set-right [] ys i a = ap (λ (k : ℕ). set ys k a) (zero-add i)

@@ -16,3 +16,5 @@ pub mod ThreeSorts
 pub mod Refusals
 pub mod OperandSorts
 pub mod ArrayTerms
+pub mod Fronts
+pub mod Copying

@@ -25,6 +25,7 @@ pub use sorts::vector_of;
 pub use words::Sort;
 pub use words::Term;
 pub use words::WORDS;
+pub use words::copy;
 pub use words::number_at;
 pub use words::put;
 pub use words::sort_at;

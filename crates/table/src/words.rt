@@ -1,6 +1,8 @@
 // A table's numbers as terms.
 ghost use mathlib.Core.Path.{_≡_};
-ghost use lib.ListN.{getD};
+ghost use mathlib.Core.List.{_++_};
+ghost use Prim.Native.Nat.{_≤_};
+ghost use lib.ListN.{length, getD, drop};
 ghost use Rattle.table.specs.Terms.{HasTerm, HasSort, wordAt, sortAt, termAt};
 ghost use Rattle.table.specs.Code.Writing.{placed};
 
@@ -108,5 +110,15 @@ pub fn put(table: &mut [u32], k: u32, x: Term)
         table[at + 3] = x.p;
         table[at + 4] = x.q;
         table[at + 5] = x.r;
+    }
+}
+
+// A table's numbers, at a room's front.
+pub fn copy(table: &[u32], room: &mut [u32])
+    requires { ⌜ length (now table) ≤ length (now room) ⌝ }
+    ensures { λ _. ⌜ now (room .exit) ≡ now (table .entry) ++ drop (length (now (table .entry))) (now (room .entry)) ⌝ }
+{
+    for i in 0..table.len() {
+        room[i] = table[i];
     }
 }

@@ -1,11 +1,11 @@
-use Prim.Native.Nat.{ℕ, _-_}
+use Prim.Native.Nat.{_-_}
 use mathlib.Core.Path.{refl}
 use native.Mathlib.Omega.{arith}
 use lib.ListN.{length}
 use borrow.Author.Needs.{needs}
-use Rattle.finish.proofs.Loops.{Copied, none-copied, copied-length, one-copied, all-copied}
-use Rattle.finish.proofs.room.copy.Statement.{statement}
-use Rattle.finish.proofs.room.copy.Tie as tie
+use Rattle.table.proofs.Copying.{Copied, none-copied, copied-length, one-copied, all-copied}
+use Rattle.table.proofs.words.copy.Statement.{statement}
+use Rattle.table.proofs.words.copy.Tie as tie
 
 abbrev Inv-loop : tie.InvT-loop
 Inv-loop table room₀ i₀ i-end room i = Copied table room₀ room i

@@ -1,6 +1,8 @@
 /* Judges rule G, 0 < a * x + b at width 8 with x marked, in three settings, and refuses a fourth; then rule H, t with 42 stored at a
- * is 42 at c, with t marked, where some cells of t are listed as records; then finishes rule G and prints it for a solver. */
+ * is 42 at c, with t marked, where some cells of t are listed as records; then finishes rule G and prints it for a solver; last reads
+ * rule G as a person types it, and judges that. */
 #include <stdio.h>
+#include <string.h>
 
 #include "hiranthok.h"
 
@@ -102,6 +104,25 @@ static void print_finished(size_t length)
         printf("%llu bytes\n%.*s", (unsigned long long)answer[0], (int)answer[0], (const char *)text);
 }
 
+#define DECLARED "(declare-const a (_ BitVec 8))\n(declare-const x1 (_ BitVec 8))\n(declare-const b (_ BitVec 8))\n"
+
+/* The values are those of the declared names, in their order: a, x1, which is marked, b. */
+static void judge_typed(const char *text)
+{
+    const uint32_t values[] = {0, 5, 1};
+    uint32_t table[HIRANTHOK_PARSE_ROOM], work[HIRANTHOK_JUDGE_WORK(HIRANTHOK_MAX_TERMS)];
+    uint64_t answer[4];
+    uint32_t refused = hiranthok_parse((const uint8_t *)text, strlen(text), table, LENGTH(table), answer);
+
+    printf("typed: ");
+    if (!refused) {
+        printf("%llu terms; ", (unsigned long long)answer[0] / HIRANTHOK_TERM_WORDS);
+        refused = hiranthok_judge(table, (size_t)answer[0], values, LENGTH(values), hiranthok_row(NULL), 0, 0, work, LENGTH(work),
+                                  answer);
+    }
+    show(refused, answer);
+}
+
 int main(void)
 {
     judge(0, 5, 1);   /* a is 0: whatever x is, the product is 0 */
@@ -115,5 +136,7 @@ int main(void)
     finish(HIRANTHOK_FINISH_ROOM(TERMS));
     print_finished(0); /* the refusal's place is the count of bytes needed */
     print_finished(HIRANTHOK_PRINT_ROOM(HIRANTHOK_FINISHED_TERMS(TERMS)));
+    judge_typed(DECLARED "(assert (bvult #b00000000 (bvadd (bvmul a x1) b)))\n(check-sat)\n");
+    judge_typed(DECLARED "(assert (bvult #b00000000 (bvadd (bvmul a x1) c)))\n(check-sat)\n"); /* c is not declared */
     return 0;
 }

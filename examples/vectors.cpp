@@ -1,5 +1,5 @@
 /* The C interface from C++: rows are vectors, and some of them are empty. The data() of an empty vector may be null, and then
- * hiranthok_row, hiranthok_room, hiranthok_cells and hiranthok_text give a pointer that may be passed. */
+ * hiranthok_row, hiranthok_room, hiranthok_cells, hiranthok_text and hiranthok_rule give a pointer that may be passed. */
 #include <cstddef>
 #include <cstdio>
 #include <string>
@@ -70,6 +70,18 @@ static void print(const char *what, const Row &table, Text text)
                     std::string(text.begin(), text.begin() + static_cast<std::ptrdiff_t>(answer[0])).c_str());
 }
 
+static void parse(const char *what, const std::string &typed, Row room)
+{
+    const Text text(typed.begin(), typed.end());
+    uint64_t answer[4];
+    const uint32_t refused = hiranthok_parse(hiranthok_rule(text.data()), text.size(), hiranthok_room(room.data()), room.size(),
+                                             answer);
+    if (refused)
+        show(what, refused, answer);
+    else
+        std::printf("%s: %llu numbers\n", what, static_cast<unsigned long long>(answer[0]));
+}
+
 /* A null pointer becomes one that is not; any other stays as it is. */
 static bool replaced()
 {
@@ -77,6 +89,7 @@ static bool replaced()
     uint8_t byte = 0;
     const hiranthok_cell cell = {0, 0, 0};
     return hiranthok_row(nullptr) && hiranthok_room(nullptr) && hiranthok_cells(nullptr) && hiranthok_text(nullptr)
+        && hiranthok_rule(nullptr) && hiranthok_rule(&byte) == &byte
         && hiranthok_row(&number) == &number && hiranthok_room(&number) == &number && hiranthok_cells(&cell) == &cell
         && hiranthok_text(&byte) == &byte;
 }
@@ -100,8 +113,11 @@ int main()
     print("no text room", rule, {});
     print("a text room", rule, Text(HIRANTHOK_PRINT_ROOM(terms)));
     std::printf("any table, printed: at most %d bytes\n", HIRANTHOK_MAX_PRINT_ROOM);
+    parse("no text", "", Row(HIRANTHOK_PARSE_ROOM));
+    parse("no parse room", "(assert (= #b1 #b1)) (check-sat)", {});
+    parse("a parse room", "(assert (= #b1 #b1)) (check-sat)", Row(HIRANTHOK_PARSE_ROOM));
     std::printf("null pointers replaced: %s; version %s\n", replaced() ? "yes" : "no", versioned() ? HIRANTHOK_VERSION : "wrong");
-    for (uint32_t number = 0; number <= 25; number++)
+    for (uint32_t number = 0; number <= 36; number++)
         std::printf("%2u %s\n", static_cast<unsigned>(number), hiranthok_refusal_text(number));
     return 0;
 }

@@ -13,12 +13,13 @@
  * tells its place there. The allowance is passed by value: a refusal spends nothing of it.
  *
  * Lent rows must not overlap a room, and rooms must not overlap each other; answer overlaps none of them. Every pointer is aligned
- * as its type asks (4 bytes; answer 8; text any), one of length 0 too. hiranthok_row, hiranthok_room, hiranthok_cells and
- * hiranthok_text below put a pointer that may be passed with length 0 in the place of a null one.
+ * as its type asks (4 bytes; answer 8; text any), one of length 0 too. hiranthok_row, hiranthok_room, hiranthok_cells,
+ * hiranthok_text and hiranthok_rule below put a pointer that may be passed with length 0 in the place of a null one.
  *
  * No function keeps anything between calls: any number of threads may call at once, provided that no room and no answer is used by
- * two calls at a time. Rows that are only read (table, values, cells) may be shared, so long as nobody writes them. A call takes
- * some 5 KB of stack (measured, not proved) and no other memory.
+ * two calls at a time. Rows that are only read (table, values, cells, a rule's text) may be shared, so long as nobody writes them. A
+ * call takes some 5 KB of stack (measured, not proved) and no other memory; hiranthok_parse 14 KB, and 89 KB where an assert is
+ * 64 levels deep.
  *
  * A term's sort is (m, n): Boolean (0, 0); vector (0, n); array (m, n), index and value vectors of m and n bits; widths 1 to 32.
  * Terms are numbered from 0. Operands are numbers of earlier terms, and fields that hold nothing are 0. The last term is the rule.
@@ -51,13 +52,20 @@
  *   3 op over 16                                   13 value too wide
  *   4 not one of the three sorts                   14 a cell's slot is no array variable's
  *   5 an operand not below, an unused field not 0  15 a cell's index or value too wide
- *   6 sorts not as the operator asks               21 the finished room is too short (place: terms needed)
+ *   6 sorts not as the operator asks               21 the table's room is too short (place: terms needed)
  *   7 a constant, slot or mark too large           22 the work room is too short (place: numbers needed)
  *   8 one slot with two sorts or marks             23 the allowance is below the table's steps (place: steps needed)
  *   9 a 17th store in a chain                      24 the text room is too short (place: bytes needed)
  *  10 the last term is not Boolean
  *
- * Places of 1, 2, 11 are 0; of 3 to 10, 12, 13 the term's number; of 14, 15 the cell's.
+ *  31 an unexpected byte, word or end; a width of 0 or over 32; a reserved word or an operator for a name
+ *  32 an operand that is not declared, or a name declared twice
+ *  33 over 64 parentheses open in an assert
+ *  34 an operator with too few or too many operands
+ *  35 no assert before check-sat
+ *
+ * Places of 1, 2, 11 are 0; of 3 to 10, 12, 13 the term's number; of 14, 15 the cell's; of 31 to 35 the first byte of the word, and
+ * at the end the text's length.
  */
 #ifndef HIRANTHOK_H
 #define HIRANTHOK_H
@@ -66,13 +74,13 @@
 #include <stdint.h>
 
 /* The version of this interface. Major: a signature, a number or an answer is another than it was, and programs may have to change.
- * Minor: something was added; it counts the landings (docs/landings/): 0.8 is paper 01 with the eighth, and 0.11 has print. Patch:
- * what is declared here stayed as it was. The library has no version of its own to ask for: take header and library from one state
- * of the repository. */
+ * Minor: something was added; it counts the landings (docs/landings/): 0.8 is paper 01 with the eighth, 0.11 has print, 0.12
+ * parse. Patch: what is declared here stayed as it was. The library has no version of its own to ask for: take header and library
+ * from one state of the repository. */
 #define HIRANTHOK_VERSION_MAJOR 0
-#define HIRANTHOK_VERSION_MINOR 11
+#define HIRANTHOK_VERSION_MINOR 12
 #define HIRANTHOK_VERSION_PATCH 0
-#define HIRANTHOK_VERSION "0.11.0"
+#define HIRANTHOK_VERSION "0.12.0"
 
 /* The numbers of a term and of a cell. */
 #define HIRANTHOK_TERM_WORDS 6
@@ -97,6 +105,9 @@
  * does not, it is refused 24, with the bytes needed as the place. */
 #define HIRANTHOK_PRINT_ROOM(terms) (88 * (terms) + 14639)
 #define HIRANTHOK_MAX_PRINT_ROOM HIRANTHOK_PRINT_ROOM(HIRANTHOK_MAX_EVALUATED_TERMS) /* 7054639 */
+
+/* The numbers of a room that is long enough for every rule's table. */
+#define HIRANTHOK_PARSE_ROOM (HIRANTHOK_TERM_WORDS * HIRANTHOK_MAX_TERMS) /* 3072 */
 
 #ifdef __cplusplus
 extern "C" {
@@ -146,7 +157,12 @@ uint32_t hiranthok_judge_records(const uint32_t *table, size_t table_len, const 
  * bytes. */
 uint32_t hiranthok_print(const uint32_t *table, size_t table_len, uint8_t *text, size_t text_len, uint64_t answer[4]);
 
-/* A row, a room, a row of records, a text room: the given pointer, or in the place of a null one a pointer to pass with length 0. In
+/* Reads a rule typed as SMT-LIB (docs/LANGUAGE.md) and writes its table to the front of room; the rest of room is untouched. The
+ * declared names are the variables of slots 0, 1, ... in their order; a name of x and then digits is marked. Refuses 31 to 35, then
+ * 2, 6, 7, 9 and 10 of the table, then 21. Result: the count of numbers. */
+uint32_t hiranthok_parse(const uint8_t *text, size_t text_len, uint32_t *room, size_t room_len, uint64_t answer[4]);
+
+/* A row, a room, a row of records, a text room, a rule's text: the given pointer, or in the place of a null one a pointer to pass with length 0. In
  * C, where there are no cells, hiranthok_row(NULL), 0; in C++, where data() of an empty vector may be null,
  * hiranthok_row(cells.data()), cells.size(). */
 static inline const uint32_t *hiranthok_row(const uint32_t *row)
@@ -170,6 +186,12 @@ static inline const struct hiranthok_cell *hiranthok_cells(const struct hirantho
 static inline uint8_t *hiranthok_text(uint8_t *text)
 {
     static uint8_t none[1] = {0};
+    return text ? text : none;
+}
+
+static inline const uint8_t *hiranthok_rule(const uint8_t *text)
+{
+    static const uint8_t none[1] = {0};
     return text ? text : none;
 }
 
@@ -197,6 +219,11 @@ static inline const char *hiranthok_refusal_text(uint32_t number)
     case 22: return "the work room is too short: so many numbers are needed";
     case 23: return "the allowance is too small: so many steps are needed";
     case 24: return "the text room is too short: so many bytes are needed";
+    case 31: return "an unexpected byte, word or end of the text";
+    case 32: return "an operand that is not declared, or a name declared twice";
+    case 33: return "more than 64 parentheses are open";
+    case 34: return "too few or too many operands";
+    case 35: return "no assert before check-sat";
     default: return "no refusal has this number";
     }
 }

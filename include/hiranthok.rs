@@ -2,7 +2,7 @@
 
 /// The version of the interface: hiranthok.h says what its numbers mean.
 #[allow(dead_code)]
-pub const VERSION: &str = "0.11.0";
+pub const VERSION: &str = "0.12.0";
 
 /// The limits, and the rooms' sizes in numbers: the macros of hiranthok.h.
 #[allow(dead_code)]
@@ -42,6 +42,9 @@ pub mod sizes {
     }
 
     pub const MAX_PRINT_ROOM: usize = print_room(MAX_EVALUATED_TERMS);
+
+    /// A room that is long enough for every rule's table.
+    pub const PARSE_ROOM: usize = TERM_WORDS * MAX_TERMS;
 }
 
 /// The signature of evaluate and of judge: table, values, cells and work each as a pointer and a length, the allowance before work.
@@ -143,6 +146,13 @@ unsafe extern "C" {
         table_len: usize,
         text: *mut u8,
         text_len: usize,
+        answer: *mut [u64; 4],
+    ) -> u32;
+    pub fn hiranthok_parse(
+        text: *const u8,
+        text_len: usize,
+        room: *mut u32,
+        room_len: usize,
         answer: *mut [u64; 4],
     ) -> u32;
 }

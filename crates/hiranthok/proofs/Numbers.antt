@@ -32,7 +32,12 @@ use Rattle.printer.specs.declared.Printing.{Printing}
 use Rattle.printer.specs.declared.Printing.the-variants.{Printed, NotPrinted}
 use Rattle.printer.specs.Printing.{printing, printNumbers, NotPrintedBy}
 use Rattle.printer.proofs.Answers.{printing-numbers}
-use Rattle.hiranthok.specs.Replies.{admissionReply, finishingReply, evaluationReply, judgementReply, printingReply}
+use Rattle.parser.specs.declared.Parsing.{Parsing}
+use Rattle.parser.specs.declared.Parsing.the-variants.{Parsed, NotParsed}
+use Rattle.parser.specs.Parsing.{parsing}
+use Rattle.meanings.specs.Numbers.{parseNumbers, NotParsedBy}
+use Rattle.meanings.proofs.Numbers.{parsing-numbers}
+use Rattle.replies.specs.Replies.{admissionReply, finishingReply, evaluationReply, judgementReply, printingReply, parsingReply}
 use Rattle.hiranthok.specs.Laws.{orZero, KnownNumbers, NeverEleven}
 
 -- a reply has the refusal's number, or 0
@@ -60,6 +65,10 @@ module _ (numbers : ℕ → Bool) where
   of-printing (Printed n) h = refl
   of-printing (NotPrinted r) h = refusal (r .number) h
 
+  of-parsing : (a : Parsing) → NotParsedBy numbers a → orZero numbers (parsingReply a .number) ≡ true
+  of-parsing (Parsed n) h = refl
+  of-parsing (NotParsed r) h = refusal (r .number) h
+
 pub known-numbers : KnownNumbers
 known-numbers =
     record {
@@ -72,6 +81,7 @@ known-numbers =
       judge-records = λ w values cells allowance room.
           of-judgement recordNumbers (recorded.judgement w values cells allowance room) (record-numbers.judgement-numbers w values cells allowance room);
       print = λ w room. of-printing printNumbers (printing w room) (printing-numbers w room);
+      parse = λ text room. of-parsing parseNumbers (parsing text room) (parsing-numbers text room);
     }
 
 no-eleven : (number : ℕ) → orZero recordNumbers number ≡ true → number ≡ 11 → ⊥

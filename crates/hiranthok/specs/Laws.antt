@@ -27,7 +27,9 @@ use Rattle.finish.specs.Laws as finishes
 use Rattle.records.specs.Answers as recorded
 use Rattle.records.specs.Laws.{recordNumbers}
 use Rattle.printer.specs.Printing.{printing, printNumbers}
-use Rattle.hiranthok.specs.Replies.{admissionReply, finishingReply, evaluationReply, judgementReply, printingReply}
+use Rattle.parser.specs.Parsing.{parsing}
+use Rattle.meanings.specs.Numbers.{parseNumbers}
+use Rattle.replies.specs.Replies.{admissionReply, finishingReply, evaluationReply, judgementReply, printingReply, parsingReply}
 
 -- Of a finished table f, evaluated through the record entrance: it is refused as the table's setting is, and by 22 and 23; in the setting
 -- of a judgement that is not refused it leaves rule, condition and their conjunction in its room.
@@ -59,6 +61,7 @@ pub record KnownNumbers : Type 0 where
   pub evaluate-records : (w values : List ℕ) (cells : List Cell) (allowance room : ℕ) → orZero recordNumbers (evaluationReply (recorded.evaluation w values cells allowance room) .number) ≡ true
   pub judge-records : (w values : List ℕ) (cells : List Cell) (allowance room : ℕ) → orZero recordNumbers (judgementReply (recorded.judgement w values cells allowance room) .number) ≡ true
   pub print : (w : List ℕ) (room : ℕ) → orZero printNumbers (printingReply (printing w room) .number) ≡ true
+  pub parse : (text : List ℕ) (room : ℕ) → orZero parseNumbers (parsingReply (parsing text room) .number) ≡ true
 
 -- 11 cannot occur over records.
 pub record NeverEleven : Type 0 where

@@ -1,7 +1,5 @@
 // The C interface: each function answers 0, or the refusal's number with its place in answer[0] and the rest of
 // answer 0. include/hiranthok.h declares them.
-mod replies; // the library's answers as C's
-
 use records::Cell;
 use replies::answer_evaluated;
 use replies::answer_judged;
@@ -22,9 +20,12 @@ ghost use Rattle.records.specs.Laws as recorded-laws;
 ghost use Rattle.printer.specs.Printing.{printing};
 ghost use Rattle.printer.specs.Printing as prints;
 ghost use Rattle.printer.specs.Meaning as prints-laws;
+ghost use Rattle.parser.specs.Parsing.{parsing};
+ghost use Rattle.parser.specs.Parsing as parses;
+ghost use Rattle.meanings.specs.Promise as parses-laws;
 ghost use Rattle.hiranthok.specs.Laws.{FinishingRecordPromise};
-ghost use Rattle.hiranthok.specs.Replies.{row, admissionReply, finishingReply, evaluationReply, judgementReply};
-ghost use Rattle.hiranthok.specs.Replies.{printingReply};
+ghost use Rattle.replies.specs.Replies.{row, admissionReply, finishingReply, evaluationReply, judgementReply};
+ghost use Rattle.replies.specs.Replies.{printingReply, parsingReply};
 
 #[no_mangle]
 pub extern "C" fn hiranthok_admit(table: &[u32], answer: &mut [u64; 4]) -> u32
@@ -173,4 +174,19 @@ pub extern "C" fn hiranthok_print(table: &[u32], text: &mut [u8], answer: &mut [
         (printing (now (table .entry)) (length (now (text .entry)))) ⌝ }
 {
     deliver(replies::printing_reply(printer::print(table, text)), answer)
+}
+
+// numbers written
+#[no_mangle]
+pub extern "C" fn hiranthok_parse(text: &[u8], room: &mut [u32], answer: &mut [u64; 4]) -> u32
+    ensures { λ r. ⌜ r ≡ parsingReply (parsing (now (text .entry)) (length (now (room .entry)))) .number ⌝ }
+    ensures { λ r. ⌜ now (answer .exit)
+        ≡ row (parsingReply (parsing (now (text .entry)) (length (now (room .entry))))) ⌝ }
+    ensures { λ r. ⌜ now (room .exit)
+        ≡ parses.roomAfter (parsing (now (text .entry)) (length (now (room .entry)))) (now (text .entry))
+        (now (room .entry)) ⌝ }
+    ensures { λ r. ⌜ parses-laws.ParsingPromise (now (text .entry))
+        (parsing (now (text .entry)) (length (now (room .entry)))) ⌝ }
+{
+    deliver(replies::parsing_reply(parser::parse(text, room)), answer)
 }

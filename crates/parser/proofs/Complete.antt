@@ -1,14 +1,14 @@
 -- Every text of the language is read to its end without a fault, and its table is that of its tree.
 -- Assumes nothing.
 use mathlib.Core.Path.{_≡_, refl, sym, ap, _∙_, subst}
-use mathlib.Core.Bool.{Bool, true, false, _&&_}
+use mathlib.Core.Bool.{Bool, true, false, cond, _&&_}
 use mathlib.Core.List.{List, [], _∷_, _++_, append-nil, append-assoc}
 use Prim.Native.Nat.{ℕ, zero, suc, _+_, _*_, _<_, _≤_}
 use native.Mathlib.Omega.{arith}
 use lib.Dec.{eqb, ltb}
 use lib.ListN.{length, length-append, length-replicate, replicate, take, drop}
 use lib.Seq.{sets, sets-eq, take-at}
-use borrow.Author.Tests.{eq-eqb, ne-eqb, lt-ltb, ltb-true}
+use borrow.Author.Tests.{eq-eqb, ne-eqb, eqb-true, lt-ltb, le-ltb, ltb-true, ltb-false}
 use Rattle.smtlib.specs.Bytes.{isIn}
 use Rattle.smtlib.proofs.Cuts.{and-left, and-right}
 use Rattle.table.specs.declared.words.Sort.{Sort}
@@ -16,18 +16,22 @@ use Rattle.table.specs.declared.words.Term.{Term}
 use Rattle.table.specs.Code.Writing.{placed}
 use Rattle.parser.specs.declared.words.Word.{Word}
 use Rattle.parser.specs.declared.words.Word.the-variants.{Open, Close, Keyword, End}
+use Rattle.parser.specs.declared.states.State.{State}
+use Rattle.parser.specs.declared.states.Listed.{Listed}
 use Rattle.parser.specs.declared.states.Progress.{Progress}
 use Rattle.parser.specs.Words.{marked, tokenAt}
-use Rattle.parser.specs.Expressions.{Work, moreOf, expressionOf}
+use Rattle.parser.specs.Expressions.{Work, Listing, moreOf, number, beginList, joinedTo, operandsBy, operandsOf, expressionOf}
 use Rattle.parser.specs.Rules.{Step, movedTo, isName, variableTerm, andTerm, joinedRule, endedRule, commandOf, commandsOf, start, ruleOf}
-use Rattle.parser.specs.Grammar.{Tree, Declared, Rule, Stands, Named, Sorting, Expression, Declarations, Asserts, Reads}
+use Rattle.parser.specs.Grammar.{Tree, Trees, Declared, Rule, Stands, Named, Sorting, Expression, Operands, Declarations, Asserts, Reads}
 use Rattle.parser.specs.Grammar.Tree.{literal, symbol, apply}
 use Rattle.parser.specs.Grammar.Expression.{constant, name, list}
+use Rattle.parser.specs.Grammar.Operands.{none as no-operand, more as one-operand}
 use Rattle.parser.specs.Grammar.Declarations.{none as undeclared, more as declared}
 use Rattle.parser.specs.Grammar.Asserts.{none as unasserted, more as asserted}
-use Rattle.parser.specs.Trees.{namesOf, distinct, everyTree, knows, within, counted, meets, size, slot, root, sortOfSlot, treeTerms, variables, joins, alone, asserted as assertedTerms, ruleTerms}
+use Rattle.parser.specs.Trees.{namesOf, distinct, everyTree, knows, knowsAll, within, allWithin, count, counted, allCounted, meets, size, sizes, slot, root, sortOfSlot, treeTerms, variables, joins, alone, asserted as assertedTerms, ruleTerms}
 use Rattle.parser.specs.Laws.{numbersOf, Storable, Complete}
-use Rattle.parser.proofs.Accepts.{declared-is, follows}
+use Rattle.parser.proofs.Accepts.{never, Known, declared-is, operandsRead, done-at, constant-at, call-at, operand-at}
+use Rattle.parser.proofs.Accepts.{head-constant, head-name, head-call, closed-close, joined-state, follows}
 use Rattle.parser.proofs.Written.{sortAmong, numbers-length, Holds, placed-more, tree-length, Based, based-more, Wrote, writes}
 use Rattle.parser.proofs.NameLists.{distinct-here, names-append}
 use Rattle.parser.proofs.Onward.{onward, open-onward, close-inside, sort-onward, expression-onward, then-declared}
@@ -43,6 +47,76 @@ zeros = replicate 3072 0
 zeros-long : length zeros ≡ 3072
 zeros-long = length-replicate {A = ℕ} 3072 0
 
+-- The count, whatever it is: that of the terms up to 512, and then 513
+
+number-more : (k : ℕ) → moreOf (number k) ≡ number (suc k)
+number-more k = go (ltb k 513) refl
+  where
+    few : k < 513 → (b : Bool) → ltb (suc k) 513 ≡ b → k + 1 ≡ cond b (suc k) 513
+    few h true e = omega arith
+    few h false e = omega (arith, ltb-false (suc k) 513 e)
+
+    go : (b : Bool) → ltb k 513 ≡ b → moreOf (cond b k 513) ≡ number (suc k)
+    go true e = rw e (few (ltb-true k 513 e) (ltb (suc k) 513) refl)
+    go false e = rw (le-ltb (suc k) 513 (omega (arith, ltb-false k 513 e)))
+
+-- the same count; one term more
+counts-same : {n : ℕ} (k l : ℕ) → n ≡ number k → k ≡ l → n ≡ number l
+counts-same k l e f = e ∙ ap number f
+
+counts-one : {n : ℕ} (k l : ℕ) → n ≡ number k → suc k ≡ l → moreOf n ≡ number l
+counts-one k l e f = ap moreOf e ∙ number-more k ∙ ap number f
+
+record Counts (v : State) (to k : ℕ) : Type 0 where
+  clean : v .fault ≡ 0
+  place : v .at ≡ to
+  many : v .count ≡ number k
+
+module _ (text : List ℕ) (names : ℕ) (ws : List (List ℕ)) (known : Known text names ws) where
+  mutual
+    unfolding operandsBy knows within count counted size
+
+    counts : {from to : ℕ} {t : Tree} → Expression text from t to → (levels : ℕ) (s : State) (room : List ℕ) (k : ℕ)
+        → s .fault ≡ 0 → s .at ≡ from → s .count ≡ number k
+        → knows ws t ≡ true → within levels t ≡ true → counted t ≡ true → expressionOf levels text names s room .state .count ≡ number (k + size t)
+    counts (constant {n = n} {v = v} {to = to} w) levels s room k f e m kn wi co =
+        ap (λ (x : Work). x .state .count) (constant-at text names levels s room n v to (head-constant text names s levels f e w))
+        ∙ counts-one k (k + 1) m (omega arith)
+    counts (name {w = w} n) levels s room k f e m kn wi co =
+        ap (λ (x : Work). x .state .count) (done-at text names levels s room _ (head-name text names s levels f e n (declared-is known w ∙ kn)))
+        ∙ counts-same k (k + 0) m (omega arith)
+    counts (list o p os c) zero s room k f e m kn wi co = absurd (never wi)
+    counts (list {op = op} {b = b} {ts = ts} o p os c) (suc levels) s room k f e m kn wi co =
+        let few = eqb-true (count ts) (operandsOf op) (and-left (eqb (count ts) (operandsOf op)) (allCounted ts) co) in
+        let co′ = and-right (eqb (count ts) (operandsOf op)) (allCounted ts) co in
+        let r = counts-all os levels (operandsOf op) few (beginList s b) room k f refl m kn wi co′ in
+        let l = operandsRead text names levels (operandsOf op) (beginList s b) room .listed in
+        ap (λ (x : Work). x .state .count) (call-at text names levels s room op b (head-call text names s levels f e o p))
+        ∙ ap (λ (x : State). x .count) (closed-close text names levels l (r .clean) (r .place) c)
+        ∙ counts-one (k + sizes ts) (k + suc (sizes ts)) (r .many) (omega arith)
+
+    counts-all : {from to : ℕ} {ts : Trees} → Operands text from ts to → (levels left : ℕ) → count ts ≡ left → (l : Listed) (room : List ℕ) (k : ℕ)
+        → l .state .fault ≡ 0 → l .state .at ≡ from → l .state .count ≡ number k
+        → knowsAll ws ts ≡ true → allWithin levels ts ≡ true → allCounted ts ≡ true
+        → Counts (operandsRead text names levels left l room .listed .state) to (k + sizes ts)
+    counts-all no-operand levels zero n l room k f e m kn wi co = record { clean = f; place = e; many = counts-same k (k + 0) m (omega arith) }
+    counts-all no-operand levels (suc left) n l room k f e m kn wi co = absurd (omega arith)
+    counts-all (one-operand x xs) levels zero n l room k f e m kn wi co = absurd (omega arith)
+    counts-all {to = to} (one-operand {t = t} {ts = ts} x xs) levels (suc left) n l room k f e m kn wi co =
+        let kn′ = and-left (knows ws t) (knowsAll ws ts) kn in
+        let wi′ = and-left (within levels t) (allWithin levels ts) wi in
+        let co′ = and-left (counted t) (allCounted ts) co in
+        let h = follows known x levels (l .state) room f e kn′ wi′ co′ in
+        let v = expressionOf levels text names (l .state) room in
+        let j = joined-state l (v .state) in
+        let f′ = ap (λ (s : State). s .fault) j ∙ h .clean in
+        let e′ = ap (λ (s : State). s .at) j ∙ h .place in
+        let m′ = ap (λ (s : State). s .count) j ∙ counts x levels (l .state) room k f e m kn′ wi′ co′ in
+        let r = counts-all xs levels left (omega arith) (joinedTo l (v .state)) (v .room) (k + size t) f′ e′ m′ (and-right (knows ws t) (knowsAll ws ts) kn)
+        (and-right (within levels t) (allWithin levels ts) wi) (and-right (counted t) (allCounted ts) co) in
+        subst (λ (u : Listing). Counts (u .listed .state) to (k + (size t + sizes ts))) (sym (operand-at text names levels left l room (h .clean)))
+        (record { clean = r .clean; place = r .place; many = counts-same (k + size t + sizes ts) (k + (size t + sizes ts)) (r .many) (omega arith) })
+
 -- the declarations that were read, up to a place, and the asserts: how many, the rule so far, whether it is a bare name; and the terms so far
 record Ready (text : List ℕ) (ds : List Declared) (at n rule : ℕ) (bare : Bool) (xs : List Term) (v : Step) : Type 0 where
   clean : v .progress .state .fault ≡ 0
@@ -52,6 +126,7 @@ record Ready (text : List ℕ) (ds : List Declared) (at n rule : ℕ) (bare : Bo
   asserts-are : v .progress .asserts ≡ n
   bare-is : v .progress .bare ≡ bare
   rule-is : length xs ≤ 512 → v .progress .rule ≡ rule
+  many : v .progress .state .count ≡ number (length xs)
   holds : length xs ≤ 512 → Holds zeros xs (v .progress .state .count) (v .room)
 
 -- asserts more: how many there are then, and whether there is one bare name
@@ -105,6 +180,7 @@ module _ (text : List ℕ) (small : Storable text) (all : List Declared) (apart 
         asserts-are = r .asserts-are;
         bare-is = r .bare-is;
         rule-is = λ i. r .rule-is (omega arith);
+        many = counts-one (length xs) (length (xs ++ (x ∷ []))) (r .many) (omega arith);
         holds = λ i. rw (r .names-are, lt-ltb (length ds) 513 (omega arith)) (placed-more zeros zeros-long xs x (p .state .count) (v .room) (r .holds (omega arith)) (omega arith));
       })
 
@@ -154,6 +230,7 @@ module _ (text : List ℕ) (ds : List Declared) {declared-to : ℕ} (before : De
     clean : g .state .fault ≡ 0
     place : g .state .at ≡ d
     rooted : length (xs ++ treeTerms ds (length xs) t) ≤ 512 → g .state .root ≡ root ds (length xs) t
+    many : g .state .count ≡ number (length (xs ++ treeTerms ds (length xs) t))
     holds : length (xs ++ treeTerms ds (length xs) t) ≤ 512 → Holds zeros (xs ++ treeTerms ds (length xs) t) (g .state .count) (g .room)
 
   abbrev after : Progress → List ℕ → ℕ → ℕ → Work
@@ -172,11 +249,15 @@ module _ (text : List ℕ) (ds : List Declared) {declared-to : ℕ} (before : De
       let sized = tree-length ds (length xs) t in
       let wrote : length (xs ++ treeTerms ds (length xs) t) ≤ 512 → Wrote zeros ds xs t c g =
       λ i. writes zeros zeros-long ds text (p .names) known x 64 s (v .room) xs (r .clean) refl (r .holds (omega arith)) based kn wi co (omega arith) in
+      let many : g .state .count ≡ number (length (xs ++ treeTerms ds (length xs) t)) =
+      counts-same (length xs + size t) (length (xs ++ treeTerms ds (length xs) t))
+      (counts text (p .names) (namesOf ds) known x 64 s (v .room) (length xs) (r .clean) refl (r .many) kn wi co) (omega arith) in
       record {
         is = assert-step text p (v .room) (stands-at (r .place) o) k ∙ assert-there text p s (v .room) g refl (h .clean) (h .place) z;
         clean = h .clean;
         place = refl;
         rooted = λ i. wrote i .rooted;
+        many = many;
         holds = λ i. wrote i .holds;
       }
 
@@ -186,7 +267,7 @@ module _ (text : List ℕ) (ds : List Declared) {declared-to : ℕ} (before : De
   unfolding joinedRule
   first-asserted names n y =
       rw (y .is, eq-eqb _ _ (y .clean), eq-eqb _ _ n)
-      (record { clean = y .clean; place = y .place; names-are = names; going-on = refl; asserts-are = refl; bare-is = refl; rule-is = y .rooted; holds = y .holds })
+      (record { clean = y .clean; place = y .place; names-are = names; going-on = refl; asserts-are = refl; bare-is = refl; rule-is = y .rooted; many = y .many; holds = y .holds })
 
   -- each other is joined to it
   next-asserted : {from d b m rule : ℕ} {bare : Bool} {t : Tree} {v : Step} {xs : List Term} {g : Work} → Ready text ds from (suc m) rule bare xs v → Asserted (v .progress) (v .room) xs t b d g
@@ -207,6 +288,7 @@ module _ (text : List ℕ) (ds : List Declared) {declared-to : ℕ} (before : De
         asserts-are = refl;
         bare-is = refl;
         rule-is = λ i. y .holds (omega arith) .counts ∙ omega arith;
+        many = counts-one (length (xs ++ ys)) (length (xs ++ (ys ++ (x ∷ [])))) (y .many) (omega arith);
         holds = λ i. rw (r .rule-is (omega arith), y .rooted (omega arith)) (subst (λ (l : List Term). Holds zeros l (moreOf (g .state .count)) (placed (g .room) (g .state .count) x)) (append-assoc xs ys (x ∷ [])) (placed-more zeros zeros-long (xs ++ ys) x (g .state .count) (g .room) (y .holds (omega arith)) (omega arith)));
       })
 
@@ -248,6 +330,7 @@ module _ (text : List ℕ) (ds : List Declared) {declared-to : ℕ} (before : De
 record Over (xs : List Term) (v : Step) : Type 0 where
   clean : v .progress .state .fault ≡ 0
   over : v .progress .ended ≡ true
+  many : v .progress .state .count ≡ number (length xs)
   holds : length xs ≤ 512 → Holds zeros xs (v .progress .state .count) (v .room)
 
 -- no bare name alone: nothing is added; a bare name is joined with itself
@@ -256,7 +339,7 @@ ends-joined : {text : List ℕ} {ds : List Declared} {at n rule : ℕ} {bare : B
 unfolding endedRule
 ends-joined {v = v} r e to =
     let f : eqb (v .progress .asserts) 1 && v .progress .bare ≡ false = rw (r .asserts-are, r .bare-is) e in
-    rw (eq-eqb _ _ (r .clean), f) (record { clean = r .clean; over = refl; holds = r .holds })
+    rw (eq-eqb _ _ (r .clean), f) (record { clean = r .clean; over = refl; many = r .many; holds = r .holds })
 
 ends-bare : {text : List ℕ} {ds : List Declared} {at rule : ℕ} {xs : List Term} {v : Step} → Ready text ds at 1 rule true xs v → (to : ℕ)
     → Over (xs ++ (andTerm rule rule ∷ [])) (endedRule (v .progress) (movedTo (v .progress .state) to) (v .room))
@@ -265,7 +348,12 @@ ends-bare {rule = rule} {xs = xs} {v = v} r to =
     let f : eqb (v .progress .asserts) 1 && v .progress .bare ≡ true = rw (r .asserts-are, r .bare-is) in
     let grown = length-append xs (andTerm rule rule ∷ []) in
     rw (eq-eqb _ _ (r .clean), f)
-    (record { clean = refl; over = refl; holds = λ i. rw (r .rule-is (omega arith)) (placed-more zeros zeros-long xs (andTerm rule rule) (v .progress .state .count) (v .room) (r .holds (omega arith)) (omega arith)) })
+    (record {
+      clean = refl;
+      over = refl;
+      many = counts-one (length xs) (length (xs ++ (andTerm rule rule ∷ []))) (r .many) (omega arith);
+      holds = λ i. rw (r .rule-is (omega arith)) (placed-more zeros zeros-long xs (andTerm rule rule) (v .progress .state .count) (v .room) (r .holds (omega arith)) (omega arith));
+    })
 
 -- check-sat is the last command
 ended-now : {text : List ℕ} {ds : List Declared} {from a b c n rule : ℕ} {bare : Bool} {xs ys : List Term} → Stands text from Open a → Stands text a (Keyword 2) b → Stands text b Close c → tokenAt text c .word ≡ End
@@ -281,7 +369,7 @@ ended-now {text} {c = c} {ys = ys} o k z end (suc left) v r fuel u =
 
 -- The variables stand in front
 
-variables-length : (ds : List Declared) (i : ℕ) (es : List Declared) → length (variables ds i es) ≡ length es
+pub variables-length : (ds : List Declared) (i : ℕ) (es : List Declared) → length (variables ds i es) ≡ length es
 unfolding variables
 variables-length ds i [] = refl
 variables-length ds i (d ∷ es) = ap suc (variables-length ds (suc i) es)
@@ -376,7 +464,7 @@ whole text r small d m =
     let vs = variables ds 0 ds in
     let begin : Step = record { progress = start; room = zeros } in
     let first : Ready text [] 0 0 0 false [] begin =
-    record { clean = refl; place = refl; names-are = refl; going-on = refl; asserts-are = refl; bare-is = refl; rule-is = λ i. refl; holds = λ i. record { counts = refl; filled = refl } } in
+    record { clean = refl; place = refl; names-are = refl; going-on = refl; asserts-are = refl; bare-is = refl; rule-is = λ i. refl; many = refl; holds = λ i. record { counts = refl; filled = refl } } in
     let l = all-declared text small ds (and-left a b m₁) [] undeclared (d .declarations) refl (omega arith) (length text + 1) begin [] refl first (omega arith) in
     let ready : Ready text ds (d .declared-to) 0 0 false vs (l .then-is) = subst (λ (i : ℕ). Ready text ds (d .declared-to) 0 i false vs (l .then-is)) (l .rule-same (omega arith)) (l .ready) in
     let o = all-asserted (d .declarations) (d .asserts) (ltb-true _ _ (and-right (a && b && c && e) f m)) (and-right a b m₁) (and-right (a && b) c m₂) (and-right (a && b && c) e m₃)
@@ -393,6 +481,7 @@ complete text r small d m =
     record {
       clean = o .clean;
       counted = λ i. o .holds i .counts;
+      over = λ i. o .many ∙ rw (le-ltb (length (ruleTerms r)) 513 i);
       table = λ i.
           let xs = ruleTerms r in
           let long = zeros-long in

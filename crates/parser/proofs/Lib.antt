@@ -9,7 +9,6 @@ pub mod Declared
 pub mod Moving
 pub mod Cycle
 pub mod Commands
-pub mod Copying
 pub mod Endings
 pub mod Samples
 pub mod RuleSamples

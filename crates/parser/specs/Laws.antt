@@ -3,7 +3,7 @@
 use mathlib.Core.Path.{_≡_}
 use mathlib.Core.Bool.{true}
 use mathlib.Core.List.{List, [], _∷_, _++_}
-use Prim.Native.Nat.{ℕ, _≤_}
+use Prim.Native.Nat.{ℕ, _≤_, _<_}
 use lib.ListN.{length}
 use Rattle.table.specs.declared.words.Term.{Term}
 use Rattle.parser.specs.Rules.{ruleOf}
@@ -30,10 +30,11 @@ Storable text = length text ≤ 4611686018427387904
 abbrev pub Sound : Type 0
 Sound = (text : List ℕ) → Storable text → ruleOf text .progress .state .fault ≡ 0 → Accepted text
 
--- Every text of the language is read without a fault, and its table is that of its tree.
+-- Every text of the language is read without a fault, and its table is that of its tree; beyond 512 terms the count stays 513.
 pub record Tabled (text : List ℕ) (r : Rule) : Type 0 where
   pub clean : ruleOf text .progress .state .fault ≡ 0
   pub counted : length (ruleTerms r) ≤ 512 → ruleOf text .progress .state .count ≡ length (ruleTerms r)
+  pub over : 512 < length (ruleTerms r) → ruleOf text .progress .state .count ≡ 513
   pub table : length (ruleTerms r) ≤ 512 → built text ≡ numbersOf (ruleTerms r)
 
 abbrev pub Complete : Type 0

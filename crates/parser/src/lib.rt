@@ -8,15 +8,21 @@ mod states; // how far a text is read
 mod words; // the words of a text
 
 use crate::states::State;
+pub use names::index_of;
+pub use rules::rule;
 use table::Acceptance;
 use table::Refusal;
 use table::WORDS;
+pub use words::Token;
+pub use words::Word;
+pub use words::all_symbolic;
+pub use words::token_at;
+pub use words::word_of;
 ghost use mathlib.Core.Path.{_≡_};
 ghost use mathlib.Core.Bool.{cond};
-ghost use mathlib.Core.List.{_++_};
 ghost use Prim.Native.Nat.{_*_, _≤_};
 ghost use lib.Dec.{eqb, ltb};
-ghost use lib.ListN.{length, take, drop};
+ghost use lib.ListN.{length, take};
 ghost use Rattle.table.specs.Terms.{words};
 ghost use Rattle.table.specs.Admission.{andThen};
 ghost use Rattle.parser.specs.declared.Parsing.the-variants.{Parsed, NotParsed};
@@ -72,16 +78,6 @@ fn answer(s: State, table: &[u32], room: usize) -> Parsing
     and_then(admission::admit(&table[..end]), sized(s.count, room))
 }
 
-// The table's numbers, at the room's front.
-fn copy(table: &[u32], room: &mut [u32])
-    requires { ⌜ length (now table) ≤ length (now room) ⌝ }
-    ensures { λ _. ⌜ now (room .exit) ≡ now (table .entry) ++ drop (length (now (table .entry))) (now (room .entry)) ⌝ }
-{
-    for i in 0..table.len() {
-        room[i] = table[i];
-    }
-}
-
 // How many numbers the room is given: none by a refusal.
 fn given(r: Parsing) -> usize
     ensures { λ n. ⌜ n ≡ givenBy r ⌝ }
@@ -101,6 +97,6 @@ pub fn parse(text: &[u8], room: &mut [u32]) -> Parsing
     let s = rules::rule(text, &mut table).state;
     let r = answer(s, &table, room.len());
     let end = given(r);
-    copy(&table[..end], room);
+    table::copy(&table[..end], room);
     r
 }

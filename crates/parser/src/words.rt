@@ -178,7 +178,7 @@ fn all_between(low: u8, high: u8, word: &[u8], at: usize) -> bool
     true
 }
 
-fn all_symbolic(word: &[u8]) -> bool
+pub fn all_symbolic(word: &[u8]) -> bool
     ensures { λ r. ⌜ r ≡ every symbolic (now (word .entry)) ⌝ }
 {
     let mut i = 0;

@@ -1,6 +1,6 @@
 use mathlib.Core.Path.{ap, _∙_}
-use Rattle.hiranthok.specs.declared.replies.Reply.{Reply}
-use Rattle.hiranthok.specs.Replies.{row, admissionReply}
+use Rattle.replies.specs.declared.Reply.{Reply}
+use Rattle.replies.specs.Replies.{row, admissionReply}
 use borrow.Author.Needs.{needs}
 use Rattle.hiranthok.proofs.hiranthok_admit.Statement.{statement}
 use Rattle.hiranthok.proofs.hiranthok_admit.Tie as tie

@@ -1,7 +1,7 @@
 use mathlib.Core.Path.{ap, _∙_}
 use Rattle.evaluate.specs.declared.Evaluation.{Evaluation}
 use Rattle.evaluate.specs.Evaluation.{roomAfter}
-use Rattle.hiranthok.specs.Replies.{row, evaluationReply}
+use Rattle.replies.specs.Replies.{row, evaluationReply}
 use borrow.Author.Needs.{needs}
 use Rattle.hiranthok.proofs.hiranthok_evaluate.Statement.{statement}
 use Rattle.hiranthok.proofs.hiranthok_evaluate.Tie as tie

@@ -3,8 +3,8 @@ use lib.ListN.{length}
 use Rattle.finish.specs.declared.Finishing.{Finishing}
 use Rattle.finish.specs.Finished.{finishing, roomAfter}
 use Rattle.finish.specs.Laws.{FinishingPromise}
-use Rattle.hiranthok.specs.declared.replies.Reply.{Reply}
-use Rattle.hiranthok.specs.Replies.{row, finishingReply}
+use Rattle.replies.specs.declared.Reply.{Reply}
+use Rattle.replies.specs.Replies.{row, finishingReply}
 use Rattle.hiranthok.proofs.Across.{finished-for-records}
 use borrow.Author.Needs.{needs}
 use Rattle.hiranthok.proofs.hiranthok_finish.Statement.{statement}

@@ -4,7 +4,7 @@ use Rattle.judge.specs.declared.Judgement.{Judgement}
 use Rattle.judge.specs.Judgement.{roomAfter}
 use Rattle.judge.specs.Demand3.{JudgementPromise}
 use Rattle.records.proofs.Demand.{flat-demand3}
-use Rattle.hiranthok.specs.Replies.{row, judgementReply}
+use Rattle.replies.specs.Replies.{row, judgementReply}
 use borrow.Author.Needs.{needs}
 use Rattle.hiranthok.proofs.hiranthok_judge.Statement.{statement}
 use Rattle.hiranthok.proofs.hiranthok_judge.Tie as tie

@@ -52,13 +52,13 @@ use Rattle.records.proofs.judge_records as callee
 use Rattle.records.proofs.judge_records.Symbol as callee-def
 use Rattle.records.proofs.judge_records.Symbol.{name as #callee}
 use Rattle.records.proofs.judge_records.Met as callee-thm
-use Rattle.hiranthok.specs.Replies.{row}
-use Rattle.hiranthok.specs.Replies as replies
+use Rattle.replies.specs.Replies.{row}
+use Rattle.replies.specs.Replies as replies
 use Rattle.hiranthok.proofs.Facts.{four, together-three}
-use Rattle.hiranthok.proofs.replies.answer_judged as reply
-use Rattle.hiranthok.proofs.replies.answer_judged.Symbol as reply-def
-use Rattle.hiranthok.proofs.replies.answer_judged.Symbol.{name as #reply}
-use Rattle.hiranthok.proofs.replies.answer_judged.Met as reply-thm
+use Rattle.replies.proofs.answer_judged as reply
+use Rattle.replies.proofs.answer_judged.Symbol as reply-def
+use Rattle.replies.proofs.answer_judged.Symbol.{name as #reply}
+use Rattle.replies.proofs.answer_judged.Met as reply-thm
 use Rattle.hiranthok.proofs.hiranthok_judge_records.Key.{name as #entrance}
 use Rattle.hiranthok.proofs.hiranthok_judge_records as entrance
 use Rattle.hiranthok.proofs.hiranthok_judge_records.Statement as stated
@@ -253,5 +253,5 @@ hiranthok-judge-records-spec 𝓤 H 𝓜 𝓖 𝓡 =
     (tables 𝓤 H 𝓜 𝓡 code.env .C) (tables 𝓤 H 𝓜 𝓡 code.env .Λ) #entrance code.function (code.unfolded 𝓤 H 𝓜 𝓡)
     (meets 𝓤 H (𝓖 .A) (givenOf 𝓤 H 𝓜 𝓖) (𝓜 .mem) (𝓡 .run) (tablesOf 𝓤 H 𝓜 (tables 𝓤 H 𝓜 𝓡 code.env)) (record {
       callee = cited 𝓤 H (Callee 𝓤 H (𝓖 .A) (𝓜 .mem) (𝓡 .run)) 𝓜 𝓡 code.env #callee callee-def.routine code.calls-records·judge-records (callee-thm.met 𝓤 H 𝓜 𝓖 𝓡);
-      reply = cited 𝓤 H (ReplyC 𝓤 H (𝓖 .A) (𝓜 .mem) (𝓡 .run)) 𝓜 𝓡 code.env #reply reply-def.routine code.calls-hiranthok·replies·answer-judged (reply-thm.met 𝓤 H 𝓜 𝓖 𝓡);
+      reply = cited 𝓤 H (ReplyC 𝓤 H (𝓖 .A) (𝓜 .mem) (𝓡 .run)) 𝓜 𝓡 code.env #reply reply-def.routine code.calls-replies·answer-judged (reply-thm.met 𝓤 H 𝓜 𝓖 𝓡);
     }))

@@ -2,8 +2,8 @@ use mathlib.Core.Path.{ap, subst, _∙_}
 use Rattle.printer.specs.declared.Printing.{Printing}
 use Rattle.printer.specs.Printing.{roomAfter}
 use Rattle.printer.specs.Meaning.{PrintingPromise}
-use Rattle.hiranthok.specs.declared.replies.Reply.{Reply}
-use Rattle.hiranthok.specs.Replies.{row, printingReply}
+use Rattle.replies.specs.declared.Reply.{Reply}
+use Rattle.replies.specs.Replies.{row, printingReply}
 use borrow.Author.Needs.{needs}
 use Rattle.hiranthok.proofs.hiranthok_print.Statement.{statement}
 use Rattle.hiranthok.proofs.hiranthok_print.Tie as tie

@@ -1,0 +1,16 @@
+pub mod Spellings
+pub mod Following
+pub mod Expressing
+pub mod Commanding
+pub mod Earliest
+pub mod Carrying
+pub mod Alike
+pub mod Counting
+pub mod Chunks
+pub mod Answering
+pub mod Accepting
+pub mod Deriving
+pub mod Reading
+pub mod Spacing
+pub mod Finishing
+pub mod Samples

@@ -1,0 +1,5 @@
+pub mod Spelling
+pub mod Prefixes
+pub mod Sentences
+pub mod Laws
+pub mod Rows

@@ -65,7 +65,7 @@ fn commenting() -> Lexer
 }
 
 // The number with one digit more. At 2^32 or more it stays.
-fn next_value(value: u64, b: u8) -> u64
+pub fn next_value(value: u64, b: u8) -> u64
     ensures { λ r. ⌜ r ≡ nextValue value b ⌝ }
 {
     if digit(b) & (value < 4294967296) {

@@ -6,15 +6,18 @@ mod parser; // parts
 mod places; // lines and columns
 mod room; // numbers
 
+pub use bytes::digit;
+pub use bytes::white;
+pub use lexer::next_value;
 pub use lines::OddLine;
 use parser::Parser;
 pub use parser::Run;
 use parser::refuse_unless;
-use places::back_to;
-use places::byte_at;
-use places::column_at;
-use places::line_at;
-use places::lower;
+pub use places::back_to;
+pub use places::byte_at;
+pub use places::column_at;
+pub use places::line_at;
+pub use places::lower;
 ghost use mathlib.Core.Path.{_≡_};
 ghost use Prim.Native.Nat.{_≤_};
 ghost use lib.ListN.{length, getD};

@@ -90,30 +90,44 @@ pub fn status_of(command: u32, outcome: Outcome) -> u32
 }
 
 // The line before an answer that is one of several.
-pub fn put_heading(page: &mut [u8], request: Request, path: &[u8]) -> usize {
+pub fn put_heading(page: &mut [u8], request: Request, path: &[u8], setting: &[u8]) -> usize {
     if (request.command == arguments::JUDGE) | request.json | !request.several {
         return 0;
     }
-    report::put_heading(page, 0, path, request.first)
+    report::put_heading(page, 0, path, setting, request.first)
 }
 
 // A judgement: its verdict.
-fn put_verdict(page: &mut [u8], at: usize, request: Request, path: &[u8], v: Verdict) -> usize {
+fn put_verdict(
+    page: &mut [u8],
+    at: usize,
+    request: Request,
+    path: &[u8],
+    setting: &[u8],
+    v: Verdict,
+) -> usize {
     if request.json {
-        return report::put_json_verdict(page, at, path, v);
+        return report::put_json_verdict(page, at, path, setting, v);
     }
     if request.several {
-        return report::put_outcome(page, at, path, v);
+        return report::put_outcome(page, at, path, setting, v);
     }
     report::put_verdict(page, at, v)
 }
 
 // A judgement: its picture.
-fn put_picture(page: &mut [u8], at: usize, request: Request, table: &[u32], room: &[u32]) -> usize {
+fn put_picture(
+    page: &mut [u8],
+    at: usize,
+    request: Request,
+    names: &[u8],
+    table: &[u32],
+    room: &[u32],
+) -> usize {
     if request.command == arguments::TREE {
-        return trees::put_tree(page, at, table, room, request.color);
+        return trees::put_tree(page, at, names, table, room, request.color);
     }
-    graphs::put_graph(page, at, table, room)
+    graphs::put_graph(page, at, names, table, room)
 }
 
 // A judgement: its explanation.
@@ -122,16 +136,19 @@ fn put_explanation(
     at: usize,
     json: bool,
     path: &[u8],
+    setting: &[u8],
+    rule: &[u8],
+    names: &[u8],
     table: &[u32],
     room: &[u32],
     v: Verdict,
 ) -> usize {
     if json {
-        let open = report::put_json_judgement(page, at, path, v);
-        return reasons::put_json_reasons(page, open, table, room);
+        let open = report::put_json_judgement(page, at, path, setting, v);
+        return reasons::put_json_reasons(page, open, names, table, room);
     }
-    let to = report::put_judgement(page, at, table, room, v);
-    reasons::put_reasons(page, to, table, room, v.rule, v.condition)
+    let to = report::put_judgement(page, at, names, rule, table, room, v);
+    reasons::put_reasons(page, to, names, table, room, v.rule, v.condition)
 }
 
 fn put_judged(
@@ -139,23 +156,92 @@ fn put_judged(
     at: usize,
     request: Request,
     path: &[u8],
+    setting: &[u8],
+    rule: &[u8],
+    names: &[u8],
     table: &[u32],
     room: &[u32],
     v: Verdict,
 ) -> usize {
     if request.command == arguments::JUDGE {
-        return put_verdict(page, at, request, path, v);
+        return put_verdict(page, at, request, path, setting, v);
     }
     if request.command == arguments::EXPLAIN {
-        return put_explanation(page, at, request.json, path, table, room, v);
+        return put_explanation(
+            page,
+            at,
+            request.json,
+            path,
+            setting,
+            rule,
+            names,
+            table,
+            room,
+            v,
+        );
     }
-    put_picture(page, at, request, table, room)
+    put_picture(page, at, request, names, table, room)
+}
+
+// The line of a case's text, or of a setting's, that a refusal is about.
+fn line_of(setting: &[u8], text: &[u8], names: &[u8], table: &[u32], r: Refusal) -> u64 {
+    if setting.len() == 0 {
+        return report::refusal_line(text, table, r);
+    }
+    forms::setting_line(text, names, table, r)
 }
 
 fn put_refusal(
     page: &mut [u8],
     at: usize,
     json: bool,
+    path: &[u8],
+    setting: &[u8],
+    names: &[u8],
+    text: &[u8],
+    table: &[u32],
+    values: &[u32],
+    cells: &[u32],
+    allowance: u64,
+    r: Refusal,
+) -> usize {
+    let line = line_of(setting, text, names, table, r);
+    if json {
+        return report::put_json_refusal(
+            page,
+            at,
+            names,
+            path,
+            setting,
+            line,
+            table,
+            values,
+            cells,
+            allowance,
+            r,
+        );
+    }
+    if setting.len() != 0 {
+        return report::put_refusal(
+            page,
+            at,
+            names,
+            setting,
+            line,
+            table,
+            values,
+            cells,
+            allowance,
+            r,
+        );
+    }
+    put_case_refusal(page, at, path, text, table, values, cells, allowance, r)
+}
+
+// The refusal of a case, and the note on its table.
+pub fn put_case_refusal(
+    page: &mut [u8],
+    at: usize,
     path: &[u8],
     text: &[u8],
     table: &[u32],
@@ -164,18 +250,32 @@ fn put_refusal(
     allowance: u64,
     r: Refusal,
 ) -> usize {
-    if json {
-        return report::put_json_refusal(page, at, path, text, table, values, cells, allowance, r);
-    }
-    report::put_refusal(page, at, path, text, table, values, cells, allowance, r)
+    let line = report::refusal_line(text, table, r);
+    let to = report::put_refusal(
+        page,
+        at,
+        b"",
+        path,
+        line,
+        table,
+        values,
+        cells,
+        allowance,
+        r,
+    );
+    report::put_note(page, to, path, text, r)
 }
 
-// An outcome.
+// An outcome. Of a case the setting's path, the rule's text and the names are empty, and the text is the case's; of a
+// rule the text is the setting's.
 pub fn put_outcome(
     page: &mut [u8],
     at: usize,
     request: Request,
     path: &[u8],
+    setting: &[u8],
+    rule: &[u8],
+    names: &[u8],
     text: &[u8],
     table: &[u32],
     values: &[u32],
@@ -185,8 +285,19 @@ pub fn put_outcome(
     outcome: Outcome,
 ) -> usize {
     match outcome {
-        Outcome::OfRule(v) => put_judged(page, at, request, path, table, room, v),
-        Outcome::OfTerms(spent) => report::put_evaluation(page, at, table, room, spent),
+        Outcome::OfRule(v) => put_judged(
+            page,
+            at,
+            request,
+            path,
+            setting,
+            rule,
+            names,
+            table,
+            room,
+            v,
+        ),
+        Outcome::OfTerms(spent) => report::put_evaluation(page, at, names, table, room, spent),
         Outcome::OfTable(e) => forms::put_finished(
             page,
             at,
@@ -203,6 +314,8 @@ pub fn put_outcome(
             at,
             request.json,
             path,
+            setting,
+            names,
             text,
             table,
             values,

@@ -4,6 +4,7 @@ ghost use lib.ListN.{length};
 ghost use Rattle.cases.specs.Reading.{Placed};
 use crate::answers;
 use crate::printed;
+use crate::rules;
 use cases::Case;
 use cases::Parsing;
 use finish::Finishing;
@@ -11,8 +12,9 @@ use printer::Printing;
 use request::arguments;
 use request::arguments::Request;
 use request::status;
+use request::status::Answer;
 
-const SMALL: usize = 65536;
+pub const SMALL: usize = 65536;
 
 fn small_text() -> [u8; SMALL] {
     [0u8; SMALL]
@@ -23,21 +25,21 @@ fn large_text() -> [u8; cases::BYTE_LIMIT + 1] {
 }
 
 // The numbers of a text of so many bytes are at most half as many.
-fn small_numbers() -> [u32; 32768] {
+pub fn small_numbers() -> [u32; 32768] {
     [0u32; 32768]
 }
 
-fn large_numbers() -> [u32; cases::NUMBER_LIMIT] {
+pub fn large_numbers() -> [u32; cases::NUMBER_LIMIT] {
     [0u32; cases::NUMBER_LIMIT]
 }
 
 // For the work of a command: a value for each of 5,461 terms, or of 80,000; a finished table, of up to 512 + 3 + 145 *
 // 512 terms.
-fn small_room() -> [u32; 8190] {
+pub fn small_room() -> [u32; 8190] {
     [0u32; 8190]
 }
 
-fn large_room() -> [u32; 80000] {
+pub fn large_room() -> [u32; 80000] {
     [0u32; 80000]
 }
 
@@ -55,12 +57,12 @@ fn long_text() -> [u8; 7054639] {
 }
 
 // The status after the page is written.
-fn written(page: &[u8], at: usize, ends: u32) -> u32 {
+pub fn written(page: &[u8], at: usize, ends: u32) -> u32 {
     ops::ite(page::end(page, at), ends, status::BROKEN)
 }
 
 // Whether a request is for solver text.
-fn prints(request: Request) -> bool {
+pub fn prints(request: Request) -> bool {
     arguments::FINISH < request.command
 }
 
@@ -80,10 +82,13 @@ fn print_parts(
     printed::put(path, case, table, values, cells, allowance, text, answer)
 }
 
-// Answers a request on the parts of a case.
-fn answer_parts(
+// Answers a request on the parts of a case, or on a rule and the parts of its setting: see `answers::put_outcome`.
+pub fn answer_parts(
     request: Request,
     path: &[u8],
+    setting: &[u8],
+    rule: &[u8],
+    names: &[u8],
     text: &[u8],
     table: &[u32],
     values: &[u32],
@@ -111,12 +116,15 @@ fn answer_parts(
         return ends;
     }
     let mut page = io::buffer();
-    let at = answers::put_heading(&mut page, request, path);
+    let at = answers::put_heading(&mut page, request, path, setting);
     let to = answers::put_outcome(
         &mut page,
         at,
         request,
         path,
+        setting,
+        rule,
+        names,
         text,
         table,
         values,
@@ -143,7 +151,19 @@ fn answer_case(
     let values = forms::part(numbers, case.values);
     let cells = forms::part(numbers, case.cells);
     let allowance = table::number_at(numbers, case.allowance) as u64;
-    answer_parts(request, path, text, table, values, cells, allowance, room)
+    answer_parts(
+        request,
+        path,
+        b"",
+        b"",
+        b"",
+        text,
+        table,
+        values,
+        cells,
+        allowance,
+        room,
+    )
 }
 
 // Answers a request on a text, in rooms for its numbers and for the work.
@@ -166,11 +186,8 @@ fn answer_text(
     }
 }
 
-// Prints the table of a case in the longest rooms, which no table is too long for.
-fn print_long(command: u32, numbers: &[u32], case: Case) -> u32
-    requires { ⌜ Placed case (length (now numbers)) ⌝ }
-{
-    let table = forms::part(numbers, case.table);
+// Prints a table in the longest rooms, which no table is too long for.
+fn print_long(command: u32, table: &[u32]) -> u32 {
     let mut room = finish_room();
     let mut text = long_text();
     let answer = printed::print(command, table, &mut room, &mut text);
@@ -180,14 +197,8 @@ fn print_long(command: u32, numbers: &[u32], case: Case) -> u32
     }
 }
 
-// Finishes the table of a case in the longest room, which no table is too long for.
-fn finish_long(numbers: &[u32], case: Case) -> u32
-    requires { ⌜ Placed case (length (now numbers)) ⌝ }
-{
-    let table = forms::part(numbers, case.table);
-    let values = forms::part(numbers, case.values);
-    let cells = forms::part(numbers, case.cells);
-    let allowance = table::number_at(numbers, case.allowance) as u64;
+// Finishes a table in the longest room, which no table is too long for.
+fn finish_long(table: &[u32], values: &[u32], cells: &[u32], allowance: u64) -> u32 {
     let mut room = finish_room();
     let mut page = io::buffer();
     let answer = finish::finish(table, &mut room);
@@ -212,16 +223,30 @@ fn finish_long(numbers: &[u32], case: Case) -> u32
 
 // A command that needs the longest rooms. The call for a text stands twice, so that its rooms are not put into this
 // function's frame.
+pub fn parts_long(
+    command: u32,
+    table: &[u32],
+    values: &[u32],
+    cells: &[u32],
+    allowance: u64,
+) -> u32 {
+    if command == arguments::PRINT {
+        return print_long(arguments::PRINT, table);
+    }
+    if command == arguments::PRINT_FINISHED {
+        return print_long(arguments::PRINT_FINISHED, table);
+    }
+    finish_long(table, values, cells, allowance)
+}
+
 fn case_long(command: u32, numbers: &[u32], case: Case) -> u32
     requires { ⌜ Placed case (length (now numbers)) ⌝ }
 {
-    if command == arguments::PRINT {
-        return print_long(arguments::PRINT, numbers, case);
-    }
-    if command == arguments::PRINT_FINISHED {
-        return print_long(arguments::PRINT_FINISHED, numbers, case);
-    }
-    finish_long(numbers, case)
+    let table = forms::part(numbers, case.table);
+    let values = forms::part(numbers, case.values);
+    let cells = forms::part(numbers, case.cells);
+    let allowance = table::number_at(numbers, case.allowance) as u64;
+    parts_long(command, table, values, cells, allowance)
 }
 
 // Answers a command on a text that was read before.
@@ -261,34 +286,47 @@ fn answer_small(request: Request, path: &[u8], text: &[u8]) -> u32 {
     ends
 }
 
-// Answers a request on an open file. The call for a large one stands twice, so that its rooms are not put into this
-// function's frame.
-fn answer_open(request: Request, path: &[u8], fd: i32) -> u32 {
-    let mut text = small_text();
-    let got = io::read_full(fd, &mut text);
-    if got == SMALL {
+// Answers a request on an open file that is no rule, whose first bytes are read. The call for a large one stands twice, so
+// that its rooms are not put into this function's frame.
+fn answer_front(request: Request, path: &[u8], fd: i32, front: &[u8]) -> u32 {
+    if front.len() == SMALL {
         if fd == 0 {
-            return answer_large(request, path, 0, &text[..got]);
+            return answer_large(request, path, 0, front);
         }
-        return answer_large(request, path, fd, &text[..got]);
+        return answer_large(request, path, fd, front);
     }
     if !forms::ended_well(path, fd) {
         return status::ERROR;
     }
-    answer_small(request, path, &text[..got])
+    answer_small(request, path, front)
+}
+
+// Answers a request on an open file. A rule takes the next file as its setting.
+fn answer_open(request: Request, path: &[u8], fd: i32) -> Answer {
+    let mut text = small_text();
+    let got = io::read_full(fd, &mut text);
+    if outline::is_rule(&text[..got]) {
+        let asked = arguments::of_rule(request);
+        return status::paired(rules::answer_rule(asked, path, fd, &text[..got]));
+    }
+    if arguments::crowded(request) {
+        forms::complain_of(path, forms::CROWDED);
+        return status::paired(status::ERROR);
+    }
+    status::alone(answer_front(request, path, fd, &text[..got]))
 }
 
 // Answers a request on the file of a name; a hyphen is standard input.
-pub fn answer_file(request: Request, path: &[u8]) -> u32 {
+pub fn answer_file(request: Request, path: &[u8]) -> Answer {
     if arguments::hyphen(path) {
         return answer_open(request, path, 0);
     }
     let fd = os::open_read(path);
     if fd < 0 {
         os::fail(path);
-        return status::ERROR;
+        return status::alone(status::ERROR);
     }
-    let ends = answer_open(request, path, fd);
+    let answer = answer_open(request, path, fd);
     libc::close(fd);
-    ends
+    answer
 }

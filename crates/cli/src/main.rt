@@ -1,7 +1,8 @@
-// The program: commands on case files (docs/PROGRAM.md). Its status goes to descriptor 3.
+// The program: commands on case files and rules (docs/PROGRAM.md). Its status goes to descriptor 3.
 mod answers; // a command on a case
 mod files; // reading a file, in a small room or a large one
 mod printed; // the commands print and print-finished
+mod rules; // a rule and its setting
 
 use libc::STDERR_FILENO;
 use request::arguments;
@@ -9,19 +10,23 @@ use request::arguments::Options;
 use request::status;
 use request::status::Run;
 
-// One argument after the command: an option is passed by, a file is answered.
-fn answer_argument(command: u32, options: Options, i: usize, run: Run) -> Run {
+// One argument after the command: an option is passed by, a file is answered; a setting was, with its rule.
+fn answer_argument(command: u32, options: Options, i: usize, count: usize, run: Run) -> Run {
     let mut word = io::buffer();
     let length = os::arg(i, &mut word);
     if os::errno() != 0 {
         os::fail(b"hiranthok: a file name");
-        return status::after(run, status::ERROR);
+        return status::after(run, status::alone(status::ERROR));
     }
     let kind = arguments::kind_of(&word[..length], run.ended);
     if kind != arguments::FILE {
         return status::passed_by(run, kind == arguments::END);
     }
-    let request = arguments::request_of(command, options, run.answers);
+    if run.paired {
+        return status::settled(run);
+    }
+    let next = arguments::next_file(std::num::wrapping_add_usize(i, 1), count, run.ended);
+    let request = arguments::request_of(command, options, run.answers, next);
     status::after(run, files::answer_file(request, &word[..length]))
 }
 
@@ -30,7 +35,7 @@ fn answer_all(command: u32, options: Options, count: usize) -> Run {
     let mut run = status::begun();
     for i in 2..count {
         if run.status != status::BROKEN {
-            run = answer_argument(command, options, i, run);
+            run = answer_argument(command, options, i, count, run);
         }
     }
     run

@@ -73,7 +73,17 @@ fn put_refusal(
         return ends;
     }
     let mut page = io::large_buffer();
-    let at = report::put_refusal(&mut page, 0, path, case, table, values, cells, allowance, r);
+    let at = answers::put_case_refusal(
+        &mut page,
+        0,
+        path,
+        case,
+        table,
+        values,
+        cells,
+        allowance,
+        r,
+    );
     let count = page::filled(&page, at);
     io::write_all(STDERR_FILENO, &page[..count]);
     ends

@@ -6,6 +6,7 @@ fn say(page: &mut [u8], at: usize, n: u32, numbers: Numbers) -> usize {
     page::fill(
         page,
         at,
+        b"",
         b"; # terms. C(rule) is term #; the last, term #, is (and t# t#).$table$
 # # # # # #$
 values

@@ -18,7 +18,7 @@ fn set(bytes: &mut [u8], i: usize, byte: u8) {
 }
 
 // Copies some bytes to the front of others.
-fn copy(from: &[u8], to: &mut [u8]) {
+pub fn copy(from: &[u8], to: &mut [u8]) {
     for i in 0..from.len() {
         set(to, i, from[i]);
     }

@@ -6,13 +6,14 @@ use page::two;
 use table::Term;
 use table::number_at;
 
-fn say(page: &mut [u8], at: usize, n: u32, numbers: Numbers) -> usize {
+fn say(page: &mut [u8], at: usize, names: &[u8], n: u32, numbers: Numbers) -> usize {
     show::put(
         page,
         at,
+        names,
         b"t# [label=\"t# ! = ?\", shape=&, fillcolor=&];$
-t# [label=\"t# slot # = ?\", shape=&, fillcolor=&];$
-t# [label=\"t# slot #: array\", shape=&, fillcolor=&];$
+t# [label=\"t# / = ?\", shape=&, fillcolor=&];$
+t# [label=\"t# /: array\", shape=&, fillcolor=&];$
 t# [label=\"t# !\", shape=&, fillcolor=&];$
 t# -> t#;$
 t# -> t# [style=bold];$
@@ -53,7 +54,15 @@ fn style(x: Term, free: bool) -> Numbers {
     two(shape, ops::ite(marked, 12, color))
 }
 
-fn put_node(page: &mut [u8], at: usize, k: u32, x: Term, value: u32, free: bool) -> usize {
+fn put_node(
+    page: &mut [u8],
+    at: usize,
+    names: &[u8],
+    k: u32,
+    x: Term,
+    value: u32,
+    free: bool,
+) -> usize {
     let last = style(x, free);
     let held = page::value(x.sort.n == 0, value);
     let name = ops::ite(x.op == 1, x.p, x.op);
@@ -65,6 +74,7 @@ fn put_node(page: &mut [u8], at: usize, k: u32, x: Term, value: u32, free: bool)
     say(
         page,
         at,
+        names,
         line_of(x),
         page::push(k, page::push(k, page::push(name, numbers))),
     )
@@ -99,6 +109,7 @@ fn blames(table: &[u32], values: &[u32], truths: &[u32], x: Term, k: u32) -> boo
 fn put_edges(
     page: &mut [u8],
     at: usize,
+    names: &[u8],
     table: &[u32],
     values: &[u32],
     truths: &[u32],
@@ -110,7 +121,7 @@ fn put_edges(
     for i in 0..show::operands(x.op) {
         let j = operand(x, i);
         let bold = on & blames(table, values, truths, x, j);
-        to = say(page, to, ops::ite(bold, 5, 4), two(k, j));
+        to = say(page, to, names, ops::ite(bold, 5, 4), two(k, j));
     }
     to
 }
@@ -119,6 +130,7 @@ fn put_edges(
 fn put_blames(
     page: &mut [u8],
     at: usize,
+    names: &[u8],
     table: &[u32],
     values: &[u32],
     truths: &[u32],
@@ -132,7 +144,7 @@ fn put_blames(
         if !blamed(truths, s) | is_operand(x, j) {
             continue;
         }
-        to = say(page, to, 6, two(k, j));
+        to = say(page, to, names, 6, two(k, j));
     }
     to
 }
@@ -141,6 +153,7 @@ fn put_blames(
 fn put_term(
     page: &mut [u8],
     at: usize,
+    names: &[u8],
     table: &[u32],
     values: &[u32],
     truths: &[u32],
@@ -149,10 +162,10 @@ fn put_term(
 ) -> usize {
     let x = table::term_at(table, k);
     let free = explain::free_at(truths, k);
-    let node = put_node(page, at, k, x, number_at(values, k), free);
-    let to = put_edges(page, node, table, values, truths, k, on);
+    let node = put_node(page, at, names, k, x, number_at(values, k), free);
+    let to = put_edges(page, node, names, table, values, truths, k, on);
     if on {
-        return put_blames(page, to, table, values, truths, k);
+        return put_blames(page, to, names, table, values, truths, k);
     }
     to
 }
@@ -160,6 +173,7 @@ fn put_term(
 fn put_terms(
     page: &mut [u8],
     at: usize,
+    names: &[u8],
     table: &[u32],
     values: &[u32],
     truths: &[u32],
@@ -168,7 +182,16 @@ fn put_terms(
 ) -> usize {
     let mut to = at;
     for k in 0..terms {
-        to = put_term(page, to, table, values, truths, k, number_at(way, k) == 1);
+        to = put_term(
+            page,
+            to,
+            names,
+            table,
+            values,
+            truths,
+            k,
+            number_at(way, k) == 1,
+        );
     }
     to
 }
@@ -176,22 +199,23 @@ fn put_terms(
 fn put_all(
     page: &mut [u8],
     at: usize,
+    names: &[u8],
     table: &[u32],
     values: &[u32],
     truths: &[u32],
     terms: u32,
 ) -> usize {
     let way = explain::way(table, values, truths, terms);
-    let start = say(page, at, 7, none());
-    let to = put_terms(page, start, table, values, truths, &way, terms);
-    say(page, to, 8, none())
+    let start = say(page, at, names, 7, none());
+    let to = put_terms(page, start, names, table, values, truths, &way, terms);
+    say(page, to, names, 8, none())
 }
 
 // The rule of a judgement whose room is the values, then the conditions' truths.
-pub fn put_graph(page: &mut [u8], at: usize, table: &[u32], room: &[u32]) -> usize {
+pub fn put_graph(page: &mut [u8], at: usize, names: &[u8], table: &[u32], room: &[u32]) -> usize {
     let terms = show::terms_within(table, 512);
     let middle = show::front(terms, room);
     let values = &room[..middle];
     let truths = &room[middle..];
-    put_all(page, at, table, values, truths, terms)
+    put_all(page, at, names, table, values, truths, terms)
 }

@@ -19,6 +19,7 @@ pub use numbers::truth;
 pub use numbers::two;
 pub use numbers::value;
 pub use texts::fill;
+pub use texts::name_width;
 
 const BROKEN: usize = 18446744073709551615;
 

@@ -1,7 +1,8 @@
 // Messages: a line of a text with numbers put in. In a line
 //   #   is the next number, ? the next as a number or a word
 //   !   the operator that the next number counts: constant, variable, or SMT-LIB's name
-//   @   the line of the names that the next number counts, and & that of the text; there all of this holds, but no
+//   +   the term that the next number counts, and / the slot, by its line of the names; without one by t5 and slot 5
+//   @   the line of the words that the next number counts, and & that of the text; there all of this holds, but no
 //       more than two lines stand in each other
 //   $   the end of a printed line
 //   ~   starts a column, and *Z fills it with spaces, one at least, to so many places as Z is a letter
@@ -39,25 +40,53 @@ fn line_at(text: &[u8], n: u64) -> usize {
     text.len()
 }
 
-// The byte at a place of a text, or past its end of the names.
-fn byte_at(text: &[u8], names: &[u8], i: usize) -> u8 {
+// The byte at a place of a text, or past its end of the words.
+fn byte_at(text: &[u8], words: &[u8], i: usize) -> u8 {
     if i < text.len() {
         return text[i];
     }
     let k = i - text.len();
-    if k < names.len() { names[k] } else { b'\n' }
+    if k < words.len() { words[k] } else { b'\n' }
 }
 
-// Line `n` of a text as it is.
-pub fn put_line(page: &mut [u8], at: usize, text: &[u8], n: u64) -> usize {
+// Line `n` of a text as it is; of a longer one the first 64 bytes, and three dots.
+fn put_line(page: &mut [u8], at: usize, text: &[u8], n: u64) -> usize {
+    let start = line_at(text, n);
     let mut to = at;
-    for i in line_at(text, n)..text.len() {
+    for i in start..text.len() {
         if text[i] == b'\n' {
             break;
+        }
+        if less(i, start) == 64 {
+            return put_all(page, to, b"...");
         }
         to = put(page, to, text[i]);
     }
     to
+}
+
+// Whether the names have line `n`.
+fn has_name(names: &[u8], n: u64) -> bool {
+    line_at(names, n) < names.len()
+}
+
+// A term or a slot by its name, or without one by its number.
+fn put_name(page: &mut [u8], at: usize, names: &[u8], byte: u8, n: u64) -> usize {
+    if has_name(names, n) {
+        return put_line(page, at, names, n);
+    }
+    let to = put_line(page, at, b"slot \nt\n", if byte == b'+' { 1 } else { 0 });
+    put_number(page, to, n)
+}
+
+// How many bytes the name of slot `n` takes; without one the slot's number.
+pub fn name_width(names: &[u8], n: u32) -> u32 {
+    let mut own = [0u8; 80];
+    let k = n as u64;
+    if has_name(names, k) {
+        return (put_line(&mut own, 0, names, k) % 80) as u32;
+    }
+    (digits(k) % 80) as u32
 }
 
 // A number, or from 2^32 on a word.
@@ -141,7 +170,15 @@ fn printed(byte: u8) -> u8 {
 }
 
 // What one byte of a line puts.
-fn put_step(page: &mut [u8], at: usize, from: usize, byte: u8, after: u8, n: u64) -> usize {
+fn put_step(
+    page: &mut [u8],
+    at: usize,
+    names: &[u8],
+    from: usize,
+    byte: u8,
+    after: u8,
+    n: u64,
+) -> usize {
     if byte == b'#' {
         return put_number(page, at, n);
     }
@@ -150,6 +187,9 @@ fn put_step(page: &mut [u8], at: usize, from: usize, byte: u8, after: u8, n: u64
     }
     if byte == b'!' {
         return put_operator(page, at, n);
+    }
+    if (byte == b'+') | (byte == b'/') {
+        return put_name(page, at, names, byte, n);
     }
     if blank(byte) {
         let count = spaces(byte, after, since(from, at, page.len()), n);
@@ -160,7 +200,7 @@ fn put_step(page: &mut [u8], at: usize, from: usize, byte: u8, after: u8, n: u64
 
 // The numbers after a byte of a line.
 fn left(byte: u8, numbers: Numbers) -> Numbers {
-    if (byte == b'#') | (byte == b'?') | (byte == b'!') {
+    if (byte == b'#') | (byte == b'?') | (byte == b'!') | (byte == b'+') | (byte == b'/') {
         after(numbers)
     } else {
         numbers
@@ -176,12 +216,12 @@ fn length(byte: u8) -> usize {
     }
 }
 
-// Where the line that & names starts, and that of the names that @ names, which stand after the text.
-fn named(text: &[u8], names: &[u8], byte: u8, n: u64) -> usize {
+// Where the line that & names starts, and that of the words that @ names, which stand after the text.
+fn named(text: &[u8], words: &[u8], byte: u8, n: u64) -> usize {
     if byte == b'&' {
         return line_at(text, n);
     }
-    std::num::wrapping_add_usize(text.len(), line_at(names, n))
+    std::num::wrapping_add_usize(text.len(), line_at(words, n))
 }
 
 // After a byte that enters and leaves no line.
@@ -231,18 +271,18 @@ fn left_line(f: Filling) -> Filling {
 }
 
 // One byte of a line.
-fn step(page: &mut [u8], text: &[u8], names: &[u8], f: Filling, byte: u8) -> Filling {
+fn step(page: &mut [u8], names: &[u8], text: &[u8], words: &[u8], f: Filling, byte: u8) -> Filling {
     let numbers = f.numbers;
     if (byte == b'@') | (byte == b'&') {
-        return entered(f, named(text, names, byte, numbers.a));
+        return entered(f, named(text, words, byte, numbers.a));
     }
     if byte == b'\n' {
         return left_line(f);
     }
-    let follows = byte_at(text, names, std::num::wrapping_add_usize(f.next, 1));
+    let follows = byte_at(text, words, std::num::wrapping_add_usize(f.next, 1));
     passed(
         f,
-        put_step(page, f.at, f.from, byte, follows, numbers.a),
+        put_step(page, f.at, names, f.from, byte, follows, numbers.a),
         byte,
     )
 }
@@ -258,22 +298,24 @@ fn begun(at: usize, next: usize, numbers: Numbers) -> Filling {
     }
 }
 
-// Line `n` of a text with its numbers, of at most 1,000 bytes with the names.
+// Line `n` of a text with its numbers, of at most 1,000 bytes with the words. The names are lines, line `k` that of slot
+// `k` and of term `k`; or there are none.
 pub fn fill(
     page: &mut [u8],
     at: usize,
-    text: &[u8],
     names: &[u8],
+    text: &[u8],
+    words: &[u8],
     n: u32,
     numbers: Numbers,
 ) -> usize {
     let mut f = begun(at, line_at(text, n as u64), numbers);
     for _turn in 0..1000usize {
-        let byte = byte_at(text, names, f.next);
+        let byte = byte_at(text, words, f.next);
         if (byte == b'\n') & (f.outer == 0) {
             break;
         }
-        f = step(page, text, names, f, byte);
+        f = step(page, names, text, words, f, byte);
     }
     f.at
 }

@@ -2,15 +2,17 @@
 use page::Numbers;
 use page::none;
 use page::push;
+use page::push_if;
 use page::push_long;
 use page::truth;
 use table::Term;
 use table::number_at;
 
-fn say(page: &mut [u8], at: usize, n: u32, numbers: Numbers) -> usize {
+fn say(page: &mut [u8], at: usize, names: &[u8], n: u32, numbers: Numbers) -> usize {
     show::put(
         page,
         at,
+        names,
         b",\"terms\":[
 ],\"repair\":[
 ]}$
@@ -23,6 +25,7 @@ fn say(page: &mut [u8], at: usize, n: u32, numbers: Numbers) -> usize {
 #,#,#
 ,
 &#
+\"slot\":#,\"name\":\"/\",\"marked\":?,
 ",
         n,
         numbers,
@@ -40,10 +43,14 @@ fn operands(x: Term) -> Numbers {
     push(line, show::operand_numbers(x, none()))
 }
 
-// What a variable has, for &.
-fn is_variable(x: Term, rest: Numbers) -> Numbers {
+// What a variable has, for &: its slot and mark, between them its name where it is named.
+fn is_variable(x: Term, named: bool, rest: Numbers) -> Numbers {
     if x.op == 1 {
-        return push(5, push(x.p, push_long(truth(x.q == 1), rest)));
+        let marked = push_long(truth(x.q == 1), rest);
+        return push(
+            ops::ite(named, 12, 5),
+            push(x.p, push_if(named, x.p, marked)),
+        );
     }
     push(6, rest)
 }
@@ -52,6 +59,7 @@ fn is_variable(x: Term, rest: Numbers) -> Numbers {
 fn put_term(
     page: &mut [u8],
     at: usize,
+    names: &[u8],
     x: Term,
     k: u32,
     value: u32,
@@ -59,15 +67,22 @@ fn put_term(
     way: bool,
 ) -> usize {
     let typed = push(x.op, push(x.op, show::smt_sort(x.sort, operands(x))));
-    let to = say(page, at, 3, push(ops::ite(k == 0, 6, 10), push(k, typed)));
+    let to = say(
+        page,
+        at,
+        names,
+        3,
+        push(ops::ite(k == 0, 6, 10), push(k, typed)),
+    );
     let held = show::value(x.sort, value, page::NULL);
     let told = page::five(held, show::condition(x, free, page::NULL), truth(way), 0, 0);
-    say(page, to, 4, is_variable(x, told))
+    say(page, to, names, 4, is_variable(x, names.len() != 0, told))
 }
 
 fn put_term_at(
     page: &mut [u8],
     at: usize,
+    names: &[u8],
     table: &[u32],
     values: &[u32],
     truths: &[u32],
@@ -77,6 +92,7 @@ fn put_term_at(
     put_term(
         page,
         at,
+        names,
         table::term_at(table, k),
         k,
         number_at(values, k),
@@ -88,6 +104,7 @@ fn put_term_at(
 fn put_terms(
     page: &mut [u8],
     at: usize,
+    names: &[u8],
     table: &[u32],
     values: &[u32],
     truths: &[u32],
@@ -96,35 +113,36 @@ fn put_terms(
 ) -> usize {
     let mut to = at;
     for k in 0..terms {
-        to = put_term_at(page, to, table, values, truths, way, k);
+        to = put_term_at(page, to, names, table, values, truths, way, k);
     }
     to
 }
 
 // The slots of a repair.
-fn put_slots(page: &mut [u8], at: usize, slots: &[u32; 256]) -> usize {
+fn put_slots(page: &mut [u8], at: usize, names: &[u8], slots: &[u32; 256]) -> usize {
     let mut to = at;
     let mut first = true;
     for k in 0..256u32 {
         if number_at(slots, k) != 1 {
             continue;
         }
-        to = say(page, to, 11, page::two(ops::ite(first, 6, 10), k));
+        to = say(page, to, names, 11, page::two(ops::ite(first, 6, 10), k));
         first = false;
     }
     to
 }
 
-fn put_repair(page: &mut [u8], at: usize, slots: &[u32; 256]) -> usize {
-    let start = say(page, at, 1, none());
-    let to = put_slots(page, start, slots);
-    say(page, to, 2, none())
+fn put_repair(page: &mut [u8], at: usize, names: &[u8], slots: &[u32; 256]) -> usize {
+    let start = say(page, at, names, 1, none());
+    let to = put_slots(page, start, names, slots);
+    say(page, to, names, 2, none())
 }
 
 // Each term and the slots of the repair, given the terms on the way.
 pub fn put_json_terms(
     page: &mut [u8],
     at: usize,
+    names: &[u8],
     table: &[u32],
     values: &[u32],
     truths: &[u32],
@@ -132,7 +150,7 @@ pub fn put_json_terms(
     way: &[u32; 512],
     slots: &[u32; 256],
 ) -> usize {
-    let start = say(page, at, 0, none());
-    let to = put_terms(page, start, table, values, truths, way, terms);
-    put_repair(page, to, slots)
+    let start = say(page, at, names, 0, none());
+    let to = put_terms(page, start, names, table, values, truths, way, terms);
+    put_repair(page, to, names, slots)
 }

@@ -1,5 +1,5 @@
-// What would mend a condition: the slots of the marked inputs on the way, in a sentence whose lines are at most 78
-// columns long and are broken after a comma.
+// What would mend a condition: the marked inputs on the way by their slots, or by their names where there are names, in
+// a sentence whose lines are at most 78 columns long, but for long names, and are broken after a comma.
 use page::Numbers;
 use std::num::wrapping_add_u32;
 use table::number_at;
@@ -12,10 +12,12 @@ struct Telling {
     first: bool,
 }
 
-fn say(page: &mut [u8], at: usize, n: u32, numbers: Numbers) -> usize {
+// Lines 11 to 17 are 0 to 6 with names.
+fn say(page: &mut [u8], at: usize, names: &[u8], n: u32, numbers: Numbers) -> usize {
     show::put(
         page,
         at,
+        names,
         b"$If slot # could be vouched for,
 $If slots #,
  #,
@@ -27,6 +29,13 @@ $# and # could be vouched for,
  the condition would be true$and the setting would pass.$
 $the condition would be true.$
 $the condition would be true$and the setting would pass.$
+$If / could be vouched for,
+$If /,
+ /,
+$/,
+$If / and / could be vouched for,
+ / and / could be vouched for,
+$/ and / could be vouched for,
 ",
         n,
         numbers,
@@ -51,10 +60,6 @@ fn last_of(slots: &[u32; 256]) -> u32 {
     found
 }
 
-fn digits(k: u32) -> u32 {
-    ops::ite(k < 10, 1, ops::ite(k < 100, 2, 3))
-}
-
 fn sum(a: u32, b: u32, c: u32) -> u32 {
     wrapping_add_u32(a, wrapping_add_u32(b, c))
 }
@@ -64,29 +69,46 @@ fn start_of(t: Telling, wide: u32) -> u32 {
     ops::ite(t.first, 1, ops::ite(78 < sum(t.column, 1, wide), 3, 2))
 }
 
-// The column after a slot that begins so.
-fn column(t: Telling, start: u32, wide: u32) -> u32 {
+// The columns before the first slot: "If slot ", "If slots " or, with names, "If ".
+fn indent(named: bool, only: bool) -> u32 {
+    ops::ite(named, 3, ops::ite(only, 8, 9))
+}
+
+// The column after a slot that begins so, the first after an indent.
+fn column(t: Telling, start: u32, wide: u32, indent: u32) -> u32 {
     ops::ite(
         start == 1,
-        sum(9, wide, 0),
+        sum(indent, wide, 0),
         ops::ite(start == 3, wide, sum(t.column, 1, wide)),
     )
 }
 
-// A slot with its comma; with the last where that is next; or the only one.
-fn put_slot(page: &mut [u8], t: Telling, k: u32, last: u32) -> Telling {
-    let both = t.left == 1;
-    let only = t.left == 0;
-    let wide = sum(
-        digits(k),
-        1,
-        ops::ite(both, sum(26, digits(last), 0), ops::ite(only, 20, 0)),
+// How wide a slot is with its comma; with the last where that is next; or the only one.
+fn width(names: &[u8], t: Telling, k: u32, last: u32) -> u32 {
+    let more = ops::ite(
+        t.left == 1,
+        sum(26, page::name_width(names, last), 0),
+        ops::ite(t.left == 0, 21, 0),
     );
+    sum(page::name_width(names, k), 1, more)
+}
+
+// A slot with its comma; with the last where that is next; or the only one.
+fn put_slot(page: &mut [u8], names: &[u8], t: Telling, k: u32, last: u32) -> Telling {
+    let only = t.left == 0;
+    let named = names.len() != 0;
+    let wide = width(names, t, k, last);
     let start = start_of(t, wide);
-    let line = ops::ite(only, 0, ops::ite(both, sum(start, 3, 0), start));
+    let line = ops::ite(only, 0, ops::ite(t.left == 1, sum(start, 3, 0), start));
     Telling {
-        at: say(page, t.at, line, page::two(k, last)),
-        column: column(t, start, wide),
+        at: say(
+            page,
+            t.at,
+            names,
+            sum(line, ops::ite(named, 11, 0), 0),
+            page::two(k, last),
+        ),
+        column: column(t, start, wide, indent(named, only)),
         left: std::num::wrapping_sub_u32(t.left, 1),
         first: false,
     }
@@ -97,7 +119,14 @@ fn begins(slots: &[u32; 256], k: u32, last: u32, count: u32) -> bool {
     (number_at(slots, k) == 1) & ((k != last) | (count == 1))
 }
 
-fn put_slots(page: &mut [u8], at: usize, slots: &[u32; 256], count: u32, last: u32) -> Telling {
+fn put_slots(
+    page: &mut [u8],
+    at: usize,
+    names: &[u8],
+    slots: &[u32; 256],
+    count: u32,
+    last: u32,
+) -> Telling {
     let mut t = Telling {
         at: at,
         column: 0,
@@ -108,19 +137,26 @@ fn put_slots(page: &mut [u8], at: usize, slots: &[u32; 256], count: u32, last: u
         if !begins(slots, k, last, count) {
             continue;
         }
-        t = put_slot(page, t, k, last);
+        t = put_slot(page, names, t, k, last);
     }
     t
 }
 
 // What would mend a condition, and whether the setting would pass.
-pub fn put_repair(page: &mut [u8], at: usize, slots: &[u32; 256], rule: bool) -> usize {
-    let t = put_slots(page, at, slots, count(slots), last_of(slots));
+pub fn put_repair(
+    page: &mut [u8],
+    at: usize,
+    names: &[u8],
+    slots: &[u32; 256],
+    rule: bool,
+) -> usize {
+    let t = put_slots(page, at, names, slots, count(slots), last_of(slots));
     let wide = sum(t.column, 28, ops::bit(!rule));
     let line = ops::ite(78 < wide, 9, 7);
     say(
         page,
         t.at,
+        names,
         wrapping_add_u32(line, ops::bit(rule)),
         page::none(),
     )

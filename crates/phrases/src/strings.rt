@@ -26,6 +26,7 @@ fn put_quoted(page: &mut [u8], at: usize, byte: u8) -> usize {
     page::fill(
         page,
         at,
+        b"",
         b"
 \\u00&&
 \\\"

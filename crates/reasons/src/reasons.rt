@@ -16,50 +16,51 @@ use std::num::wrapping_add_u32;
 use table::Term;
 use table::number_at;
 
-pub fn say(page: &mut [u8], at: usize, n: u32, numbers: Numbers) -> usize {
+pub fn say(page: &mut [u8], at: usize, names: &[u8], n: u32, numbers: Numbers) -> usize {
     show::put(
         page,
         at,
+        names,
         b"t# @: 
 this input is marked.
 &.
-t# is not free
-t# and t# are not free
-t#, t# and t# are not free
++ is not free
++ and + are not free
++, + and + are not free
 A free operand would have settled it.
 No value of one operand settles !: both must be free.
-t# is ?.
-t# is free, but it is ?: a free & would have settled it.
-t# is ?, and not free: a free & would have settled it.
-t# is ?, but not free: only a free & settles it.
++ is ?.
++ is free, but it is ?: a free & would have settled it.
++ is ?, and not free: a free & would have settled it.
++ is ?, but not free: only a free & settles it.
 ?
 ? or more
-t#, the test, is not free.
-t#, which the test picks, is not free.
-t#, the index, is not free.
-t#, the index of store t#, is not free.
-t#, which store t# holds there, is not free.
-t#, the array beneath, is marked.
++, the test, is not free.
++, which the test picks, is not free.
++, the index, is not free.
++, the index of store +, is not free.
++, which store + holds there, is not free.
++, the array beneath, is marked.
 &$
     &$
 Branches free and equal would have settled it:
-t# is ? and &, t# is ? and &.
++ is ? and &, + is ? and &.
 not free
 free
 $Free though an operand is not:$
-&, but t# is free and ?.$
-&, but the test t# is free and picks t#, which is free.$
-&, but t# and t# are free and equal (?).$
-&, but store t# holds t# there, which is free.$
-&, but t#, which store t# holds, is free and equal to what is beneath.$
-&, but the read goes past its store to t#, which is not marked.$
+&, but + is free and ?.$
+&, but the test + is free and picks +, which is free.$
+&, but + and + are free and equal (?).$
+&, but store + holds + there, which is free.$
+&, but +, which store + holds, is free and equal to what is beneath.$
+&, but the read goes past its store to +, which is not marked.$
 $Why the condition is false, from the rule down:$
-&,$    but t# is free and ?.$
-&,$    but the test t# is free and picks t#, which is free.$
-&,$    but t# and t# are free and equal (?).$
-&,$    but store t# holds t# there, which is free.$
-&,$    but t#, which store t# holds, is free and equal to what is beneath.$
-&,$    but the read goes past its store to t#, which is not marked.$
+&,$    but + is free and ?.$
+&,$    but the test + is free and picks +, which is free.$
+&,$    but + and + are free and equal (?).$
+&,$    but store + holds + there, which is free.$
+&,$    but +, which store + holds, is free and equal to what is beneath.$
+&,$    but the read goes past its store to +, which is not marked.$
 ",
         n,
         numbers,
@@ -249,28 +250,29 @@ fn told(table: &[u32], values: &[u32], truths: &[u32], k: u32, x: Term, i: u32) 
 }
 
 // The term that is told of: "t3 (bvmul t0 t1): ".
-pub fn put_subject(page: &mut [u8], at: usize, k: u32, x: Term) -> usize {
-    say(page, at, 0, push(k, show::operator(x, none())))
+pub fn put_subject(page: &mut [u8], at: usize, names: &[u8], k: u32, x: Term) -> usize {
+    say(page, at, names, 0, push(k, show::operator(x, none())))
 }
 
 // A term on the way, with its lines.
 pub fn put_why(
     page: &mut [u8],
     at: usize,
+    names: &[u8],
     table: &[u32],
     values: &[u32],
     truths: &[u32],
     k: u32,
 ) -> usize {
     let x = table::term_at(table, k);
-    let mut to = put_subject(page, at, k, x);
+    let mut to = put_subject(page, at, names, k, x);
     let mut line = 20;
     for i in 0..18u32 {
         let numbers = told(table, values, truths, k, x, i);
         if numbers.a == 0 {
             continue;
         }
-        to = say(page, to, line, numbers);
+        to = say(page, to, names, line, numbers);
         line = 21;
     }
     to

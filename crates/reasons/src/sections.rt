@@ -47,22 +47,28 @@ fn valued(table: &[u32], values: &[u32], k: u32) -> Numbers {
 // The heading, before the first.
 fn put_heading(page: &mut [u8], at: usize, first: bool) -> usize {
     if first {
-        return say(page, at, 26, none());
+        return say(page, at, b"", 26, none());
     }
     at
 }
 
+// Room for a line: its words take less than 256 bytes, and each of at most eight names 67.
+fn line_room() -> [u8; 1024] {
+    [0u8; 1024]
+}
+
 // How many bytes a line takes, its end among them.
-fn width(k: u32, x: Term, line: u32, numbers: Numbers) -> usize {
-    let mut own = [0u8; 256];
-    let head = put_subject(&mut own, 0, k, x);
-    say(&mut own, head, line, numbers)
+fn width(names: &[u8], k: u32, x: Term, line: u32, numbers: Numbers) -> usize {
+    let mut own = line_room();
+    let head = put_subject(&mut own, 0, names, k, x);
+    say(&mut own, head, names, line, numbers)
 }
 
 // What settled term `k`; a line of over 80 columns is broken after its comma, by the text seven lines on.
 fn put_settled(
     page: &mut [u8],
     at: usize,
+    names: &[u8],
     table: &[u32],
     values: &[u32],
     truths: &[u32],
@@ -74,15 +80,16 @@ fn put_settled(
     let x = table::term_at(table, k);
     let numbers = unfree(table, truths, k, numbers_of(table, values, s));
     let line = line_of(s);
-    let broken = ops::ite(81 < width(k, x, line, numbers), 7, 0);
-    let to = put_subject(page, start, k, x);
-    say(page, to, wrapping_add_u32(line, broken), numbers)
+    let broken = ops::ite(81 < width(names, k, x, line, numbers), 7, 0);
+    let to = put_subject(page, start, names, k, x);
+    say(page, to, names, wrapping_add_u32(line, broken), numbers)
 }
 
 // What settled each term that is free though something beneath it is not.
 pub fn put_all_settled(
     page: &mut [u8],
     at: usize,
+    names: &[u8],
     table: &[u32],
     values: &[u32],
     truths: &[u32],
@@ -95,7 +102,7 @@ pub fn put_all_settled(
         if line_of(s) == 0 {
             continue;
         }
-        to = put_settled(page, to, table, values, truths, k, s, first);
+        to = put_settled(page, to, names, table, values, truths, k, s, first);
         first = false;
     }
     to
@@ -103,13 +110,14 @@ pub fn put_all_settled(
 
 // The heading of the way down.
 pub fn put_way_heading(page: &mut [u8], at: usize) -> usize {
-    say(page, at, 33, none())
+    say(page, at, b"", 33, none())
 }
 
 // The terms on the way down from the rule.
 pub fn put_way(
     page: &mut [u8],
     at: usize,
+    names: &[u8],
     table: &[u32],
     values: &[u32],
     truths: &[u32],
@@ -122,7 +130,7 @@ pub fn put_way(
         if number_at(way, k) != 1 {
             continue;
         }
-        to = put_why(page, to, table, values, truths, k);
+        to = put_why(page, to, names, table, values, truths, k);
     }
     to
 }

@@ -7,10 +7,11 @@ use page::push_long;
 use table::Refusal;
 
 // Line `n` is reason `n`; 28, 29, 41 and 42 are 22, 27, 2 and 21 with one value, step or number; 43 is the note on one.
-fn say(page: &mut [u8], at: usize, n: u32, numbers: Numbers) -> usize {
+fn say(page: &mut [u8], at: usize, names: &[u8], n: u32, numbers: Numbers) -> usize {
     show::put(
         page,
         at,
+        names,
         b"no reason is known
 the table has no numbers
 the table has # numbers, not six for each term
@@ -19,7 +20,7 @@ the op is #, at most 16 is allowed
 the index width is #, at most 32 is allowed
 the width is #, at most 32 is allowed
 the width is 0, and an array's is 1 to 32
-operand & is t#, which is not below t#
+operand & is +, which is not below +
 field & is #, and this operator has no such operand
 & is @, and @ is asked
 & is @, and a BitVec is asked
@@ -28,14 +29,14 @@ field & is #, and this operator has no such operand
 the constant is #, at most # fits @
 the slot is #, at most 255 is allowed
 the mark is #, at most 1 is allowed
-t# has slot # as @, and here it is @
-t# has slot # with mark #, and here it is #
++ has slot # as @, and here it is @
++ has slot # with mark #, and here it is #
 17 stores in the chain, at most 16 are allowed
 the rule is @, and Bool is asked
 the cells have # numbers, not three for each cell
 the slot is #, and there are # values
-the value of slot # is #, at most # fits @
-slot # is no array of the table
+the value of / is #, at most # fits @
+/ is no array of the table
 the index is #, at most # fits @
 the value is #, at most # fits @
 the allowance is #, the reads take # steps
@@ -45,7 +46,7 @@ the term
 p
 q
 r
-operand &, t#,
+operand &, +,
 :#: refused # at & #: 
 place
 term
@@ -142,6 +143,7 @@ fn numbers_of(d: Diagnosis) -> Numbers {
 pub fn put_why(
     page: &mut [u8],
     at: usize,
+    names: &[u8],
     table: &[u32],
     values: &[u32],
     cells: &[u32],
@@ -149,11 +151,16 @@ pub fn put_why(
     r: Refusal,
 ) -> usize {
     let d = diagnosis::diagnose(table, values, cells, allowance, r.number, r.place);
-    say(page, at, line_of(d), numbers_of(d))
+    put_diagnosis(page, at, names, d)
 }
 
-// The line of the text that a refusal is about.
-pub fn line_at(text: &[u8], table: &[u32], r: Refusal) -> u64 {
+// A reason in words.
+pub fn put_diagnosis(page: &mut [u8], at: usize, names: &[u8], d: Diagnosis) -> usize {
+    say(page, at, names, line_of(d), numbers_of(d))
+}
+
+// The line of a case's text that a refusal is about.
+pub fn refusal_line(text: &[u8], table: &[u32], r: Refusal) -> u64 {
     let spot = diagnosis::spot(table, r.number, r.place);
     if spot.heading {
         cases::heading_line(text, spot.part)
@@ -173,8 +180,8 @@ fn kind(number: u32) -> u32 {
     }
 }
 
-// The note on a table's line whose numbers are no multiple of six.
-fn put_note(page: &mut [u8], at: usize, path: &[u8], text: &[u8], r: Refusal) -> usize {
+// The note on a table's line whose numbers are no multiple of six, after a refusal of the table.
+pub fn put_note(page: &mut [u8], at: usize, path: &[u8], text: &[u8], r: Refusal) -> usize {
     let odd = cases::odd_line(text);
     if (odd.line == 0) | (10 < r.number) {
         return at;
@@ -183,17 +190,19 @@ fn put_note(page: &mut [u8], at: usize, path: &[u8], text: &[u8], r: Refusal) ->
     say(
         page,
         to,
+        b"",
         ops::ite(odd.count == 1, 43, 40),
         page::five(odd.line, odd.count as u64, 0, 0, 0),
     )
 }
 
-// A refusal: "FILE:LINE: refused N at WHERE: ", the reason, and the note.
+// A refusal, of a line: "FILE:LINE: refused N at WHERE: " and the reason.
 pub fn put_refusal(
     page: &mut [u8],
     at: usize,
+    names: &[u8],
     path: &[u8],
-    text: &[u8],
+    line: u64,
     table: &[u32],
     values: &[u32],
     cells: &[u32],
@@ -201,10 +210,9 @@ pub fn put_refusal(
     r: Refusal,
 ) -> usize {
     let kind = kind(r.number) as u64;
-    let numbers = page::five(line_at(text, table, r), r.number as u64, kind, r.place, 0);
+    let numbers = page::five(line, r.number as u64, kind, r.place, 0);
     let name = page::put_all(page, at, path);
-    let start = say(page, name, 35, numbers);
-    let reason = put_why(page, start, table, values, cells, allowance, r);
-    let end = say(page, reason, 39, none());
-    put_note(page, end, path, text, r)
+    let start = say(page, name, names, 35, numbers);
+    let reason = put_why(page, start, names, table, values, cells, allowance, r);
+    say(page, reason, names, 39, none())
 }

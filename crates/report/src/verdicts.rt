@@ -10,6 +10,7 @@ fn say(page: &mut [u8], at: usize, n: u32, numbers: page::Numbers) -> usize {
     show::put(
         page,
         at,
+        b"",
         b"yes
 no: the rule is false
 no: the marked inputs may matter
@@ -58,9 +59,19 @@ pub fn put_verdict(page: &mut [u8], at: usize, v: Verdict) -> usize {
     say(page, at, 12, verdict_numbers(v, outcome(v)))
 }
 
-// A judgement among others, in a line.
-pub fn put_outcome(page: &mut [u8], at: usize, path: &[u8], v: Verdict) -> usize {
+// A case by its file, a rule by its file and that of its setting.
+fn put_title(page: &mut [u8], at: usize, path: &[u8], setting: &[u8]) -> usize {
     let to = page::put_all(page, at, path);
+    if setting.len() == 0 {
+        return to;
+    }
+    let next = page::put(page, to, b' ');
+    page::put_all(page, next, setting)
+}
+
+// A judgement among others, in a line.
+pub fn put_outcome(page: &mut [u8], at: usize, path: &[u8], setting: &[u8], v: Verdict) -> usize {
+    let to = put_title(page, at, path, setting);
     say(page, to, 14, page::one(wrapping_add_u32(4, outcome(v))))
 }
 
@@ -76,8 +87,8 @@ pub fn put_spent(page: &mut [u8], at: usize, steps: u64, left: u64) -> usize {
 }
 
 // The line before an answer, one of several; an empty line between two.
-pub fn put_heading(page: &mut [u8], at: usize, path: &[u8], first: bool) -> usize {
+pub fn put_heading(page: &mut [u8], at: usize, path: &[u8], setting: &[u8], first: bool) -> usize {
     let start = say(page, at, ops::ite(first, 16, 18), none());
-    let to = page::put_all(page, start, path);
+    let to = put_title(page, start, path, setting);
     say(page, to, 17, none())
 }

@@ -3,7 +3,7 @@
 use mathlib.Core.Bool.{Bool, true, false, not, cond, _&&_, _||_}
 use mathlib.Core.List.{List, [], _∷_}
 use Prim.Native.Nat.{ℕ}
-use lib.Dec.{eqb, ltb}
+use lib.Dec.{eqb, ltb, leb}
 use lib.ListN.{length, getD}
 use Rattle.request.specs.declared.arguments.Options.{Options}
 
@@ -76,12 +76,20 @@ kindOf word ended =
     (cond (sameWord word endWord) 4
     (cond (hyphened word) 5 0)))))
 
--- whether a command takes these options and so many files
+-- whether a command takes these options and so many files: graph and finish take a rule and its setting too
 abbrev pub fitting : ℕ → Options → Bool
 fitting command o =
     not (eqb command 0)
     && not (o .unknown)
     && (not (o .json) || eqb command 1 || eqb command 2)
     && (not (o .color || o .plain) || eqb command 4)
-    && (ltb command 5 || eqb (o .files) 1)
+    && (ltb command 5 || eqb (o .files) 1 || (ltb command 7 && eqb (o .files) 2))
     && not (eqb (o .files) 0)
+
+-- whether an answer is one of several: two files are one question where the first is a rule
+abbrev pub several : ℕ → Bool → Bool
+several files rule = ltb 2 files || (eqb files 2 && not rule)
+
+-- whether there is a file too many for a command on a case
+abbrev pub crowded : ℕ → ℕ → Bool
+crowded command files = leb 5 command && ltb 1 files

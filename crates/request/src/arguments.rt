@@ -1,7 +1,7 @@
 // The program's arguments: a command; options, anywhere after it up to --; files.
 ghost use mathlib.Core.Path.{_≡_};
 ghost use lib.ListN.{getD};
-ghost use Rattle.request.specs.Arguments.{sameWord, commandOf, hyphened, kindOf, fitting};
+ghost use Rattle.request.specs.Arguments.{sameWord, commandOf, hyphened, kindOf, fitting, several, crowded};
 
 // The commands, by number; 0 is none.
 pub const JUDGE: u32 = 1;
@@ -43,13 +43,16 @@ pub struct Options {
     pub files: u32,
 }
 
-// A command on a file: its options, whether it is one of several, whether another was answered before.
+// A command on a file: its options, how many files there are, whether its answer is one of several, whether another was
+// answered before, and which argument is the next file, 0 where there is none.
 pub struct Request {
     pub command: u32,
     pub json: bool,
     pub color: bool,
+    pub files: u32,
     pub several: bool,
     pub first: bool,
+    pub next: usize,
 }
 
 // Whether two words are the same.
@@ -138,22 +141,64 @@ pub fn options_of(count: usize) -> Options {
     o
 }
 
-// Whether a command takes these options and so many files.
+// The first file from an argument on, 0 where there is none.
+pub fn next_file(from: usize, count: usize, ended: bool) -> usize {
+    let mut over = ended;
+    for i in from..count {
+        let kind = kind_at(i, over);
+        if kind == FILE {
+            return i;
+        }
+        over = over | (kind == END);
+    }
+    0
+}
+
+// Whether a command takes these options and so many files: a rule takes the next as its setting.
 pub fn fitting(command: u32, o: Options) -> bool
     ensures { λ r. ⌜ r ≡ fitting command o ⌝ }
 {
     let json = !o.json | (command == JUDGE) | (command == EXPLAIN);
     let color = !(o.color | o.plain) | (command == TREE);
-    let most = (command < GRAPH) | (o.files == 1);
+    let most = (command < GRAPH) | (o.files == 1) | ((command < PRINT) & (o.files == 2));
     (command != 0) & !o.unknown & json & color & most & (o.files != 0)
 }
 
-pub fn request_of(command: u32, o: Options, answers: u32) -> Request {
+// Whether an answer is one of several: a rule and its setting have one.
+fn several(files: u32, rule: bool) -> bool
+    ensures { λ r. ⌜ r ≡ several files rule ⌝ }
+{
+    (2 < files) | ((files == 2) & !rule)
+}
+
+// Whether there is a file too many for a command on a case.
+pub fn crowded(request: Request) -> bool
+    ensures { λ r. ⌜ r ≡ crowded (request .command) (request .files) ⌝ }
+{
+    (GRAPH <= request.command) & (1 < request.files)
+}
+
+// The request on a case; that on a rule is `of_rule` of it.
+pub fn request_of(command: u32, o: Options, answers: u32, next: usize) -> Request {
     Request {
         command: command,
         json: o.json,
         color: o.color,
-        several: 1 < o.files,
+        files: o.files,
+        several: several(o.files, false),
         first: answers == 0,
+        next: next,
+    }
+}
+
+pub fn of_rule(request: Request) -> Request {
+    Request {
+        command: request.command,
+        json: request.json,
+        color: request.color,
+        files: request.files,
+        several: several(request.files, true),
+        first: request.first,
+        next: request.next,
     }
 }

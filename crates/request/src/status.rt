@@ -15,11 +15,33 @@ pub const BROKEN: u32 = 4;
 
 pub const SHORT: u32 = 5;
 
-// The worst status so far; how many files were answered; whether -- has ended the options.
+// What a file comes to: a status, and whether the next file belongs to it.
+pub struct Answer {
+    pub status: u32,
+    pub paired: bool,
+}
+
+pub fn alone(status: u32) -> Answer {
+    Answer {
+        status,
+        paired: false,
+    }
+}
+
+pub fn paired(status: u32) -> Answer {
+    Answer {
+        status,
+        paired: true,
+    }
+}
+
+// The worst status so far; how many files were answered; whether -- has ended the options; whether the next file belongs
+// to the rule before it.
 pub struct Run {
     pub status: u32,
     pub answers: u32,
     pub ended: bool,
+    pub paired: bool,
 }
 
 pub fn begun() -> Run {
@@ -27,6 +49,7 @@ pub fn begun() -> Run {
         status: DONE,
         answers: 0,
         ended: false,
+        paired: false,
     }
 }
 
@@ -44,12 +67,14 @@ pub fn worse(a: u32, b: u32) -> u32
     ops::ite(rank(a) < rank(b), b, a)
 }
 
-// After a file that ended with a status: all but an error is an answer.
-pub fn after(run: Run, status: u32) -> Run {
+// After a file that ended so: all but an error is an answer.
+pub fn after(run: Run, answer: Answer) -> Run {
+    let status = answer.status;
     Run {
         status: worse(run.status, status),
         answers: std::num::wrapping_add_u32(run.answers, ops::bit(status != ERROR)),
         ended: run.ended,
+        paired: answer.paired,
     }
 }
 
@@ -59,6 +84,17 @@ pub fn passed_by(run: Run, ended: bool) -> Run {
         status: run.status,
         answers: run.answers,
         ended: run.ended | ended,
+        paired: run.paired,
+    }
+}
+
+// After a setting, which was answered with its rule.
+pub fn settled(run: Run) -> Run {
+    Run {
+        status: run.status,
+        answers: run.answers,
+        ended: run.ended,
+        paired: false,
     }
 }
 
@@ -72,7 +108,7 @@ pub fn told(status: u32) -> u32
 // The status to descriptor 3, as a digit and a line feed, where somebody listens.
 pub fn tell(status: u32) {
     let mut page = [0u8; 16];
-    let at = page::fill(&mut page, 0, b"#$", b"", 0, page::one(status));
+    let at = page::fill(&mut page, 0, b"", b"#$", b"", 0, page::one(status));
     let count = page::filled(&page, at);
     io::write_all(3, &page[..count]);
 }

@@ -16,18 +16,26 @@ use table::Sort;
 use table::Term;
 use table::WORDS;
 
-// Line `n` of a text, with the names of terms, sorts and marks.
-pub fn put(page: &mut [u8], at: usize, text: &[u8], n: u32, numbers: Numbers) -> usize {
+// Line `n` of a text, with the words for terms, sorts and marks, and the names of terms and slots (page::fill).
+pub fn put(
+    page: &mut [u8],
+    at: usize,
+    names: &[u8],
+    text: &[u8],
+    n: u32,
+    numbers: Numbers,
+) -> usize {
     page::fill(
         page,
         at,
+        names,
         text,
         b"?
 (_ bv# #)
-slot #
-(! t#)
-(! t# t#)
-(! t# t# t#)
+/
+(! +)
+(! + +)
+(! + + +)
 Bool
 BitVec #
 Array # #
@@ -142,10 +150,11 @@ fn mark(x: Term) -> u32 {
     ops::ite(x.op != 1, 11, ops::ite(x.q == 1, 12, 13))
 }
 
-fn put_columns(page: &mut [u8], at: usize, n: u32, numbers: Numbers) -> usize {
+fn put_columns(page: &mut [u8], at: usize, names: &[u8], n: u32, numbers: Numbers) -> usize {
     put(
         page,
         at,
+        names,
         b"%Et#  ~@*Z~@*M%L?$
 %Et#  ~@*Z~@*M@%L?  ?$
   term  operator                  sort                value$
@@ -158,19 +167,27 @@ fn put_columns(page: &mut [u8], at: usize, n: u32, numbers: Numbers) -> usize {
 
 // The head of the rows; those of a judgement are wider.
 pub fn put_head(page: &mut [u8], at: usize, judged: bool) -> usize {
-    put_columns(page, at, ops::ite(judged, 3, 2), page::none())
+    put_columns(page, at, b"", ops::ite(judged, 3, 2), page::none())
 }
 
 // Term `k` with its value.
-pub fn put_row(page: &mut [u8], at: usize, k: u32, x: Term, v: u32) -> usize {
+pub fn put_row(page: &mut [u8], at: usize, names: &[u8], k: u32, x: Term, v: u32) -> usize {
     let held = page::five(value(x.sort, v, page::DASH), 0, 0, 0, 0);
-    put_columns(page, at, 0, push(k, operator(x, sort(x.sort, held))))
+    put_columns(page, at, names, 0, push(k, operator(x, sort(x.sort, held))))
 }
 
 // Term `k` with its mark, value and condition.
-pub fn put_judged_row(page: &mut [u8], at: usize, k: u32, x: Term, v: u32, free: bool) -> usize {
+pub fn put_judged_row(
+    page: &mut [u8],
+    at: usize,
+    names: &[u8],
+    k: u32,
+    x: Term,
+    v: u32,
+    free: bool,
+) -> usize {
     let held = value(x.sort, v, page::DASH);
     let told = condition(x, free, page::DASH);
     let last = page::five(mark(x) as u64, held, told, 0, 0);
-    put_columns(page, at, 1, push(k, operator(x, sort(x.sort, last))))
+    put_columns(page, at, names, 1, push(k, operator(x, sort(x.sort, last))))
 }

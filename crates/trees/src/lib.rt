@@ -57,13 +57,14 @@ fn work_row() -> [u32; 1216] {
     [0u32; 1216]
 }
 
-fn say(page: &mut [u8], at: usize, n: u32, numbers: Numbers) -> usize {
+fn say(page: &mut [u8], at: usize, names: &[u8], n: u32, numbers: Numbers) -> usize {
     show::put(
         page,
         at,
+        names,
         b"t# ! = ?, &$
-t# slot # = ?, &&$
-t# slot #: array, &&$
+t# / = ?, &&$
+t# /: array, &&$
 t# !$
 t#: see above$
 t#: see below$
@@ -130,12 +131,12 @@ fn label(x: Term, k: u32, value: u32, free: bool, color: bool) -> Numbers {
 }
 
 // What stands before a term of a level: for each level above it a bar or none, then its own branch.
-fn put_bars(page: &mut [u8], at: usize, level: u32, bars: u32) -> usize {
+fn put_bars(page: &mut [u8], at: usize, names: &[u8], level: u32, bars: u32) -> usize {
     let mut to = at;
     let mut rest = bars;
     for i in 0..level {
         let line = ops::ite(sum(i, 1) == level, 15, 13);
-        to = say(page, to, sum(line, rest % 2), none());
+        to = say(page, to, names, sum(line, rest % 2), none());
         rest /= 2;
     }
     to
@@ -151,6 +152,7 @@ fn kind_of(mark: u32, level: u32, count: u32) -> u32 {
 fn put_node(
     page: &mut [u8],
     at: usize,
+    names: &[u8],
     node: Node,
     kind: u32,
     x: Term,
@@ -158,13 +160,14 @@ fn put_node(
     free: bool,
     color: bool,
 ) -> usize {
-    let to = put_bars(page, at, node.level, node.bars);
+    let to = put_bars(page, at, names, node.level, node.bars);
     if kind != 0 {
-        return say(page, to, kind, one(node.term));
+        return say(page, to, names, kind, one(node.term));
     }
     say(
         page,
         to,
+        names,
         line_of(x),
         label(x, node.term, value, free, color),
     )
@@ -243,6 +246,7 @@ fn put_top(
     page: &mut [u8],
     work: &mut [u32],
     s: State,
+    names: &[u8],
     table: &[u32],
     values: &[u32],
     truths: &[u32],
@@ -254,7 +258,7 @@ fn put_top(
     let value = number_at(values, node.term);
     let free = number_at(truths, node.term) == 1;
     let told = State {
-        at: put_node(page, s.at, node, kind, x, value, free, color),
+        at: put_node(page, s.at, names, node, kind, x, value, free, color),
         top: std::num::wrapping_sub_u32(s.top, 1),
         queued: s.queued,
     };
@@ -266,6 +270,7 @@ fn put_root(
     page: &mut [u8],
     work: &mut [u32],
     start: State,
+    names: &[u8],
     table: &[u32],
     values: &[u32],
     truths: &[u32],
@@ -276,7 +281,7 @@ fn put_root(
         if s.top == 0 {
             break;
         }
-        s = put_top(page, work, s, table, values, truths, color);
+        s = put_top(page, work, s, names, table, values, truths, color);
     }
     s
 }
@@ -295,15 +300,16 @@ fn put_later(
     page: &mut [u8],
     work: &mut [u32],
     s: State,
+    names: &[u8],
     table: &[u32],
     values: &[u32],
     truths: &[u32],
     color: bool,
     k: u32,
 ) -> State {
-    let at = say(page, s.at, 17, none());
+    let at = say(page, s.at, names, 17, none());
     let start = rooted(work, at, s.queued, k);
-    put_root(page, work, start, table, values, truths, color)
+    put_root(page, work, start, names, table, values, truths, color)
 }
 
 // The trees of the terms that were put off and not shown since.
@@ -311,6 +317,7 @@ fn put_queue(
     page: &mut [u8],
     work: &mut [u32],
     start: State,
+    names: &[u8],
     table: &[u32],
     values: &[u32],
     truths: &[u32],
@@ -322,7 +329,7 @@ fn put_queue(
         if (s.queued <= i) | (number_at(work, k) == SHOWN) {
             continue;
         }
-        s = put_later(page, work, s, table, values, truths, color, k);
+        s = put_later(page, work, s, names, table, values, truths, color, k);
     }
     s
 }
@@ -330,6 +337,7 @@ fn put_queue(
 fn put_all(
     page: &mut [u8],
     at: usize,
+    names: &[u8],
     table: &[u32],
     values: &[u32],
     truths: &[u32],
@@ -338,17 +346,24 @@ fn put_all(
 ) -> usize {
     let mut work = work_row();
     let start = rooted(&mut work, at, 0, rule);
-    let s = put_root(page, &mut work, start, table, values, truths, color);
-    let all = put_queue(page, &mut work, s, table, values, truths, color);
+    let s = put_root(page, &mut work, start, names, table, values, truths, color);
+    let all = put_queue(page, &mut work, s, names, table, values, truths, color);
     all.at
 }
 
 // The rule of a judgement whose room is the values, then the conditions' truths.
-pub fn put_tree(page: &mut [u8], at: usize, table: &[u32], room: &[u32], color: bool) -> usize {
+pub fn put_tree(
+    page: &mut [u8],
+    at: usize,
+    names: &[u8],
+    table: &[u32],
+    room: &[u32],
+    color: bool,
+) -> usize {
     let terms = show::terms_within(table, 512);
     let middle = show::front(terms, room);
     let values = &room[..middle];
     let truths = &room[middle..];
     let rule = std::num::wrapping_sub_u32(terms, 1);
-    put_all(page, at, table, values, truths, color, rule)
+    put_all(page, at, names, table, values, truths, color, rule)
 }

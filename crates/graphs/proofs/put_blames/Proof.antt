@@ -7,10 +7,10 @@ use Rattle.graphs.proofs.put_blames.Statement.{statement}
 use Rattle.graphs.proofs.put_blames.Tie as tie
 
 abbrev Inv-loop : tie.InvT-loop
-Inv-loop page₀ at table values truths k x to₀ i₀ page to i = (i ≤ 18) × (length page ≡ length page₀)
+Inv-loop page₀ at names table values truths k x to₀ i₀ page to i = (i ≤ 18) × (length page ≡ length page₀)
 
 abbrev μ-loop : tie.MeasureT-loop
-μ-loop page₀ at table values truths k x to₀ i₀ page to i = 18 - i
+μ-loop page₀ at names table values truths k x to₀ i₀ page to i = 18 - i
 
 pub put-blames-spec : {M : Type 1} → statement M
 put-blames-spec =

@@ -7,10 +7,10 @@ use Rattle.graphs.proofs.put_edges.Statement.{statement}
 use Rattle.graphs.proofs.put_edges.Tie as tie
 
 abbrev Inv-loop : tie.InvT-loop
-Inv-loop page₀ at table values truths k on x to₀ i₀ i-end page to i = (i ≤ i-end) × (length page ≡ length page₀)
+Inv-loop page₀ at names table values truths k on x to₀ i₀ i-end page to i = (i ≤ i-end) × (length page ≡ length page₀)
 
 abbrev μ-loop : tie.MeasureT-loop
-μ-loop page₀ at table values truths k on x to₀ i₀ i-end page to i = i-end - i
+μ-loop page₀ at names table values truths k on x to₀ i₀ i-end page to i = i-end - i
 
 pub put-edges-spec : {M : Type 1} → statement M
 put-edges-spec =

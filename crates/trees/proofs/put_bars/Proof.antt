@@ -7,10 +7,10 @@ use Rattle.trees.proofs.put_bars.Statement.{statement}
 use Rattle.trees.proofs.put_bars.Tie as tie
 
 abbrev Inv-loop : tie.InvT-loop
-Inv-loop page₀ at level bars to₀ rest₀ i₀ page to rest i = (i ≤ level) × (length page ≡ length page₀)
+Inv-loop page₀ at names level bars to₀ rest₀ i₀ page to rest i = (i ≤ level) × (length page ≡ length page₀)
 
 abbrev μ-loop : tie.MeasureT-loop
-μ-loop page₀ at level bars to₀ rest₀ i₀ page to rest i = level - i
+μ-loop page₀ at names level bars to₀ rest₀ i₀ page to rest i = level - i
 
 pub put-bars-spec : {M : Type 1} → statement M
 put-bars-spec =

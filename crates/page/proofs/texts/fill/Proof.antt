@@ -7,10 +7,10 @@ use Rattle.page.proofs.texts.fill.Statement.{statement}
 use Rattle.page.proofs.texts.fill.Tie as tie
 
 abbrev Inv-loop : tie.InvT-loop
-Inv-loop page₀ at text names n f₀ -turn₀ page f -turn = length page ≡ length page₀
+Inv-loop page₀ at names text words n f₀ -turn₀ page f -turn = length page ≡ length page₀
 
 abbrev μ-loop : tie.MeasureT-loop
-μ-loop page₀ at text names n f₀ -turn₀ page f -turn = 1000 - -turn
+μ-loop page₀ at names text words n f₀ -turn₀ page f -turn = 1000 - -turn
 
 pub fill-spec : {M : Type 1} → statement M
 fill-spec =

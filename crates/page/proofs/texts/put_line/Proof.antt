@@ -7,10 +7,10 @@ use Rattle.page.proofs.texts.put_line.Statement.{statement}
 use Rattle.page.proofs.texts.put_line.Tie as tie
 
 abbrev Inv-loop : tie.InvT-loop
-Inv-loop page₀ at text n to₀ i₀ i-end page to i = length page ≡ length page₀
+Inv-loop page₀ at text n start to₀ i₀ t8 i-end page to i = length page ≡ length page₀
 
 abbrev μ-loop : tie.MeasureT-loop
-μ-loop page₀ at text n to₀ i₀ i-end page to i = length text - i
+μ-loop page₀ at text n start to₀ i₀ t8 i-end page to i = length text - i
 
 pub put-line-spec : {M : Type 1} → statement M
 put-line-spec =
@@ -21,6 +21,11 @@ put-line-spec =
     (λ c κs. search needs)
     (λ c. omega arith)
     (λ c. omega arith)
+    (λ c κs. search needs)
+    (λ c. search needs)
+    (λ c κs. search needs)
+    (λ c. omega arith)
+    (λ c. search needs)
     (λ c. omega arith)
     (λ c κs. search needs)
     (λ c. omega arith)

@@ -7,10 +7,10 @@ use Rattle.phrases.proofs.json.put_slots.Statement.{statement}
 use Rattle.phrases.proofs.json.put_slots.Tie as tie
 
 abbrev Inv-loop : tie.InvT-loop
-Inv-loop page₀ at slots to₀ first₀ k₀ page to first k = (k ≤ 256) × (length page ≡ length page₀)
+Inv-loop page₀ at names slots to₀ first₀ k₀ page to first k = (k ≤ 256) × (length page ≡ length page₀)
 
 abbrev μ-loop : tie.MeasureT-loop
-μ-loop page₀ at slots to₀ first₀ k₀ page to first k = 256 - k
+μ-loop page₀ at names slots to₀ first₀ k₀ page to first k = 256 - k
 
 pub put-slots-spec : {M : Type 1} → statement M
 put-slots-spec =

@@ -7,10 +7,10 @@ use Rattle.phrases.proofs.repairs.put_slots.Statement.{statement}
 use Rattle.phrases.proofs.repairs.put_slots.Tie as tie
 
 abbrev Inv-loop : tie.InvT-loop
-Inv-loop page₀ at slots count last t₀ k₀ page t k = (k ≤ 256) × (length page ≡ length page₀)
+Inv-loop page₀ at names slots count last t₀ k₀ page t k = (k ≤ 256) × (length page ≡ length page₀)
 
 abbrev μ-loop : tie.MeasureT-loop
-μ-loop page₀ at slots count last t₀ k₀ page t k = 256 - k
+μ-loop page₀ at names slots count last t₀ k₀ page t k = 256 - k
 
 pub put-slots-spec : {M : Type 1} → statement M
 put-slots-spec =

@@ -7,10 +7,10 @@ use Rattle.reasons.proofs.reasons.put_why.Statement.{statement}
 use Rattle.reasons.proofs.reasons.put_why.Tie as tie
 
 abbrev Inv-loop : tie.InvT-loop
-Inv-loop page₀ at table values truths k x to₀ line₀ i₀ page to line i = (i ≤ 18) × (length page ≡ length page₀)
+Inv-loop page₀ at names table values truths k x to₀ line₀ i₀ page to line i = (i ≤ 18) × (length page ≡ length page₀)
 
 abbrev μ-loop : tie.MeasureT-loop
-μ-loop page₀ at table values truths k x to₀ line₀ i₀ page to line i = 18 - i
+μ-loop page₀ at names table values truths k x to₀ line₀ i₀ page to line i = 18 - i
 
 pub put-why-spec : {M : Type 1} → statement M
 put-why-spec =

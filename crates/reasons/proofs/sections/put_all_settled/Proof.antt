@@ -7,10 +7,10 @@ use Rattle.reasons.proofs.sections.put_all_settled.Statement.{statement
 use Rattle.reasons.proofs.sections.put_all_settled.Tie as tie
 
 abbrev Inv-loop : tie.InvT-loop
-Inv-loop page₀ at table values truths terms to₀ first₀ k₀ page to first k = (k ≤ terms) × (length page ≡ length page₀)
+Inv-loop page₀ at names table values truths terms to₀ first₀ k₀ page to first k = (k ≤ terms) × (length page ≡ length page₀)
 
 abbrev μ-loop : tie.MeasureT-loop
-μ-loop page₀ at table values truths terms to₀ first₀ k₀ page to first k = terms - k
+μ-loop page₀ at names table values truths terms to₀ first₀ k₀ page to first k = terms - k
 
 pub put-all-settled-spec : {M : Type 1} → statement M
 put-all-settled-spec =

@@ -7,10 +7,10 @@ use Rattle.reasons.proofs.sections.put_way.Statement.{statement}
 use Rattle.reasons.proofs.sections.put_way.Tie as tie
 
 abbrev Inv-loop : tie.InvT-loop
-Inv-loop page₀ at table values truths way terms to₀ i₀ page to i = (i ≤ terms) × (length page ≡ length page₀)
+Inv-loop page₀ at names table values truths way terms to₀ i₀ page to i = (i ≤ terms) × (length page ≡ length page₀)
 
 abbrev μ-loop : tie.MeasureT-loop
-μ-loop page₀ at table values truths way terms to₀ i₀ page to i = terms - i
+μ-loop page₀ at names table values truths way terms to₀ i₀ page to i = terms - i
 
 pub put-way-spec : {M : Type 1} → statement M
 put-way-spec =

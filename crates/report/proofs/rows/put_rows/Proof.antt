@@ -7,10 +7,10 @@ use Rattle.report.proofs.rows.put_rows.Statement.{statement}
 use Rattle.report.proofs.rows.put_rows.Tie as tie
 
 abbrev Inv-loop : tie.InvT-loop
-Inv-loop page₀ at table values terms to₀ k₀ page to k = (k ≤ terms) × (length page ≡ length page₀)
+Inv-loop page₀ at names table values terms to₀ k₀ page to k = (k ≤ terms) × (length page ≡ length page₀)
 
 abbrev μ-loop : tie.MeasureT-loop
-μ-loop page₀ at table values terms to₀ k₀ page to k = terms - k
+μ-loop page₀ at names table values terms to₀ k₀ page to k = terms - k
 
 pub put-rows-spec : {M : Type 1} → statement M
 put-rows-spec =

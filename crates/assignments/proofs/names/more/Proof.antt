@@ -1,0 +1,13 @@
+use borrow.Author.Needs.{needs}
+use borrow.Author.Tests.{lt-ltb, le-ltb}
+use Rattle.assignments.proofs.names.more.Statement.{statement}
+use Rattle.assignments.proofs.names.more.Tie as tie
+
+returns : tie.Need-returns
+returns c = rw (lt-ltb _ _ (c .if1 .taken))
+
+returns-2 : tie.Need-returns-2
+returns-2 c = rw (le-ltb _ _ (c .if1 .left))
+
+pub more-spec : {M : Type 1} → statement M
+more-spec = tie.close (tie.spec (λ c. search needs) returns returns-2)

@@ -1,0 +1,5 @@
+pub mod Tokens
+pub mod Seeking
+pub mod Statements
+pub mod Reading
+pub mod Laws

@@ -1,0 +1,5 @@
+pub mod WordLists
+pub mod Ways
+pub mod Writing
+pub mod Complete
+pub mod Samples

@@ -1,0 +1,5 @@
+(declare-const x1 Bool)
+(declare-const first (_ BitVec 8))
+(declare-const second (_ BitVec 8))
+(assert (bvult (ite x1 first second) #b00000100))
+(check-sat)

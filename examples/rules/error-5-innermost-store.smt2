@@ -1,0 +1,5 @@
+(declare-const list (Array (_ BitVec 8) (_ BitVec 8)))
+(declare-const place (_ BitVec 8))
+(declare-const x1 (_ BitVec 8))
+(assert (= (select (store (store list place x1) place #b00000111) place) #b00000111))
+(check-sat)

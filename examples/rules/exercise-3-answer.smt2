@@ -1,0 +1,7 @@
+(declare-const side Bool)
+(declare-const raw (_ BitVec 8))
+(declare-const a (Array (_ BitVec 8) (_ BitVec 8)))
+(declare-const x3 (Array (_ BitVec 8) (_ BitVec 8)))
+(declare-const order (_ BitVec 8))
+(assert (= (ite side (select a raw) (select x3 raw)) order))
+(check-sat)

@@ -1,0 +1,7 @@
+(declare-const x1 Bool)
+(declare-const x2 (_ BitVec 8))
+(declare-const a (Array (_ BitVec 8) (_ BitVec 8)))
+(declare-const x3 (Array (_ BitVec 8) (_ BitVec 8)))
+(declare-const order (_ BitVec 8))
+(assert (= (ite x1 (select a x2) (select x3 x2)) order))
+(check-sat)

@@ -1,0 +1,2 @@
+(declare-const raw (_ BitVec 8))
+(check-sat)

@@ -1,0 +1,5 @@
+(declare-const raw (_ BitVec 8))
+(declare-const x1 Bool)
+(declare-const limit (_ BitVec 8))
+(assert (bvult (bvadd raw x1) limit))
+(check-sat)

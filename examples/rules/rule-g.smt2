@@ -1,0 +1,5 @@
+(declare-const a (_ BitVec 8))
+(declare-const x1 (_ BitVec 8))
+(declare-const b (_ BitVec 8))
+(assert (bvult #b00000000 (bvadd (bvmul a x1) b)))
+(check-sat)

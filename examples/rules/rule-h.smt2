@@ -1,0 +1,5 @@
+(declare-const x0 (Array (_ BitVec 8) (_ BitVec 8)))
+(declare-const a (_ BitVec 8))
+(declare-const c (_ BitVec 8))
+(assert (= (select (store x0 a #b00101010) c) #b00101010))
+(check-sat)

@@ -1,0 +1,6 @@
+(declare-const raw (_ BitVec 8))
+(declare-const x1 Bool)
+(declare-const limit (_ BitVec 8))
+(assert (bvult raw limit))
+(assert (not (and x1 (= raw limit))))
+(check-sat)

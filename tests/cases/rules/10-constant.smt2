@@ -1,0 +1,2 @@
+(assert #b1)
+(check-sat)

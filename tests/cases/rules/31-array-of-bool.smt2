@@ -1,0 +1,3 @@
+(declare-const a (Array Bool (_ BitVec 8)))
+(assert true)
+(check-sat)

@@ -1,0 +1,3 @@
+(declare-const exit Bool)
+(assert exit)
+(check-sat)

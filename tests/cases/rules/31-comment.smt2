@@ -1,0 +1,4 @@
+; the weight is below the limit
+(declare-const a Bool)
+(assert a)
+(check-sat)

@@ -1,0 +1,3 @@
+(declare-const true Bool)
+(assert true)
+(check-sat)

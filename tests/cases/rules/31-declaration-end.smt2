@@ -1,0 +1,3 @@
+(declare-const a Bool 8)
+(assert a)
+(check-sat)

@@ -1,0 +1,4 @@
+(declare-const a Bool)
+(assert a)
+(declare-const b Bool)
+(check-sat)

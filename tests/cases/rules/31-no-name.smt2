@@ -1,0 +1,3 @@
+(declare-const 8a Bool)
+(assert true)
+(check-sat)

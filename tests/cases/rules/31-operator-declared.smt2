@@ -1,0 +1,3 @@
+(declare-const select Bool)
+(assert true)
+(check-sat)

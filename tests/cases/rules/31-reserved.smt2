@@ -1,0 +1,3 @@
+(declare-const let Bool)
+(assert let)
+(check-sat)

@@ -1,0 +1,3 @@
+(declare-const a (BitVec 8))
+(assert (= a a))
+(check-sat)

@@ -1,0 +1,3 @@
+(declare-const a (Array (_ BitVec 8) (_ BitVec 08)))
+(assert true)
+(check-sat)

@@ -1,0 +1,3 @@
+(declare-const a (_ BitVec 33))
+(assert (= a a))
+(check-sat)

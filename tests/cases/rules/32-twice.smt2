@@ -1,0 +1,5 @@
+(declare-const a Bool)
+(declare-const x1 Bool)
+(declare-const a Bool)
+(assert a)
+(check-sat)

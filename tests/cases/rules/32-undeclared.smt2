@@ -1,0 +1,3 @@
+(declare-const limit (_ BitVec 8))
+(assert (bvult gauge limit))
+(check-sat)

@@ -1,0 +1,4 @@
+(declare-const a Bool)
+(assert
+(not (not (not (not (not (not (not (not (not (not (not (not (not (not (not (not (not (not (not (not (not (not (not (not (not (not (not (not (not (not (not (not (not (not (not (not (not (not (not (not (not (not (not (not (not (not (not (not (not (not (not (not (not (not (not (not (not (not (not (not (not (not (not (not (not a))))))))))))))))))))))))))))))))))))))))))))))))))))))))))))))))))
+(check-sat)

@@ -1,0 +1,5 @@
+(declare-const a (_ BitVec 8))
+(declare-const x1 Bool)
+(declare-const t (Array (_ BitVec 4) (_ BitVec 8)))
+(assert (or x1 (= (select t (ite x1 #b0000 #b0001)) a)))
+(check-sat)

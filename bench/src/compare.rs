@@ -16,9 +16,10 @@ fn agreed(routine: Routine, input: &Input, allowance: u64, room: usize) -> Outco
     let one = outcome::<Library>(routine, input, allowance, room);
     let other = outcome::<Rust>(routine, input, allowance, room);
     if one != other {
-        let Input { table, values, cells } = input;
+        let Input { table, values, cells, typed } = input;
         eprintln!("{}: the sides differ", routine.name());
         eprintln!("table {table:?}\nvalues {values:?}\ncells {cells:?}\nallowance {allowance}, room {room}");
+        eprintln!("text {}", typed.escape_ascii());
         eprintln!("library {:?} {:?}\nRust    {:?} {:?}", one.0, one.1, other.0, other.1);
         let place = one.2.numbers.iter().zip(&other.2.numbers).position(|(a, b)| a != b);
         let byte = one.2.text.iter().zip(&other.2.text).position(|(a, b)| a != b);
@@ -36,7 +37,7 @@ pub fn compare(routine: Routine, input: &Input) -> usize {
     assert_eq!(number, 0, "{}: refused at {}", routine.name(), answer[0]);
     let needed = match routine {
         Routine::Finish => 6 * answer[0] as usize,
-        Routine::Print => answer[0] as usize,
+        Routine::Print | Routine::Parse => answer[0] as usize,
         _ => enough,
     };
     agreed(routine, input, u64::MAX, needed);
@@ -57,6 +58,36 @@ pub fn compare_altered(input: &Input, copies: usize, random: &mut Random) -> usi
         }
     }
     refused
+}
+
+/// Compares parse on a text, which may be refused, and on copies with some bytes altered; how many of these were refused.
+pub fn compare_misprinted(input: &Input, copies: usize, random: &mut Random) -> usize {
+    let enough = Routine::Parse.enough(0);
+    agreed(Routine::Parse, input, 0, enough);
+    let mut refused = 0;
+    for _ in 0..copies {
+        let mut other = input.clone();
+        for _ in 0..=random.below(2) {
+            misprint(&mut other.typed, random);
+        }
+        refused += usize::from(agreed(Routine::Parse, &other, 0, enough).0 != 0);
+    }
+    refused
+}
+
+const BYTES: &[u8] = b"() \t\n\r\x0b#b01|;x@.av_=\x80";
+
+fn misprint(text: &mut Vec<u8>, random: &mut Random) {
+    let (place, byte) = (random.below(text.len()), BYTES[random.below(BYTES.len())]);
+    match random.below(4) {
+        0 => text[place] = byte,
+        1 => text.insert(place, byte),
+        2 => drop(text.drain(place..(place + 1 + random.below(8)).min(text.len()))),
+        _ => {
+            let again = text[place..(place + 12).min(text.len())].to_vec();
+            text.splice(place..place, again);
+        }
+    }
 }
 
 fn altered(input: &Input, random: &mut Random) -> Input {

@@ -1,11 +1,12 @@
 //! The tables and settings that are measured. The same at each run.
 
-/// A table with a setting.
-#[derive(Clone)]
+/// A table with a setting, or a typed rule.
+#[derive(Clone, Default)]
 pub struct Input {
     pub table: Vec<u32>,
     pub values: Vec<u32>,
     pub cells: Vec<u32>,
+    pub typed: Vec<u8>,
 }
 
 impl Input {
@@ -135,7 +136,7 @@ impl Writer {
             let slot = self.array_slots[self.random.below(self.array_slots.len())];
             row.extend([slot, self.random.below(32) as u32, self.random.below(20) as u32]);
         }
-        Input { table: self.table, values: self.values, cells: row }
+        Input { table: self.table, values: self.values, cells: row, typed: vec![] }
     }
 }
 
@@ -172,7 +173,7 @@ pub fn reads_among(cells: u32) -> Input {
     }
     table.extend([14, 0, 0, 17, 47, 0]);
     let cells = (0..cells).flat_map(|k| [0, k, k * 7]).collect();
-    Input { table, values: vec![5], cells }
+    Input { table, values: vec![5], cells, typed: vec![] }
 }
 
 /// So many reads of an array variable under 16 stores: finished, it is far longer.
@@ -185,7 +186,7 @@ pub fn chained(reads: u32) -> Input {
         table.extend([15, 0, 8, 18, 1 + k % 2, 0]);
     }
     table.extend([14, 0, 0, 1, 18 + reads, 0]);
-    Input { table, values: vec![5, 7, 9], cells: vec![] }
+    Input { table, values: vec![5, 7, 9], cells: vec![], typed: vec![] }
 }
 
 /// So many variables, each in a slot of its own, and as many sums of them.
@@ -198,5 +199,5 @@ pub fn variables(slots: u32) -> Input {
         table.extend([11, 0, 32, k, if k == 0 { 1 } else { slots + k - 1 }, 0]);
     }
     table.extend([14, 0, 0, 0, 2 * slots - 2, 0]);
-    Input { table, values: (0..slots).map(|slot| slot * 3).collect(), cells: vec![] }
+    Input { table, values: (0..slots).map(|slot| slot * 3).collect(), cells: vec![], typed: vec![] }
 }

@@ -23,6 +23,10 @@ pub fn print(table: &[u32], text: &mut [u8], answer: &mut [u64; 4]) -> u32 {
     unsafe { hiranthok_print(table.as_ptr(), table.len(), text.as_mut_ptr(), text.len(), answer) }
 }
 
+pub fn parse(text: &[u8], room: &mut [u32], answer: &mut [u64; 4]) -> u32 {
+    unsafe { hiranthok_parse(text.as_ptr(), text.len(), room.as_mut_ptr(), room.len(), answer) }
+}
+
 /// Evaluate or judge.
 fn in_setting(call: InSetting, rows: [&[u32]; 3], allowance: u64, work: &mut [u32], answer: &mut [u64; 4]) -> u32 {
     let [table, values, cells] = rows;

@@ -1,7 +1,8 @@
 //! Times the library beside an implementation in Rust, in one run, and prints Markdown.
 //!
 //! `calls SIDE ROUTINE KIND SIZE N` instead makes N calls and prints nothing: a driver for a profiler.
-//! The size is a count of terms, of cells, of variables or of reads.
+//! The size is a count of terms, of cells, of variables, of reads or of names.
+//! `solvers` times z3 and cvc5 reading the typed rules.
 
 mod compare;
 mod fast;
@@ -10,6 +11,8 @@ mod library;
 mod measure;
 mod report;
 mod sides;
+mod solvers;
+mod typed;
 
 use inputs::{Input, Random, chained, mixed, reads_among, variables};
 use sides::{Library, ROUTINES, Routine, Rust, Side};
@@ -25,7 +28,7 @@ pub fn finished(input: &Input) -> Input {
 
 fn calls(words: &[String]) -> Option<()> {
     let [_, side, routine, kind, size, count] = words else { return None };
-    let routine = ROUTINES.into_iter().find(|known| known.name() == routine)?;
+    let routine = ROUTINES.into_iter().chain([Routine::Parse]).find(|known| known.name() == routine)?;
     let size: u32 = size.parse().ok()?;
     let input = match kind.as_str() {
         "plain" => mixed(size as usize, false),
@@ -34,6 +37,8 @@ fn calls(words: &[String]) -> Option<()> {
         "cells" => reads_among(size),
         "variables" => variables(size),
         "chained" => finished(&chained(size)),
+        "typed" => typed::rule(size as usize),
+        "names" => typed::names(size as usize),
         _ => return None,
     };
     let (mut room, mut answer) = (routine.room(routine.enough(input.terms())), [0; 4]);
@@ -48,10 +53,12 @@ fn main() {
     let words: Vec<String> = std::env::args().skip(1).collect();
     match words.first().map(String::as_str) {
         None => report::print(&mut Random(1)),
+        Some("solvers") => solvers::print(),
         Some("calls") if calls(&words).is_some() => {}
         Some(_) => {
             eprintln!(
-                "usage: hiranthok-bench [calls library|rust ROUTINE plain|arrays|finished|cells|variables|chained SIZE N]"
+                "usage: hiranthok-bench [solvers | calls library|rust ROUTINE KIND SIZE N]\n\
+                 KIND: plain, arrays, finished, cells, variables, chained; typed, names"
             );
             std::process::exit(2);
         }

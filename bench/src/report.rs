@@ -1,10 +1,11 @@
 //! The whole table: ratios, then growth.
 
-use crate::compare::{compare, compare_altered};
+use crate::compare::{compare, compare_altered, compare_misprinted};
 use crate::finished;
 use crate::inputs::{Input, Random, chained, mixed, reads_among, variables};
 use crate::measure::improve;
 use crate::sides::{Library, ROUTINES, Routine, Rust, Side};
+use crate::typed;
 use std::hint::black_box;
 
 /// All lines are measured so many times, one after the other: what slows a machine down for a while
@@ -23,6 +24,11 @@ struct Line {
 }
 
 impl Line {
+    /// A text; those of too many names are refused, and are measured all the same.
+    fn typed(input: Input, units: usize) -> Line {
+        Line { routine: Routine::Parse, input, units, best: [f64::INFINITY; 2] }
+    }
+
     /// Compares the results first.
     fn new(routine: Routine, input: Input, units: usize) -> Line {
         compare(routine, &input);
@@ -93,6 +99,34 @@ fn growth_sections() -> [Section; 4] {
     ]
 }
 
+/// Texts by the count of terms, and by the count of names.
+fn typed_sections() -> [Section; 2] {
+    let rules = [8, 64, 512].map(|terms| Line::typed(typed::rule(terms), terms));
+    let names = [2, 16, 64, 128, 256, 512, 1024].map(|names| Line::typed(typed::names(names), names));
+    [
+        Section { heading: "Rules", unit: "terms", lines: rules.into() },
+        Section { heading: "Names, each declared and used once", unit: "names", lines: names.into() },
+    ]
+}
+
+/// Time for a text, and bytes a second.
+fn print_typed(Section { heading, unit, lines }: &Section) {
+    println!("\n{heading}:\n");
+    println!(
+        "| {unit} | bytes | library, ns | Rust, ns | library / Rust | library, MB/s | Rust, MB/s | library, ns a byte |"
+    );
+    println!("|---:|---:|---:|---:|---:|---:|---:|---:|");
+    for Line { input, units, best: [library, rust], .. } in lines {
+        let bytes = input.typed.len() as f64;
+        let [fast, slow] = [library, rust].map(|ns| 1000.0 * bytes / ns);
+        let ratio = library / rust;
+        println!(
+            "| {units} | {bytes} | {library:.0} | {rust:.0} | {ratio:.2} | {fast:.0} | {slow:.0} | {:.2} |",
+            library / bytes
+        );
+    }
+}
+
 fn print_ratios(section: &Section) {
     println!("\n{}:\n", section.heading);
     println!("| routine | terms | library, ns | Rust, ns | library / Rust |");
@@ -128,16 +162,27 @@ fn print_altered(random: &mut Random) {
     let calls = inputs.len() * ALTERED * ROUTINES.len();
     println!("Both sides gave equal results on each input below before it was timed, and on {calls} calls with one");
     println!("number altered, of which {refused} were refused.");
+    let texts: Vec<Input> =
+        typed_sections().into_iter().flat_map(|section| section.lines).map(|line| line.input).collect();
+    let refused: usize = texts.iter().map(|text| compare_misprinted(text, ALTERED, random)).sum();
+    println!("So they did on {} misprinted texts, of which {refused} were refused.", texts.len() * ALTERED);
 }
 
 pub fn print(random: &mut Random) {
-    let (mut ratios, mut growth) = (ratio_sections(), growth_sections());
+    let (mut ratios, mut growth, mut texts) = (ratio_sections(), growth_sections(), typed_sections());
     print_altered(random);
     for _ in 0..SWEEPS {
-        ratios.iter_mut().chain(&mut growth).flat_map(|section| &mut section.lines).for_each(Line::measure);
+        ratios
+            .iter_mut()
+            .chain(&mut growth)
+            .chain(&mut texts)
+            .flat_map(|section| &mut section.lines)
+            .for_each(Line::measure);
     }
     println!("\n## Beside Rust");
     ratios.iter().for_each(print_ratios);
     println!("\n## Growth");
     growth.iter().for_each(print_growth);
+    println!("\n## Typed rules");
+    texts.iter().for_each(print_typed);
 }

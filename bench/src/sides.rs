@@ -10,13 +10,15 @@ pub enum Routine {
     Evaluate,
     Judge,
     Print,
+    Parse,
 }
 
+/// The routines that take a table.
 pub const ROUTINES: [Routine; 5] = [Routine::Admit, Routine::Finish, Routine::Evaluate, Routine::Judge, Routine::Print];
 
 impl Routine {
     pub fn name(self) -> &'static str {
-        ["admit", "finish", "evaluate", "judge", "print"][self as usize]
+        ["admit", "finish", "evaluate", "judge", "print", "parse"][self as usize]
     }
 
     /// Numbers of room that any input of so many terms has enough of; for print bytes.
@@ -27,6 +29,7 @@ impl Routine {
             Routine::Evaluate => library::sizes::evaluate_work(terms),
             Routine::Judge => library::sizes::judge_work(terms),
             Routine::Print => library::sizes::print_room(terms),
+            Routine::Parse => library::sizes::PARSE_ROOM,
         }
     }
 
@@ -58,7 +61,7 @@ macro_rules! side {
         impl Side for $name {
             #[inline(always)]
             fn call(routine: Routine, input: &Input, allowance: u64, room: &mut Room, answer: &mut [u64; 4]) -> u32 {
-                let Input { table, values, cells } = input;
+                let Input { table, values, cells, typed } = input;
                 let Room { numbers, text } = room;
                 match routine {
                     Routine::Admit => $module::admit(table, answer),
@@ -66,6 +69,7 @@ macro_rules! side {
                     Routine::Evaluate => $module::evaluate(table, values, cells, allowance, numbers, answer),
                     Routine::Judge => $module::judge(table, values, cells, allowance, numbers, answer),
                     Routine::Print => $module::print(table, text, answer),
+                    Routine::Parse => $module::parse(typed, numbers, answer),
                 }
             }
         }

@@ -5,6 +5,7 @@
  *   j table values cells    judge
  *   f table                 finish
  *   p table                 print
+ *   t text                  parse; a byte is a number
  * The answer is one line: the number that the function answers, its four answers, and the room's front; of print the text comes
  * after the line. */
 #include <inttypes.h>
@@ -23,6 +24,7 @@ struct row {
 
 static struct row table, values, cells, room;
 static uint8_t text[HIRANTHOK_MAX_PRINT_ROOM];
+_Static_assert((int)LONGEST < (int)HIRANTHOK_MAX_PRINT_ROOM, "a row of bytes fits");
 
 static void take(struct row *row) {
     if (scanf("%zu", &row->len) != 1 || row->len > LONGEST) exit(2);
@@ -54,6 +56,12 @@ int main(void) {
             give(number, answer, 0);
             if (number == 0) fwrite(text, 1, answer[0], stdout);
             fflush(stdout);
+            continue;
+        }
+        if (request == 't') {
+            for (size_t k = 0; k < table.len; k++) text[k] = (uint8_t)table.numbers[k];
+            number = hiranthok_parse(text, table.len, room.numbers, LONGEST, answer);
+            give(number, answer, answer[0]);
             continue;
         }
         take(&values);

@@ -9,16 +9,19 @@ pub enum Routine {
     Evaluate,
     Judge,
     Print,
+    Parse,
 }
 
+/// The routines that take a table.
 pub const ROUTINES: [Routine; 5] = [Routine::Admit, Routine::Finish, Routine::Evaluate, Routine::Judge, Routine::Print];
 
-/// The arguments of a call. `room` is the length of the lent room, for print in bytes; a routine that takes no setting ignores the
-/// rest.
+/// The arguments of a call. `room` is the length of the lent room, for print in bytes. Parse takes the text alone, the others the
+/// table; a routine that takes no setting ignores the rest.
 #[derive(Clone, PartialEq, Debug)]
 pub struct Case {
     pub routine: Routine,
     pub table: Vec<u32>,
+    pub text: Vec<u8>,
     pub values: Vec<u32>,
     pub cells: Vec<u32>,
     pub allowance: u64,
@@ -61,13 +64,18 @@ impl Routine {
     /// The terms that a table may have.
     pub fn limit(self) -> usize {
         match self {
-            Routine::Admit | Routine::Finish | Routine::Judge => 512,
+            Routine::Admit | Routine::Finish | Routine::Judge | Routine::Parse => 512,
             Routine::Evaluate | Routine::Print => 80_000,
         }
     }
 }
 
 impl Case {
+    /// The call that parses a text.
+    pub fn parse(text: Vec<u8>, room: usize) -> Case {
+        Case { routine: Routine::Parse, table: vec![], text, values: vec![], cells: vec![], allowance: 0, room }
+    }
+
     pub fn terms(&self) -> usize {
         self.table.len() / 6
     }
@@ -79,6 +87,12 @@ impl Case {
             _ => (pattern(self.room), vec![]),
         }
     }
+}
+
+/// A text as Rust writes it.
+fn byte_string(text: &[u8]) -> String {
+    let written: String = text.escape_ascii().to_string();
+    format!("b\"{written}\"")
 }
 
 /// How much of a room's front was written.
@@ -96,6 +110,7 @@ impl fmt::Display for Case {
             writeln!(f, "        {},", numbers.join(", "))?;
         }
         writeln!(f, "    ],")?;
+        writeln!(f, "    text: {}.to_vec(),", byte_string(&self.text))?;
         writeln!(f, "    values: vec!{:?},", self.values)?;
         writeln!(f, "    cells: vec!{:?},", self.cells)?;
         writeln!(f, "    allowance: {},", self.allowance)?;

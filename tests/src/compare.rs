@@ -4,7 +4,7 @@ use crate::case::{Answer, Case, Checker, Routine};
 use crate::counts::Counts;
 use crate::generate;
 use crate::random::Random;
-use crate::{finished, pairs, printed};
+use crate::{finished, pairs, parsed, printed};
 
 /// What is checked of a call.
 #[derive(Clone, Copy, Debug)]
@@ -19,6 +19,8 @@ pub enum Check {
     Finished,
     /// The laws of printing for the table and the partners with this seed.
     Printed(u64),
+    /// The laws of parsing for the text and the partners with this seed.
+    Parsed(u64),
 }
 
 /// A check that failed, and the call.
@@ -49,6 +51,7 @@ impl Check {
             Check::Pair(seed) => pairs::fault(subject, case, seed),
             Check::Finished => finished::fault(subject, case),
             Check::Printed(seed) => printed::fault(subject, case, seed),
+            Check::Parsed(seed) => parsed::fault(subject, case, seed),
         }
     }
 }
@@ -61,7 +64,12 @@ impl<'a> Comparison<'a> {
     /// Runs the round with this number; the same seed and number give the same round.
     pub fn round(&mut self, seed: u64, number: u64) -> Result<(), Difference> {
         let mut random = Random::new(seed ^ Random::new(number).next());
-        for case in &generate::round(&mut random, number) {
+        let cases = generate::round(&mut random, number);
+        self.cases(&mut random, &cases)
+    }
+
+    fn cases(&mut self, random: &mut Random, cases: &[Case]) -> Result<(), Difference> {
+        for case in cases {
             let answer = self.compare(case)?;
             if case.routine == Routine::Judge && answer.number == 0 {
                 if random.chance(40) || case.terms() > 100 {
@@ -73,6 +81,9 @@ impl<'a> Comparison<'a> {
             }
             if case.routine == Routine::Print && answer.number == 0 && random.chance(15) {
                 self.printed(case, random.next())?;
+            }
+            if case.routine == Routine::Parse {
+                self.parsed(random, case, &answer)?;
             }
         }
         Ok(())
@@ -133,6 +144,25 @@ impl<'a> Comparison<'a> {
         self.counts.count(("finished table evaluated and printed", 0, 0));
         if calls.evaluate.terms() > 10_000 {
             self.counts.count(("finished table over 10,000 terms", 0, 0));
+        }
+        Ok(())
+    }
+
+    /// The laws, and what the other routines say of the table.
+    fn parsed(&mut self, random: &mut Random, case: &Case, answer: &Answer) -> Result<(), Difference> {
+        if random.chance(20) || case.text.len() > 4000 && random.chance(30) {
+            self.counts.parsed += 1;
+            self.counts.calls += 2;
+            self.hold(Check::Parsed(random.next()), case)?;
+            self.counts.count(("laid out otherwise, refused", answer.number, 0));
+            if answer.number < 31 {
+                self.counts.count(("renamed, refused", answer.number, 0));
+            }
+        }
+        if answer.number == 0 && random.chance(15) {
+            self.counts.count(("parsed table judged", 0, 0));
+            let cases = generate::of_table(random, &answer.room[..answer.numbers[0] as usize]);
+            self.cases(random, &cases)?;
         }
         Ok(())
     }

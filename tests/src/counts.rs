@@ -1,5 +1,7 @@
 //! What occurred in a run, and what must occur, so that the test cannot go blind.
 
+mod parsing;
+
 use crate::case::{Answer, Case, Routine, ROUTINES};
 use crate::reference::term::*;
 use std::collections::BTreeMap;
@@ -11,25 +13,28 @@ pub struct Counts {
     pub pairs: u64,
     pub finished: u64,
     pub printed: u64,
+    pub parsed: u64,
 }
 
 /// What is counted: a name with up to two numbers, e.g. an operator and a width.
 pub type Key = (&'static str, u32, u32);
 
-const ROUTINE_NAMES: [&str; 5] = ["admit refuses", "finish refuses", "evaluate refuses", "judge refuses", "print refuses"];
+const ROUTINE_NAMES: [&str; 6] =
+    ["admit refuses", "finish refuses", "evaluate refuses", "judge refuses", "print refuses", "parse refuses"];
 const RECORD_NAMES: [&str; 2] = ["evaluate, records, refuses", "judge, records, refuses"];
 const LIKE: &str = "refusal 6, operands of one sort: operator, kind of sort";
-const REFUSALS: [&[u32]; 5] = [
+const REFUSALS: [&[u32]; 6] = [
     &[1, 2, 3, 4, 5, 6, 7, 8, 9, 10],
     &[1, 2, 3, 4, 5, 6, 7, 8, 9, 10, 21],
     &[1, 2, 3, 4, 5, 6, 7, 8, 9, 10, 11, 12, 13, 14, 15, 22, 23],
     &[1, 2, 3, 4, 5, 6, 7, 8, 9, 10, 11, 12, 13, 14, 15, 22, 23],
     &[1, 2, 3, 4, 5, 6, 7, 8, 9, 10, 24],
+    &parsing::REFUSALS,
 ];
 
 impl Counts {
     pub fn new() -> Counts {
-        Counts { seen: BTreeMap::new(), calls: 0, pairs: 0, finished: 0, printed: 0 }
+        Counts { seen: BTreeMap::new(), calls: 0, pairs: 0, finished: 0, printed: 0, parsed: 0 }
     }
 
     pub fn count(&mut self, key: Key) {
@@ -45,6 +50,9 @@ impl Counts {
         self.calls += 1;
         let routine = case.routine as usize;
         self.count((ROUTINE_NAMES[routine], answer.number, 0));
+        if case.routine == Routine::Parse {
+            return parsing::observe(self, case, answer);
+        }
         match answer.number {
             0 => self.observe_result(case, answer),
             1 | 2 => self.observe_length(case, answer),
@@ -121,7 +129,7 @@ impl Counts {
             self.count(("over 10,000 terms", routine, 0));
         }
         let (needed, spent) = match case.routine {
-            Routine::Admit => return,
+            Routine::Admit | Routine::Parse => return,
             Routine::Finish => (6 * answer.numbers[0] as usize, None),
             Routine::Evaluate => (case.terms(), Some((answer.numbers[0], answer.numbers[1]))),
             Routine::Judge => (2 * case.terms(), Some((answer.numbers[2], answer.numbers[3]))),
@@ -298,6 +306,7 @@ fn wanted() -> Vec<Key> {
     wanted_of_tables(&mut keys);
     wanted_of_results(&mut keys);
     wanted_of_texts(&mut keys);
+    parsing::wanted(&mut keys);
     keys
 }
 

@@ -1,4 +1,7 @@
-//! Paper 01's bench examples, request 01's texts, and a case for each point that the papers leave open, with the expected answers.
+//! Paper 01's bench examples, the texts of requests 01 and 02, and a case for each point that the papers leave open, with the
+//! expected answers.
+
+mod typed;
 
 use crate::case::{Case, Checker, Routine};
 
@@ -72,6 +75,7 @@ fn call(routine: Routine, terms: &[Term], values: &[u32], cells: &[u32], allowan
     Case {
         routine,
         table: terms.concat(),
+        text: vec![],
         values: values.to_vec(),
         cells: cells.to_vec(),
         allowance,
@@ -117,6 +121,7 @@ pub fn all() -> Vec<Example> {
     examples.extend(texts());
     examples.extend(sharing_texts());
     examples.extend(open_points_of_texts());
+    examples.extend(typed::all());
     examples
 }
 

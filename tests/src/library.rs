@@ -2,7 +2,7 @@
 
 use crate::case::{Answer, Case, Checker, Routine};
 
-include!(concat!(env!("CARGO_MANIFEST_DIR"), "/../include/hiranthok.rs"));
+include!("../../include/hiranthok.rs");
 
 pub struct Library;
 
@@ -62,6 +62,7 @@ const UNWRITTEN: [u64; 4] = [0xDEAD_BEEF_DEAD_BEEF; 4];
 impl Checker for Library {
     fn call(&self, case: &Case) -> Answer {
         let (t, v, c) = (case.table.clone(), case.values.clone(), case.cells.clone());
+        let typed = case.text.clone();
         let mut lent = Rooms::new(case);
         let (room, text, out) = (lent.numbers.room(), lent.text.room(), &mut lent.answer);
         let in_setting: InSetting = if case.routine == Routine::Judge { hiranthok_judge } else { hiranthok_evaluate };
@@ -75,14 +76,15 @@ impl Checker for Library {
                     in_setting(t.as_ptr(), t.len(), values, v.len(), cells, c.len(), case.allowance, room, case.room, out)
                 }
                 Routine::Print => hiranthok_print(t.as_ptr(), t.len(), text, case.room, out),
+                Routine::Parse => hiranthok_parse(typed.as_ptr(), typed.len(), room, case.room, out),
             }
         };
-        lent.answer(number, t != case.table || v != case.values || c != case.cells)
+        lent.answer(number, t != case.table || v != case.values || c != case.cells || typed != case.text)
     }
 
     fn call_with_records(&self, case: &Case) -> Option<Answer> {
         let with_records: WithRecords = match case.routine {
-            Routine::Admit | Routine::Finish | Routine::Print => return None,
+            Routine::Admit | Routine::Finish | Routine::Print | Routine::Parse => return None,
             Routine::Evaluate => hiranthok_evaluate_records,
             Routine::Judge => hiranthok_judge_records,
         };

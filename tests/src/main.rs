@@ -1,9 +1,10 @@
-//! Compares the library with a second evaluator on random tables and settings.
+//! Compares the library with a second evaluator on random tables, settings and texts.
 //!
 //!     cargo run --release                        # 60 seconds
 //!     cargo run --release -- --calls 1000000     # so many calls of the library
 //!     cargo run --release -- --seed 5            # the rounds of seed 5 again; --from 100 begins at round 100
 //!     cargo run --release -- --break NAME        # against a reference with a deliberate error: must fail
+//!     cargo run --release -- --texts FOLDER      # writes typed rules there, and compares nothing; --count 500 so many
 //!
 //! Fails on the first difference, with the smallest call found that still differs, and
 //! when something that should occur did not (`counts.rs` has the list).
@@ -16,6 +17,8 @@ mod finished;
 mod generate;
 mod library;
 mod pairs;
+mod parsed;
+mod places;
 mod printed;
 mod random;
 mod reference;
@@ -24,10 +27,13 @@ mod shrink;
 mod tests;
 
 use compare::{Comparison, Difference};
+use random::Random;
 use reference::flaw::{Flaw, FLAWS};
 use reference::Reference;
+use std::path::{Path, PathBuf};
 use std::process::ExitCode;
 use std::time::{Duration, Instant, SystemTime, UNIX_EPOCH};
+use std::{fs, io};
 
 struct Options {
     seconds: Option<u64>,
@@ -36,11 +42,14 @@ struct Options {
     from: u64,
     flaw: Flaw,
     counts: bool,
+    texts: Option<PathBuf>,
+    count: u64,
 }
 
 fn options() -> Result<Options, String> {
     let now = SystemTime::now().duration_since(UNIX_EPOCH).map_or(0, |d| d.as_millis() as u64);
-    let mut options = Options { seconds: None, calls: None, seed: now, from: 0, flaw: Flaw::None, counts: false };
+    let (texts, count) = (None, 1000);
+    let mut options = Options { seconds: None, calls: None, seed: now, from: 0, flaw: Flaw::None, counts: false, texts, count };
     let mut arguments = std::env::args().skip(1);
     while let Some(name) = arguments.next() {
         if name == "--counts" {
@@ -55,7 +64,12 @@ fn options() -> Result<Options, String> {
             "--seed" => options.seed = number()?,
             "--from" => options.from = number()?,
             "--break" => options.flaw = flaw(&value)?,
-            _ => return Err(format!("{name}: not known; --seconds, --calls, --seed, --from, --break, --counts are")),
+            "--texts" => options.texts = Some(value.into()),
+            "--count" => options.count = number()?,
+            _ => {
+                let known = "--seconds, --calls, --seed, --from, --break, --counts, --texts, --count";
+                return Err(format!("{name}: not known; {known} are"));
+            }
         }
     }
     Ok(options)
@@ -68,7 +82,11 @@ fn flaw(name: &str) -> Result<Flaw, String> {
 }
 
 fn main() -> ExitCode {
-    match options().and_then(|options| run(&options)) {
+    let done = options().and_then(|options| match &options.texts {
+        Some(folder) => write_texts(folder, &options).map_err(|e| format!("{}: {e}", folder.display())),
+        None => run(&options),
+    });
+    match done {
         Ok(()) => ExitCode::SUCCESS,
         Err(message) => {
             eprintln!("{message}");
@@ -82,6 +100,8 @@ fn run(options: &Options) -> Result<(), String> {
     let reference = Reference { flaw: options.flaw };
     examples::check(&library).map_err(|e| format!("an example fails: {e}"))?;
     let mut comparison = Comparison::new(&library, &reference);
+    let places = places::compare(&library, &reference);
+    let texts = places.map_err(|difference| describe(&comparison, &difference, options.seed, options.from))?;
     let (start, mut number) = (Instant::now(), options.from);
     let seconds = options.seconds.or(if options.calls.is_none() { Some(60) } else { None });
     let goes_on =
@@ -97,19 +117,36 @@ fn run(options: &Options) -> Result<(), String> {
         println!("{}", counts.lines().join("\n"));
     }
     println!(
-        "{} calls in {:.1} s, {} refusals, {} pairs, {} finished tables, {} texts by the laws, no difference; seed {}",
+        "{} calls in {:.1} s, {} refusals, {} pairs, {} finished tables, \
+         {} printed and {} parsed texts by the laws, and {texts} with every word at every place, no difference; seed {}",
         counts.calls,
         start.elapsed().as_secs_f64(),
         counts.refusals(),
         counts.pairs,
         counts.finished,
         counts.printed,
+        counts.parsed,
         options.seed
     );
     match counts.missing() {
         missing if missing.is_empty() => Ok(()),
         missing => Err(format!("did not occur and should have (a longer run may be needed): {missing:?}")),
     }
+}
+
+/// Whole rules, each in a file named by its number; every hundredth is a large one.
+fn write_texts(folder: &Path, options: &Options) -> io::Result<()> {
+    fs::create_dir_all(folder)?;
+    for number in options.from..options.from + options.count {
+        let mut random = Random::new(options.seed ^ Random::new(number).next());
+        let rule = match number % 100 {
+            99 => generate::typed::large(&mut random, number / 100 % generate::typed::TURNS),
+            _ => generate::typed::small(&mut random, number),
+        };
+        let text = generate::typed::lay_out(&mut random, &rule.words());
+        fs::write(folder.join(format!("{number:06}.smt2")), text)?;
+    }
+    Ok(())
 }
 
 /// The report of a difference: the smallest call found, and both answers.

@@ -1,7 +1,9 @@
 //! Makes a call that fails smaller, as long as it still fails.
 
 use crate::case::Case;
+use crate::reference::flaw::Flaw;
 use crate::reference::term::Term;
+use crate::reference::words::words;
 use std::time::{Duration, Instant};
 
 /// The smallest call found for which `fails` still holds, within the time.
@@ -9,6 +11,8 @@ pub fn shrink(case: &Case, time: Duration, fails: &dyn Fn(&Case) -> bool) -> Cas
     let mut shrinker = Shrinker { best: case.clone(), fails, end: Instant::now() + time };
     loop {
         let before = shrinker.best.clone();
+        shrinker.drop_words();
+        shrinker.drop_bytes();
         shrinker.drop_terms();
         shrinker.drop_numbers();
         shrinker.drop_cells();
@@ -37,6 +41,34 @@ impl Shrinker<'_> {
             self.best = case;
         }
         better
+    }
+
+    /// Drops runs of words, long runs first, from the end.
+    fn drop_words(&mut self) {
+        let count = |case: &Case| words(&case.text, Flaw::None).len();
+        let mut run = count(&self.best).next_power_of_two();
+        while run > 0 {
+            let mut from = count(&self.best);
+            while from > 0 && Instant::now() < self.end {
+                from -= 1;
+                self.attempt(|c| {
+                    let places: Vec<usize> = words(&c.text, Flaw::None).iter().map(|word| word.place).collect();
+                    if let Some(&start) = places.get(from) {
+                        let end = places.get(from + run).copied().unwrap_or(c.text.len());
+                        c.text.drain(start..end);
+                    }
+                });
+            }
+            run /= 2;
+        }
+    }
+
+    /// Drops bytes one by one, from the end.
+    fn drop_bytes(&mut self) {
+        for at in (0..self.best.text.len()).rev() {
+            self.attempt(|c| c.text.truncate(at));
+            self.attempt(|c| c.text = [&c.text[..at], c.text.get(at + 1..).unwrap_or(&[])].concat());
+        }
     }
 
     /// Drops runs of terms, long runs first, from the end.

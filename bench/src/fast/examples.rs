@@ -1,6 +1,6 @@
 //! Paper 01's bench examples, and those of docs/DECISIONS.md, on the Rust side.
 
-use super::{admit, evaluate, finish, judge, print};
+use super::{admit, evaluate, finish, judge, parse, print};
 
 const G: [u32; 42] = [
     1, 0, 8, 0, 0, 0, 1, 0, 8, 1, 1, 0, 1, 0, 8, 2, 0, 0, 12, 0, 8, 0, 1, 0, 11, 0, 8, 3, 2, 0, 0, 0, 8, 0, 0, 0, 14,
@@ -164,4 +164,40 @@ fn settings() {
     assert_eq!(refused(&[3, 0, 0, 0, 0, 9], &[5, 256, 1, 256, 0, 0], 0), (15, 0));
     assert_eq!(refused(&[3, 0, 0, 0, 0, 9], &[], 2), (22, 3));
     assert_eq!(refused(&[3, 0, 0, 0, 0, 9], &[5, 1, 1], 3), (0, 0));
+}
+
+/// Number and first answer of a text, in a room for 512 terms; with the table's length where there is one.
+fn read(text: &str) -> (u32, u64) {
+    let (mut answer, mut room) = ([0; 4], vec![7; 6 * 512]);
+    (parse(text.as_bytes(), &mut room, &mut answer), answer[0])
+}
+
+#[test]
+fn typed_rules() {
+    let declared = "(declare-const a Bool)(declare-const x1 (_ BitVec 8))";
+    let asserted = |expression: &str| read(&format!("{declared}(assert {expression})(check-sat)"));
+    let at = |offset: usize| (declared.len() + "(assert ".len() + offset) as u64;
+    assert_eq!(read(""), (31, 0));
+    assert_eq!(read(" (check-sat)"), (35, 2));
+    assert_eq!(read("(assert true)(check-sat)"), (0, 6));
+    assert_eq!(asserted("a"), (0, 18));
+    assert_eq!(asserted("(= x1 #b00000000)"), (0, 24));
+    assert_eq!(asserted("x1"), (6, 2));
+    assert_eq!(asserted("#b1"), (10, 2));
+    assert_eq!(asserted("(not a zz)"), (32, at(7)));
+    assert_eq!(asserted("(not a #x1)"), (31, at(7)));
+    assert_eq!(asserted("(not a (zz))"), (34, at(7)));
+    assert_eq!(asserted("(and a)"), (34, at(6)));
+    assert_eq!(asserted(&format!("{}a{}", "(not ".repeat(64), ")".repeat(64))), (0, 6 * 66));
+    assert_eq!(asserted(&format!("{}a{}", "(not ".repeat(65), ")".repeat(65))), (33, at(5 * 64)));
+}
+
+/// The measured rules have the terms that their names say.
+#[test]
+fn measured_rules() {
+    for terms in [8, 64, 512] {
+        assert_eq!(read(&String::from_utf8(crate::typed::rule(terms).typed).unwrap()), (0, 6 * terms as u64));
+    }
+    assert_eq!(read(&String::from_utf8(crate::typed::names(256).typed).unwrap()), (0, 6 * 511));
+    assert_eq!(read(&String::from_utf8(crate::typed::names(512).typed).unwrap()), (2, 0));
 }

@@ -1,4 +1,4 @@
-//! The routines of paper 01, and print of paper 02, in Rust, written for speed: what the library is measured against.
+//! The routines of paper 01, and print and parse of paper 02, in Rust, written for speed: what the library is measured against.
 //!
 //! Written from the papers alone. Rows are flat slices, nothing is allocated, and every access is
 //! checked as Rust checks it. The interface is the library's: a number (0, or the refusal's), and
@@ -8,12 +8,14 @@ mod admission;
 mod evaluation;
 mod finishing;
 mod judgement;
+mod parsing;
 mod printing;
 mod setting;
 
 pub use evaluation::evaluate;
 pub use finishing::finish;
 pub use judgement::judge;
+pub use parsing::parse;
 pub use printing::print;
 
 use admission::{Known, admitted};

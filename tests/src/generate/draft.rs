@@ -77,6 +77,19 @@ impl Draft {
         Draft { terms: vec![], taste, inputs: vec![], stores: vec![], by_sort: BTreeMap::new() }
     }
 
+    /// A table that is admitted, as a draft.
+    pub fn of_table(random: &mut Random, table: &[u32]) -> Draft {
+        let mut draft = Draft::new(Taste::new(random));
+        for term in table.as_chunks::<6>().0 {
+            draft.push(*term);
+            let t = Term::of(term);
+            if t.op == VARIABLE && !draft.inputs.iter().any(|input| input.0 == t.p) {
+                draft.inputs.push((t.p, t.sort().expect("a sort"), t.q));
+            }
+        }
+        draft
+    }
+
     pub fn push(&mut self, term: [u32; 6]) -> u32 {
         let number = self.terms.len() as u32;
         let t = Term::of(&term);

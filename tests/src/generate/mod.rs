@@ -1,22 +1,32 @@
-//! Random rounds. A round is one table in one setting, handed to all routines; rooms and allowances are each call's own.
+//! Random rounds. A round is one table in one setting, handed to all routines that take a table, or a text; rooms and allowances
+//! are each call's own.
 
 pub mod damage;
 pub mod draft;
+pub mod misprint;
+pub mod rule;
 pub mod setting;
 pub mod table;
+pub mod typed;
 
 use crate::case::{Case, Routine, ROUTINES};
 use crate::random::Random;
-use crate::reference::{admission, flaw::Flaw, printing};
+use crate::reference::{admission, flaw::Flaw, parsing, printing};
 use draft::Draft;
 
 /// Every so many rounds comes a large table.
 const LARGE_EVERY: u64 = 1500;
 
+/// And every so many a large text.
+const LARGE_TEXT_EVERY: u64 = 400;
+
 /// The calls of a round. The number sees to it that every kind of table and of damage has its turn.
 pub fn round(random: &mut Random, number: u64) -> Vec<Case> {
     if number % LARGE_EVERY == 7 {
         return large(random, number / LARGE_EVERY);
+    }
+    if number % 4 == 3 {
+        return vec![typed(random, number)];
     }
     let draft = small(random, number);
     let mut table = draft.numbers();
@@ -38,13 +48,13 @@ pub fn round(random: &mut Random, number: u64) -> Vec<Case> {
     cases(random, &draft, table, setting)
 }
 
-/// The operators; twice those that one operand can settle.
-const OPERATORS: [u32; 23] = [0, 1, 2, 3, 4, 5, 6, 7, 7, 8, 9, 9, 10, 10, 11, 12, 12, 13, 13, 14, 15, 15, 16];
+/// The operators; twice and thrice those that one operand can settle. Their count is odd, so that each meets every kind of round.
+const OPERATORS: [u32; 27] = [0, 1, 2, 3, 4, 5, 6, 7, 7, 8, 9, 9, 9, 10, 10, 10, 11, 12, 12, 12, 13, 13, 14, 15, 15, 15, 16];
 
 fn small(random: &mut Random, number: u64) -> Draft {
     match random.below(20) {
-        0..=6 => table::single(random, OPERATORS[number as usize % 23], (number / 23 % 32) as u32 + 1),
-        7..=14 => {
+        0..=8 => table::single(random, OPERATORS[number as usize % 27], (number / 27 % 32) as u32 + 1),
+        9..=14 => {
             let size = random.between(1, 14);
             table::mixed(random, size)
         }
@@ -85,6 +95,44 @@ fn large(random: &mut Random, turn: u64) -> Vec<Case> {
     cases
 }
 
+/// A text, whole, or damaged at words or at bytes. Those beyond the limits are mostly damaged, so that what comes late is found.
+fn typed(random: &mut Random, number: u64) -> Case {
+    let large = number % LARGE_TEXT_EVERY == 11;
+    let turn = number / LARGE_TEXT_EVERY % typed::TURNS;
+    let rule = if large { typed::large(random, turn) } else { typed::small(random, number / 4) };
+    let kinds = match turn {
+        typed::MANY_NAMES if large => [misprint::AGAIN; 2],
+        typed::MANY_TERMS if large => [misprint::MORE, misprint::LESS],
+        _ if large => [misprint::MORE, misprint::AGAIN],
+        _ => [misprint::MORE, misprint::LESS],
+    };
+    let beyond = large && (turn == typed::MANY_NAMES || turn == typed::MANY_TERMS);
+    let mut words = rule.words();
+    let damage = if beyond { 0 } else { random.below(6) };
+    while damage == 0 || damage == 1 {
+        let any = if beyond { kinds } else { [random.below(misprint::KINDS); 2] };
+        let kind = random.pick(&[any, kinds].concat());
+        misprint::words(random, &mut words, kind);
+        if !random.chance(20) {
+            break;
+        }
+    }
+    let mut text = typed::lay_out(random, &words);
+    if damage == 2 {
+        (0..=random.below(2)).for_each(|_| misprint::bytes(random, &mut text));
+    }
+    let needed = 6 * parsing::table(&text, Flaw::None).map_or(7, |table| table.len());
+    let room = setting::room(random, needed);
+    Case::parse(text, room)
+}
+
+/// A table that was parsed, in some setting.
+pub fn of_table(random: &mut Random, table: &[u32]) -> Vec<Case> {
+    let draft = Draft::of_table(random, table);
+    let setting = setting::whole(random, &draft);
+    cases(random, &draft, table.to_vec(), setting)
+}
+
 /// The numbers that the room of a call needs, or the bytes.
 fn needed(draft: &Draft, routine: Routine) -> usize {
     match routine {
@@ -93,6 +141,7 @@ fn needed(draft: &Draft, routine: Routine) -> usize {
         Routine::Evaluate => draft.terms.len(),
         Routine::Judge => 2 * draft.terms.len(),
         Routine::Print => printed(draft),
+        Routine::Parse => 0,
     }
 }
 
@@ -106,6 +155,7 @@ fn cases(random: &mut Random, draft: &Draft, table: Vec<u32>, setting: setting::
     let case = |routine: Routine| Case {
         routine,
         table: table.clone(),
+        text: vec![],
         values: setting.values.clone(),
         cells: setting.cells.clone(),
         allowance: setting::allowance(random, draft.steps()),

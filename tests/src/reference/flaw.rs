@@ -39,9 +39,39 @@ pub enum Flaw {
     NoLastLineFeed,
     /// 24 where the room is just long enough.
     TextSpare,
+    /// A carriage return is no white space.
+    ReturnIsNoSpace,
+    /// A symbol with @ or . first is a name.
+    NamesWithAt,
+    /// The commands' words are names.
+    CommandsAreNames,
+    /// A width may have a leading zero.
+    LeadingZeros,
+    /// A name of x and a digit is marked, whatever follows.
+    MarkedByX,
+    /// The place of the end is where the last word ends.
+    EndAtLastWord,
+    /// 35 at the end of the text.
+    NoAssertAtEnd,
+    /// The asserts are joined after the last one.
+    JoinsLate,
+    /// A sole assert of a name adds nothing.
+    SoleNameBare,
+    /// A constant that is there is used again.
+    SharesConstants,
+    /// 34 at the list's operator.
+    CountAtList,
+    /// The assert's own parenthesis counts among the 64.
+    CountsTheAssert,
+    /// 34 before 33 at one parenthesis.
+    CountBeforeDepth,
+    /// A reserved word is an operand that is not declared.
+    ReservedUndeclared,
+    /// 21 before 1 to 10.
+    RoomFirst,
 }
 
-pub const FLAWS: [(&str, Flaw); 18] = [
+pub const FLAWS: [(&str, Flaw); 33] = [
     ("joins-indexes", Flaw::JoinsIndexes),
     ("shifts-modulo", Flaw::ShiftsModulo),
     ("factor-alone", Flaw::FactorAlone),
@@ -60,4 +90,19 @@ pub const FLAWS: [(&str, Flaw); 18] = [
     ("bits-reversed", Flaw::BitsReversed),
     ("no-last-line-feed", Flaw::NoLastLineFeed),
     ("text-spare", Flaw::TextSpare),
+    ("return-is-no-space", Flaw::ReturnIsNoSpace),
+    ("names-with-at", Flaw::NamesWithAt),
+    ("commands-are-names", Flaw::CommandsAreNames),
+    ("leading-zeros", Flaw::LeadingZeros),
+    ("marked-by-x", Flaw::MarkedByX),
+    ("end-at-last-word", Flaw::EndAtLastWord),
+    ("no-assert-at-end", Flaw::NoAssertAtEnd),
+    ("joins-late", Flaw::JoinsLate),
+    ("sole-name-bare", Flaw::SoleNameBare),
+    ("shares-constants", Flaw::SharesConstants),
+    ("count-at-list", Flaw::CountAtList),
+    ("counts-the-assert", Flaw::CountsTheAssert),
+    ("count-before-depth", Flaw::CountBeforeDepth),
+    ("reserved-undeclared", Flaw::ReservedUndeclared),
+    ("room-first", Flaw::RoomFirst),
 ];

@@ -1,13 +1,16 @@
-//! A second evaluator, written from the papers alone and for plainness: admitting, finishing, evaluating, judging, printing.
+//! A second evaluator, written from the papers alone and for plainness: admitting, finishing, evaluating, judging, printing,
+//! parsing.
 
 pub mod admission;
 pub mod conditions;
 pub mod finishing;
 pub mod flaw;
+pub mod parsing;
 pub mod printing;
 pub mod setting;
 pub mod term;
 pub mod values;
+pub mod words;
 
 use crate::case::{Answer, Case, Checker, Routine};
 use admission::Table;
@@ -41,6 +44,7 @@ impl Checker for Reference {
             Routine::Evaluate => self.evaluate(case, &mut room),
             Routine::Judge => self.judge(case),
             Routine::Print => self.print(case),
+            Routine::Parse => self.parse(case),
         };
         let mut numbers = [0; 4];
         let number = match outcome {
@@ -114,6 +118,19 @@ impl Reference {
             return Err(Refusal { number: 24, place: text.len() as u64 });
         }
         Ok(Outcome { numbers: vec![text.len() as u64], text, ..Outcome::default() })
+    }
+
+    fn parse(&self, case: &Case) -> Result<Outcome, Refusal> {
+        let front = parsing::table(&case.text, self.flaw)?.concat();
+        let admitted = admission::admit(&front, case.routine.limit(), self.flaw);
+        let short = case.room < front.len();
+        if !(short && self.flaw == Flaw::RoomFirst) {
+            admitted?;
+        }
+        if short {
+            return Err(Refusal { number: 21, place: front.len() as u64 / 6 });
+        }
+        Ok(Outcome { numbers: vec![front.len() as u64], front, ..Outcome::default() })
     }
 
     /// Refusals 22 and 23.

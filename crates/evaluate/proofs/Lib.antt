@@ -3,6 +3,7 @@ pub mod Folds
 pub mod Sums
 pub mod Answers
 pub mod Operands
+pub mod Applied
 pub mod Meaning
 pub mod Onward
 pub mod Runs

@@ -1,4 +1,5 @@
 pub mod Values
+pub mod Applied
 pub mod Steps
 pub mod Code
 pub mod Evaluation

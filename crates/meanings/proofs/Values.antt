@@ -1,7 +1,7 @@
 -- The value of a tree is that of its term in every table that has the tree's terms.
 -- Assumes nothing.
 use mathlib.Core.Path.{_≡_, refl, sym, ap, _∙_}
-use mathlib.Core.Bool.{true, false, cond}
+use mathlib.Core.Bool.{true}
 use mathlib.Core.List.{List, [], _∷_}
 use Prim.Native.Nat.{ℕ, zero, suc, _+_, _≤_, _<_}
 use native.Mathlib.Nat.{zero-add}
@@ -9,25 +9,19 @@ use native.Mathlib.Omega.{arith}
 use lib.Dec.{eqb, leb}
 use lib.ListN.{length, getD, length-append}
 use borrow.Author.Tests.{eqb-true, ltb-true}
-use Rattle.ops.specs.declared.Op.{Op}
-use Rattle.ops.specs.declared.Op.the-variants.{Constant, Variable, Apply, Ite, Select, Store, Unknown}
 use Rattle.ops.specs.Numbers.{opOf}
-use Rattle.ops.specs.Meaning as Ops
-use Rattle.ops.specs.Meaning.{Operation, operation, holds}
-use Rattle.ops.specs.Meaning.Operation.{unary, strict, absorbing, shift}
-use Rattle.ops.specs.Ranks.{Arity, FunctionRank, arity, functionRank}
-use Rattle.ops.specs.Ranks.Arity.{two}
-use Rattle.ops.specs.Ranks.FunctionRank.{boolUnary, boolBinary, equality, bvUnary, bvBinary, bvCompare}
-use Rattle.ops.proofs.Booleans.{never}
 use Rattle.smtlib.specs.Bytes.{placeIn, isIn}
 use Rattle.smtlib.proofs.Cuts.{and-left, and-right}
+use Rattle.table.specs.declared.ranks.Fields.{Fields}
+use Rattle.table.specs.declared.ranks.Fields.the-variants.{Value as Literal, Slot, One, Two, Three}
 use Rattle.table.specs.declared.words.Sort.{Sort}
 use Rattle.table.specs.declared.words.Term.{Term}
 use Rattle.table.specs.Terms.{termAt, sortAt}
-use Rattle.table.specs.Ranks as Ranks
-use Rattle.table.specs.Ranks.{rankOf, fieldsOf, operandCount, immediate, slotted}
+use Rattle.table.specs.Ranks.{rankOf, fieldsOf, operandCount}
 use Rattle.setting.specs.Interpretation.{Value, Interpretation}
-use Rattle.evaluate.specs.Values.{scalarValue, arrayValue, valueBy, valueIn, valueFrom, values, valueAt}
+use Rattle.evaluate.specs.Values.{valueBy, valueIn, valueFrom, values, valueAt}
+use Rattle.evaluate.specs.Applied.{inputValue}
+use Rattle.evaluate.proofs.Applied.{SameOperands, applied-value}
 use Rattle.evaluate.proofs.Folds.{value-below}
 use Rattle.parser.specs.Words.{marked}
 use Rattle.parser.specs.Expressions.{constantTerm, operandsOf}
@@ -40,56 +34,23 @@ use Rattle.parser.specs.Trees.{listTerm, treeTerms, treesTerms, variables}
 use Rattle.parser.proofs.Written.{tree-length}
 use Rattle.parser.proofs.NameLists.{names-length}
 use Rattle.parser.proofs.Complete.{variables-length}
-use Rattle.meanings.specs.Meaning.{applied, inputValue, treeValue, operandValue}
+use Rattle.meanings.specs.Meaning.{treeValue, operandValue}
 use Rattle.meanings.proofs.Layouts.{noTerm, Has, has-left, has-right, has-first}
 use Rattle.meanings.proofs.Operators.{named, allNamed, called}
 
--- An operator's value is its term's, where its operands' are
+-- A term's operands have the values that each has by itself
 
-takes-first : {a : Arity} (r : FunctionRank a) → 0 < operandCount (fieldsOf (Ranks.applied r))
-takes-first boolUnary = omega arith
-takes-first boolBinary = omega arith
-takes-first equality = omega arith
-takes-first bvUnary = omega arith
-takes-first bvBinary = omega arith
-takes-first bvCompare = omega arith
-
-takes-second : (r : FunctionRank two) → 1 < operandCount (fieldsOf (Ranks.applied r))
-takes-second boolBinary = omega arith
-takes-second equality = omega arith
-takes-second bvBinary = omega arith
-takes-second bvCompare = omega arith
-
-module _ (I : Interpretation) (v : ℕ → Value) (width width′ : ℕ) (op : ℕ) (s : Sort) (rs : List ℕ) (val : ℕ → Value) where
+module _ (v : ℕ → Value) (width width′ : ℕ) (op : ℕ) (s : Sort) (rs : List ℕ) (val : ℕ → Value) where
   abbrev x : Term
   x = record { op = op; sort = s; p = getD rs 0 0; q = getD rs 1 0; r = getD rs 2 0 }
 
-  -- so many operands
-  abbrev Same : ℕ → Type 0
-  Same n = (i : ℕ) → i < n → v (getD rs i 0) ≡ val i
-
-  -- a function of one operand asks for no second
-  function-value : (o : Operation) (r : FunctionRank (arity o)) → (0 < operandCount (fieldsOf (Ranks.applied r)) → width ≡ width′)
-      → Same (operandCount (fieldsOf (Ranks.applied r)))
-      → Ops.valueBy o width (v (x .p) .num) (v (x .q) .num) ≡ Ops.valueBy o width′ (val 0 .num) (val 1 .num)
-  function-value (unary f) r wide same = λ i. f (wide (takes-first r) i) (same 0 (takes-first r) i .num)
-  function-value (strict f) r wide same = λ i. f (wide (takes-first r) i) (same 0 (takes-first r) i .num) (same 1 (takes-second r) i .num)
-  function-value (absorbing f c d) r wide same = λ i. f (wide (takes-first r) i) (same 0 (takes-first r) i .num) (same 1 (takes-second r) i .num)
-  function-value (shift f c) r wide same = λ i. f (wide (takes-first r) i) (same 0 (takes-first r) i .num) (same 1 (takes-second r) i .num)
-
-  operator-value : (o : Op) → immediate o ≡ false → slotted o ≡ false → (0 < operandCount (fieldsOf (rankOf o)) → width ≡ width′)
-      → Same (operandCount (fieldsOf (rankOf o)))
-      → valueBy I v width x o ≡ applied o width′ val
-  unfolding valueBy Ops.apply
-  operator-value Constant c s wide same = never (sym c)
-  operator-value Variable c s wide same = never (sym s)
-  operator-value (Apply f) c s wide same = ap scalarValue (function-value (operation f) (functionRank f) wide same)
-  operator-value Ite c s wide same =
-      λ i. scalarValue (cond (holds (same 0 (omega arith) i .num)) (same 1 (omega arith) i .num) (same 2 (omega arith) i .num))
-  operator-value Select c s wide same = λ i. scalarValue (same 0 (omega arith) i .cell (same 1 (omega arith) i .num))
-  operator-value Store c s wide same =
-      λ i. arrayValue (λ j. cond (eqb (same 1 (omega arith) i .num) j) (same 2 (omega arith) i .num) (same 0 (omega arith) i .cell j))
-  operator-value Unknown c s wide same = refl
+  same-operands : (f : Fields) → (0 < operandCount f → width′ ≡ width) → ((i : ℕ) → i < operandCount f → val i ≡ v (getD rs i 0))
+      → SameOperands v x width width′ val f
+  same-operands Literal wide same = tt
+  same-operands Slot wide same = tt
+  same-operands One wide same = (wide (omega arith), same 0 (omega arith))
+  same-operands Two wide same = (wide (omega arith), same 0 (omega arith), same 1 (omega arith))
+  same-operands Three wide same = (wide (omega arith), same 0 (omega arith), same 1 (omega arith), same 2 (omega arith))
 
 -- The variables
 
@@ -174,15 +135,17 @@ module _ (ds : List Declared) (I : Interpretation) (w : List ℕ) (front : Has w
         λ i h. operand-means ts before enough (has-left ys (x ∷ []) has) kn (and-right (eqb (count ts) (operandsOf op)) (allCounted ts) co)
         (and-right (leb 2 op) (allNamed ts) na) i h in
         let c = called op (and-left (leb 2 op) (allNamed ts) na) in
+        let v = valueIn (values w I k) in
         record {
           below = omega arith;
           sort = ap (λ (y : Term). y .sort) e;
           value =
               term-value k x e
-              ∙ operator-value I (valueIn (values w I k)) (sortAt w (x .p) .n) (firstSort ds ts .n) op s rs (λ i. operandValue ds I ts i) (opOf op)
+              ∙ sym (applied-value v x (sortAt w (x .p) .n) (firstSort ds ts .n) (operandValue ds I ts) I (opOf op)
               (c .immediate-not) (c .slotted-not)
-              (λ h. ap (λ (z : Sort). z .n) (all 0 (omega arith) .sort ∙ first-sort ds ts))
-              (λ i h. let m = all i (omega arith) in value-below w I k (getD rs i 0) (m .below) ∙ m .value);
+              (same-operands v (sortAt w (x .p) .n) (firstSort ds ts .n) op s rs (operandValue ds I ts) (fieldsOf (rankOf (opOf op)))
+              (λ h. ap (λ (z : Sort). z .n) (sym (all 0 (omega arith) .sort ∙ first-sort ds ts)))
+              (λ i h. let m = all i (omega arith) in sym (value-below w I k (getD rs i 0) (m .below) ∙ m .value))));
         }
 
     operand-means : (ts : Trees) (before : ℕ) → length ds ≤ before → Has w before (treesTerms ds before ts) → knowsAll (namesOf ds) ts ≡ true

@@ -1,20 +1,15 @@
--- What a typed rule means: the values of its trees in an interpretation of the declared names, each by its slot. Values are SMT-LIB's:
--- those of the operators are `ops`', of select and store ArraysEx's.
+-- What a typed rule means: the values of its trees in an interpretation of the declared names, each by its slot. Values are SMT-LIB's.
 -- Assumes nothing.
 use mathlib.Core.Path.{_≡_}
-use mathlib.Core.Bool.{Bool, cond}
+use mathlib.Core.Bool.{Bool}
 use mathlib.Core.List.{List}
 use Prim.Native.Nat.{ℕ, zero, suc, pred}
-use lib.Dec.{eqb}
-use Rattle.ops.specs.declared.Op.{Op}
-use Rattle.ops.specs.declared.Op.the-variants.{Constant, Variable, Apply, Ite, Select, Store, Unknown}
 use Rattle.ops.specs.Numbers.{opOf}
-use Rattle.ops.specs.Meaning as Ops
 use Rattle.ops.specs.Meaning.{bit, holds}
-use Rattle.table.specs.declared.words.Sort.{Sort}
-use Rattle.table.specs.Terms.{terms, scalar}
+use Rattle.table.specs.Terms.{terms}
 use Rattle.setting.specs.Interpretation.{Value, Interpretation, FitInputs}
-use Rattle.evaluate.specs.Values.{scalarValue, arrayValue, valueAt}
+use Rattle.evaluate.specs.Values.{scalarValue, valueAt}
+use Rattle.evaluate.specs.Applied.{applied, inputValue}
 use Rattle.parser.specs.declared.Parsing.the-variants.{Parsed}
 use Rattle.parser.specs.Parsing.{built, parsing}
 use Rattle.parser.specs.Grammar.{Tree, Trees, Declared, Rule, Reads}
@@ -22,20 +17,6 @@ use Rattle.parser.specs.Grammar.Tree.{literal, symbol, apply}
 use Rattle.parser.specs.Grammar.Trees.{nil, cons}
 use Rattle.parser.specs.Trees.{slot, sortOfSlot, firstSort, everyTree}
 use Rattle.parser.specs.Laws.{Storable}
-
--- an operator's value, from its first operand's width and its operands' values v 0, v 1, v 2
-abbrev pub applied : Op → ℕ → (ℕ → Value) → Value
-applied Constant n v = scalarValue 0
-applied Variable n v = scalarValue 0
-applied (Apply f) n v = scalarValue (Ops.apply (Apply f) n (v 0 .num) (v 1 .num) (v 2 .num))
-applied Ite n v = scalarValue (Ops.apply Ite n (v 0 .num) (v 1 .num) (v 2 .num))
-applied Select n v = scalarValue (v 0 .cell (v 1 .num))
-applied Store n v = arrayValue (λ j. cond (eqb (v 1 .num) j) (v 2 .num) (v 0 .cell j))
-applied Unknown n v = scalarValue 0
-
--- a declared name has its slot's value at its sort
-abbrev pub inputValue : Sort → Value → Value
-inputValue s v = cond (scalar s) (scalarValue (v .num)) (arrayValue (v .cell))
 
 module _ (ds : List Declared) (I : Interpretation) where
   -- of a tree; of operand i

@@ -4,32 +4,21 @@ use mathlib.Core.Path.{_≡_, refl, sym, ap, _∙_}
 use mathlib.Core.Bool.{Bool, true, false, cond, _||_}
 use mathlib.Core.List.{List, [], _∷_, _++_, map}
 use Prim.Native.Nat.{ℕ}
-use lib.Dec.{eqb}
-use lib.ListN.{getD}
-use Rattle.ops.specs.declared.Op.{Op}
-use Rattle.ops.specs.declared.Op.the-variants.{Constant, Variable, Apply, Ite, Select, Store, Unknown}
 use Rattle.ops.specs.Numbers.{opOf}
-use Rattle.ops.specs.Meaning as Ops
-use Rattle.ops.specs.Meaning.{Operation, operation, holds, apply}
-use Rattle.ops.specs.Meaning.Operation.{unary, strict, absorbing, shift}
-use Rattle.ops.specs.Ranks.{Arity, FunctionRank, arity, functionRank}
-use Rattle.ops.specs.Ranks.Arity.{two}
-use Rattle.ops.specs.Ranks.FunctionRank.{boolUnary, boolBinary, equality, bvUnary, bvBinary, bvCompare}
-use Rattle.ops.proofs.Booleans.{never}
-use Rattle.table.specs.declared.ranks.Rank.{Rank}
+use Rattle.table.specs.declared.ranks.Fields.{Fields}
+use Rattle.table.specs.declared.ranks.Fields.the-variants.{Value as Literal, Slot, One, Two, Three}
 use Rattle.table.specs.declared.words.Sort.{Sort}
 use Rattle.table.specs.declared.words.Term.{Term}
 use Rattle.table.specs.Terms.{termAt, sortAt}
-use Rattle.table.specs.Ranks as Ranks
-use Rattle.table.specs.Ranks.{rankOf, fieldsOf, slotted, immediate}
 use Rattle.table.specs.Faults.{fields, isVariable, isConstant}
 use Rattle.setting.specs.Interpretation.{Value, Interpretation}
-use Rattle.evaluate.specs.Values.{scalarValue, arrayValue, valueBy, valueFrom}
+use Rattle.evaluate.specs.Values.{valueBy, valueFrom}
+use Rattle.evaluate.proofs.Applied.{SameOperands, applied-value}
 use Rattle.printer.specs.Scripts.{Name, Command}
 use Rattle.printer.specs.Scripts.Name.{input, defined}
 use Rattle.printer.specs.Scripts.Body.{constant, application}
 use Rattle.printer.specs.Printed.{name, operands, body}
-use Rattle.printer.specs.Meaning.{Binding, sameName, lookup, applied, bodyValue, bind, read, hasName}
+use Rattle.printer.specs.Meaning.{Binding, sameName, lookup, operand, bodyValue, bind, read, hasName}
 use Rattle.printer.proofs.SoundScripts.{constant-op}
 
 -- Commands are read one after the other
@@ -73,47 +62,17 @@ Bound t bs v k = Binds bs (name t k) (sortAt t k) (v k)
 -- Bodies: the value is the term's, where its operands are bound
 
 module _ (I : Interpretation) (t : List ℕ) (bs : List Binding) (v : ℕ → Value) (x : Term) where
-  -- operand i of an operator of this rank: its name, and what that is bound to
-  abbrev nameOf : Rank → ℕ → Name
-  nameOf r i = getD (map (name t) (operands (fieldsOf r) x)) i (defined 0)
-
-  abbrev at : Rank → ℕ → Binding
-  at r i = lookup bs (nameOf r i)
-
   module _ (p-bound : Bound t bs v (x .p)) (q-bound : Bound t bs v (x .q)) (r-bound : Bound t bs v (x .r)) where
-    -- a function's first operand is p; where there are two, the second is q
-    first : {a : Arity} (r : FunctionRank a) → Binds bs (nameOf (Ranks.applied r) 0) (sortAt t (x .p)) (v (x .p))
-    first boolUnary = p-bound
-    first boolBinary = p-bound
-    first equality = p-bound
-    first bvUnary = p-bound
-    first bvBinary = p-bound
-    first bvCompare = p-bound
+    -- operand i of a term with these fields: what its name is bound to
+    abbrev at : Fields → ℕ → Binding
+    at f i = operand bs (map (name t) (operands f x)) i
 
-    second : (r : FunctionRank two) → Binds bs (nameOf (Ranks.applied r) 1) (sortAt t (x .q)) (v (x .q))
-    second boolBinary = q-bound
-    second equality = q-bound
-    second bvBinary = q-bound
-    second bvCompare = q-bound
-
-    -- a function of one operand asks for no second
-    function-value : (o : Operation) (r : FunctionRank (arity o))
-        → Ops.valueBy o (at (Ranks.applied r) 0 .sort .n) (at (Ranks.applied r) 0 .value .num) (at (Ranks.applied r) 1 .value .num) ≡ Ops.valueBy o (sortAt t (x .p) .n) (v (x .p) .num) (v (x .q) .num)
-    function-value (unary f) r = λ i. f (first r .sort i .n) (first r .value i .num)
-    function-value (strict f) r = λ i. f (first r .sort i .n) (first r .value i .num) (second r .value i .num)
-    function-value (absorbing f a b) r = λ i. f (first r .sort i .n) (first r .value i .num) (second r .value i .num)
-    function-value (shift f b) r = λ i. f (first r .sort i .n) (first r .value i .num) (second r .value i .num)
-
-    -- an operator's value
-    applied-value : (op : Op) → immediate op ≡ false → slotted op ≡ false → applied op (at (rankOf op) 0 .sort .n) (λ i. at (rankOf op) i .value) ≡ valueBy I v (sortAt t (x .p) .n) x op
-    unfolding valueBy apply
-    applied-value Constant c s = never (sym c)
-    applied-value Variable c s = never (sym s)
-    applied-value (Apply f) c s = ap scalarValue (function-value (operation f) (functionRank f))
-    applied-value Ite c s = λ i. scalarValue (cond (holds (p-bound .value i .num)) (q-bound .value i .num) (r-bound .value i .num))
-    applied-value Select c s = λ i. scalarValue (p-bound .value i .cell (q-bound .value i .num))
-    applied-value Store c s = λ i. arrayValue (λ j. cond (eqb (q-bound .value i .num) j) (r-bound .value i .num) (p-bound .value i .cell j))
-    applied-value Unknown c s = refl
+    same-operands : (f : Fields) → SameOperands v x (sortAt t (x .p) .n) (at f 0 .sort .n) (λ i. at f i .value) f
+    same-operands Literal = tt
+    same-operands Slot = tt
+    same-operands One = (λ i. p-bound .sort i .n, p-bound .value)
+    same-operands Two = (λ i. p-bound .sort i .n, p-bound .value, q-bound .value)
+    same-operands Three = (λ i. p-bound .sort i .n, p-bound .value, q-bound .value, r-bound .value)
 
   -- a body's value is its term's
   pub body-value : isVariable x ≡ false → (isConstant x ≡ false → Bound t bs v (x .p) × Bound t bs v (x .q) × Bound t bs v (x .r)) → bodyValue bs (body t x) ≡ valueFrom t I v x
@@ -122,4 +81,6 @@ module _ (I : Interpretation) (t : List ℕ) (bs : List Binding) (v : ℕ → Va
     where
       go : (b : Bool) → isConstant x ≡ b → bodyValue bs (cond b (constant (x .p)) (application (x .op) (map (name t) (operands (fields x) x)))) ≡ valueFrom t I v x
       go true c = ap (valueBy I v (sortAt t (x .p) .n) x) (sym (constant-op x c))
-      go false c = let (p, q, r) = bound c in applied-value p q r (opOf (x .op)) c s
+      go false c =
+          let (p, q, r) = bound c in
+          applied-value v x (sortAt t (x .p) .n) _ _ I (opOf (x .op)) c s (same-operands p q r (fields x))

@@ -23,12 +23,13 @@ use Rattle.table.proofs.Searches.{first-is}
 use Rattle.table.proofs.SoundTerms.{slot-most}
 use Rattle.setting.specs.Interpretation.{Interpretation}
 use Rattle.evaluate.specs.Values.{valueBy, valueIn, values, valueAt}
+use Rattle.evaluate.specs.Applied.{inputValue}
 use Rattle.evaluate.proofs.Folds.{value-below}
 use Rattle.printer.specs.Scripts.{Name}
 use Rattle.printer.specs.Scripts.Name.{input, defined}
 use Rattle.printer.specs.Scripts.Command.{declare, define}
 use Rattle.printer.specs.Printed.{name, body, uses, firstUse, declaration, definition, script}
-use Rattle.printer.specs.Meaning.{Binding, sameName, bodyValue, inputValue, bind, read, ScriptMeansRule}
+use Rattle.printer.specs.Meaning.{Binding, sameName, bodyValue, bind, read, ScriptMeansRule}
 use Rattle.printer.proofs.SoundScripts.{variable-op}
 use Rattle.printer.proofs.Bindings.{read-append, variable-name, defined-name, Binds, binds-here, binds-other, Bound, body-value}
 

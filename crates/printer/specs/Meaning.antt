@@ -1,16 +1,13 @@
 -- What a solver reads in a script: each name's sort and value, in order, and the value of the assertion, in an interpretation of the
--- declared constants. Values are SMT-LIB's: those of the operators are `ops`', of select and store ArraysEx's.
+-- declared constants. Values are SMT-LIB's.
 -- Assumes nothing.
 use mathlib.Core.Path.{_≡_}
 use mathlib.Core.Bool.{Bool, true, false, cond, _||_}
-use mathlib.Core.List.{List, [], _∷_, map}
+use mathlib.Core.List.{List, [], _∷_}
 use Prim.Native.Nat.{ℕ, pred, _+_, _*_, _≤_}
 use lib.Dec.{eqb}
 use lib.ListN.{length, getD, take}
-use Rattle.ops.specs.declared.Op.{Op}
-use Rattle.ops.specs.declared.Op.the-variants.{Constant, Variable, Apply, Ite, Select, Store, Unknown}
 use Rattle.ops.specs.Numbers.{opOf}
-use Rattle.ops.specs.Meaning.{apply}
 use Rattle.table.specs.declared.words.Sort.{Sort}
 use Rattle.table.specs.Folds.{every}
 use Rattle.table.specs.Terms.{terms, boolean, scalar}
@@ -18,14 +15,15 @@ use Rattle.table.specs.Ranks.{rankOf, fieldsOf, operandCount}
 use Rattle.table.specs.Faults.{sorted, typedAs}
 use Rattle.table.specs.WellFormed.{WellFormed}
 use Rattle.setting.specs.Interpretation.{Value, Interpretation}
-use Rattle.evaluate.specs.Values.{scalarValue, arrayValue, valueAt}
+use Rattle.evaluate.specs.Values.{scalarValue, valueAt}
+use Rattle.evaluate.specs.Applied.{applied, inputValue}
 use Rattle.printer.specs.declared.Printing.{Printing}
 use Rattle.printer.specs.declared.Printing.the-variants.{Printed, NotPrinted}
 use Rattle.printer.specs.Scripts.{Name, Body, Command, Script, SoundCommands, scriptText}
 use Rattle.printer.specs.Scripts.Name.{input, defined}
 use Rattle.printer.specs.Scripts.Body.{constant, application}
 use Rattle.printer.specs.Scripts.Command.{declare, define}
-use Rattle.printer.specs.Printed.{script, text}
+use Rattle.printer.specs.Printed.{script}
 
 -- a name with its sort and its value
 pub record Binding : Type 0 where
@@ -44,16 +42,6 @@ unfoldable pub lookup : List Binding → Name → Binding
 lookup [] x = record { name = x; sort = record { m = 0; n = 0 }; value = scalarValue 0 }
 lookup (b ∷ bs) x = cond (sameName (b .name) x) b (lookup bs x)
 
--- an operator's value, from its first operand's width and its operands' values v 0, v 1, v 2
-abbrev pub applied : Op → ℕ → (ℕ → Value) → Value
-applied Constant n v = scalarValue 0
-applied Variable n v = scalarValue 0
-applied (Apply f) n v = scalarValue (apply (Apply f) n (v 0 .num) (v 1 .num) (v 2 .num))
-applied Ite n v = scalarValue (apply Ite n (v 0 .num) (v 1 .num) (v 2 .num))
-applied Select n v = scalarValue (v 0 .cell (v 1 .num))
-applied Store n v = arrayValue (λ j. cond (eqb (v 1 .num) j) (v 2 .num) (v 0 .cell j))
-applied Unknown n v = scalarValue 0
-
 -- operand i among some names
 abbrev pub operand : List Binding → List Name → ℕ → Binding
 operand bs xs i = lookup bs (getD xs i (defined 0))
@@ -63,9 +51,6 @@ bodyValue bs (constant v) = scalarValue v
 bodyValue bs (application op xs) = applied (opOf op) (operand bs xs 0 .sort .n) (λ i. operand bs xs i .value)
 
 -- a declared constant has the interpretation's value at its sort, a defined one its body's
-abbrev pub inputValue : Sort → Value → Value
-inputValue s v = cond (scalar s) (scalarValue (v .num)) (arrayValue (v .cell))
-
 abbrev pub bind : Interpretation → List Binding → Command → Binding
 bind I bs (declare s sort) = record { name = input s; sort = sort; value = inputValue sort (I s) }
 bind I bs (define k sort body) = record { name = defined k; sort = sort; value = bodyValue bs body }

@@ -135,6 +135,8 @@ def node_faults(j, t, given):
         yield "t%d is not labelled with its number and operator: %s" % (t, label)
     if value is not None and not re.search(r"(?<!\w)%s(?!\w)" % value, label):
         yield "t%d is not labelled with its value: %s" % (t, label)
+    if "tooltip" in given:
+        yield "t%d has a tooltip, and a case was not typed" % t
 
 
 def pairs_of(edges, style):

@@ -115,19 +115,21 @@ fn put_verdict(
     report::put_verdict(page, at, v)
 }
 
-// A judgement: its picture.
+// A judgement: its picture, with the terms as they were typed in the text of a rule.
 fn put_picture(
     page: &mut [u8],
     at: usize,
     request: Request,
+    rule: &[u8],
     names: &[u8],
     table: &[u32],
     room: &[u32],
 ) -> usize {
     if request.command == arguments::TREE {
-        return trees::put_tree(page, at, names, table, room, request.color);
+        let to = trees::put_tree(page, at, names, table, room, request.color);
+        return report::put_typed(page, to, rule, table);
     }
-    graphs::put_graph(page, at, names, table, room)
+    graphs::put_graph(page, at, rule, names, table, room)
 }
 
 // A judgement: its explanation.
@@ -180,7 +182,7 @@ fn put_judged(
             v,
         );
     }
-    put_picture(page, at, request, names, table, room)
+    put_picture(page, at, request, rule, names, table, room)
 }
 
 // The line of a case's text, or of a setting's, that a refusal is about.

@@ -1,6 +1,7 @@
 // Reading a file. One of up to 65,535 bytes is answered in small rooms; the large ones are on the stack only where they
 // are needed. A room comes from a function, since one that is written in place is slow to prove.
-ghost use lib.ListN.{length};
+ghost use mathlib.Core.Path.{_≡_};
+ghost use lib.ListN.{length, replicate};
 ghost use Rattle.cases.specs.Reading.{Placed};
 use crate::answers;
 use crate::printed;
@@ -16,43 +17,61 @@ use request::status::Answer;
 
 pub const SMALL: usize = 65536;
 
-fn small_text() -> [u8; SMALL] {
+fn small_text() -> [u8; SMALL]
+    ensures { λ r. ⌜ r ≡ replicate 65536 0 ⌝ }
+{
     [0u8; SMALL]
 }
 
-fn large_text() -> [u8; cases::BYTE_LIMIT + 1] {
+fn large_text() -> [u8; cases::BYTE_LIMIT + 1]
+    ensures { λ r. ⌜ r ≡ replicate 4194305 0 ⌝ }
+{
     [0u8; cases::BYTE_LIMIT + 1]
 }
 
 // The numbers of a text of so many bytes are at most half as many.
-pub fn small_numbers() -> [u32; 32768] {
+pub fn small_numbers() -> [u32; 32768]
+    ensures { λ r. ⌜ r ≡ replicate 32768 0 ⌝ }
+{
     [0u32; 32768]
 }
 
-pub fn large_numbers() -> [u32; cases::NUMBER_LIMIT] {
+pub fn large_numbers() -> [u32; cases::NUMBER_LIMIT]
+    ensures { λ r. ⌜ r ≡ replicate 680000 0 ⌝ }
+{
     [0u32; cases::NUMBER_LIMIT]
 }
 
 // For the work of a command: a value for each of 5,461 terms, or of 80,000; a finished table, of up to 512 + 3 + 145 *
 // 512 terms.
-pub fn small_room() -> [u32; 8190] {
+pub fn small_room() -> [u32; 8190]
+    ensures { λ r. ⌜ r ≡ replicate 8190 0 ⌝ }
+{
     [0u32; 8190]
 }
 
-pub fn large_room() -> [u32; 80000] {
+pub fn large_room() -> [u32; 80000]
+    ensures { λ r. ⌜ r ≡ replicate 80000 0 ⌝ }
+{
     [0u32; 80000]
 }
 
-fn finish_room() -> [u32; 448530] {
+fn finish_room() -> [u32; 448530]
+    ensures { λ r. ⌜ r ≡ replicate 448530 0 ⌝ }
+{
     [0u32; 448530]
 }
 
 // For solver text: short, and of 80,000 terms, which have at most 14,639 + 88 * 80,000 bytes.
-fn short_text() -> [u8; 65536] {
+fn short_text() -> [u8; 65536]
+    ensures { λ r. ⌜ r ≡ replicate 65536 0 ⌝ }
+{
     [0u8; 65536]
 }
 
-fn long_text() -> [u8; 7054639] {
+fn long_text() -> [u8; 7054639]
+    ensures { λ r. ⌜ r ≡ replicate 7054639 0 ⌝ }
+{
     [0u8; 7054639]
 }
 

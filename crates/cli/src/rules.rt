@@ -1,5 +1,6 @@
 // A rule and its setting.
-ghost use lib.ListN.{length};
+ghost use mathlib.Core.Path.{_≡_};
+ghost use lib.ListN.{length, replicate};
 ghost use Rattle.cases.specs.Reading.{Placed};
 use crate::answers;
 use crate::files;
@@ -13,20 +14,28 @@ use request::status;
 use table::Refusal;
 
 // The table of a rule, of up to 512 terms; its names, which are shorter than its text.
-fn rule_table() -> [u32; 3072] {
+fn rule_table() -> [u32; 3072]
+    ensures { λ r. ⌜ r ≡ replicate 3072 0 ⌝ }
+{
     [0u32; 3072]
 }
 
-fn rule_names() -> [u8; files::SMALL] {
+fn rule_names() -> [u8; files::SMALL]
+    ensures { λ r. ⌜ r ≡ replicate 65536 0 ⌝ }
+{
     [0u8; files::SMALL]
 }
 
 // The text of a setting, with room for the word that ends it.
-fn small_setting() -> [u8; 65552] {
+fn small_setting() -> [u8; 65552]
+    ensures { λ r. ⌜ r ≡ replicate 65552 0 ⌝ }
+{
     [0u8; 65552]
 }
 
-fn large_setting() -> [u8; 4194320] {
+fn large_setting() -> [u8; 4194320]
+    ensures { λ r. ⌜ r ≡ replicate 4194320 0 ⌝ }
+{
     [0u8; 4194320]
 }
 
@@ -249,7 +258,7 @@ fn answer_by_name(
     }
 }
 
-// A setting, after whose own bytes the word table stands.
+// A setting, after whose own bytes the word table stands. One in parts that is too large is told by the reader of cases.
 fn answer_text(
     request: Request,
     path: &[u8],
@@ -276,6 +285,10 @@ fn answer_text(
             numbers,
             room,
         );
+    }
+    if cases::BYTE_LIMIT < own {
+        forms::complain_of_size(setting, given);
+        return status::ERROR;
     }
     answer_by_name(
         request,

@@ -20,7 +20,7 @@ pub fn between(text: &[u8], from: usize, to: usize) -> &[u8]
 }
 
 // A word by itself.
-fn kind(word: Word) -> u32
+pub fn kind(word: Word) -> u32
     ensures { λ r. ⌜ r ≡ kind word ⌝ }
 {
     found(word, 0, false)

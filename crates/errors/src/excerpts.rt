@@ -6,7 +6,7 @@ use std::num::wrapping_add_usize;
 use std::num::wrapping_sub_usize;
 
 // A byte as it is shown, or a blank in its place.
-fn shown(b: u8, blank: bool) -> u8 {
+pub fn shown(b: u8, blank: bool) -> u8 {
     if b == 9 {
         9
     } else if blank {
@@ -66,17 +66,13 @@ pub fn put_excerpt(page: &mut [u8], at: usize, text: &[u8], place: usize) -> usi
     put_all(page, blank, b"^\n")
 }
 
-fn white(b: u8) -> bool {
-    (b == 32) | (b == 9) | (b == 10) | (b == 13)
-}
-
-// Some bytes after others, white space as one space, up to 81 in all.
-fn squeeze(own: &mut [u8], at: usize, bytes: &[u8]) -> usize {
+// Some bytes after others, white space as one space, up to one more than `most` in all.
+fn squeeze(own: &mut [u8], at: usize, bytes: &[u8], most: usize) -> usize {
     let mut to = at;
     let mut before = false;
     for i in 0..bytes.len() {
-        let blank = white(bytes[i]);
-        if (80 < to) | (blank & before) {
+        let blank = parser::white(bytes[i]);
+        if (most < to) | (blank & before) {
             continue;
         }
         before = blank;
@@ -85,17 +81,24 @@ fn squeeze(own: &mut [u8], at: usize, bytes: &[u8]) -> usize {
     to
 }
 
-// A line of up to 80 bytes; of a longer one 77 and three dots.
-fn put_cut(page: &mut [u8], at: usize, own: &[u8], count: usize) -> usize {
-    if count <= 80 {
-        let all = put_all(page, at, between(own, 0, count));
-        return put(page, all, 10);
+// So many bytes, up to `most`; of more the first, and three dots.
+fn put_cut(page: &mut [u8], at: usize, own: &[u8], count: usize, most: usize) -> usize {
+    if count <= most {
+        return put_all(page, at, between(own, 0, count));
     }
-    let start = put_all(page, at, between(own, 0, 77));
-    put_all(page, start, b"...\n")
+    let start = put_all(page, at, between(own, 0, wrapping_sub_usize(most, 3)));
+    put_all(page, start, b"...")
 }
 
-// A term with its number, its line and column, and as it was typed.
+// A term as it was typed, white space as one space, in up to 200 bytes.
+pub fn put_expression(page: &mut [u8], at: usize, text: &[u8], term: u32) -> usize {
+    let mut own = [0u8; 256];
+    let span = outline::span_of(text, term);
+    let count = squeeze(&mut own, 0, between(text, span.from, span.to), 200);
+    put_cut(page, at, &own, count, 200)
+}
+
+// A term with its number, its line and column, and as it was typed, in a line of up to 80 bytes.
 pub fn put_typed(page: &mut [u8], at: usize, text: &[u8], term: u32) -> usize {
     let mut own = [0u8; 128];
     let span = outline::span_of(text, term);
@@ -103,6 +106,7 @@ pub fn put_typed(page: &mut [u8], at: usize, text: &[u8], term: u32) -> usize {
     let column = outline::column_of(text, span.from);
     let numbers = page::five(term as u64, line, column, 0, 0);
     let start = page::fill(&mut own, 0, b"", b"    t#  #:#  ", b"", 0, numbers);
-    let count = squeeze(&mut own, start, between(text, span.from, span.to));
-    put_cut(page, at, &own, count)
+    let count = squeeze(&mut own, start, between(text, span.from, span.to), 80);
+    let line_end = put_cut(page, at, &own, count, 80);
+    put(page, line_end, 10)
 }

@@ -8,6 +8,7 @@ pub use contexts::between;
 pub use contexts::place_of;
 pub use contexts::reason_at;
 pub use excerpts::put_excerpt;
+pub use excerpts::put_expression;
 pub use excerpts::put_typed;
 pub use messages::put_head;
 pub use messages::put_reason;

@@ -1,14 +1,15 @@
 // The reasons in words.
 use crate::contexts::between;
 use crate::contexts::expected_at;
+use crate::contexts::kind;
 use crate::contexts::reason_at;
+use crate::excerpts::shown;
 use page::Numbers;
 use page::put;
 use page::put_all;
 use parser::Token;
 use parser::Word;
 use parser::token_at;
-use table::Fields;
 
 // Line `n` is reason `n`; 30 and more: what is expected where the text ends. Of the words + shows the first is the one
 // that stands there, the second a number sign.
@@ -70,11 +71,6 @@ nothing
     )
 }
 
-// A byte of a word as it is shown.
-fn shown(b: u8) -> u8 {
-    if (b < 33) | (126 < b) { b'?' } else { b }
-}
-
 // The first 65 bytes of a word, a line feed, and a number sign.
 fn put_word(own: &mut [u8], word: &[u8]) -> usize {
     let mut to = 0;
@@ -82,7 +78,7 @@ fn put_word(own: &mut [u8], word: &[u8]) -> usize {
         if 65 <= i {
             continue;
         }
-        to = put(own, to, shown(word[i]));
+        to = put(own, to, shown(word[i], false));
     }
     put_all(own, to, b"\n#\n")
 }
@@ -110,42 +106,18 @@ fn operator_before(text: &[u8], at: usize) -> u32 {
     operator_in(word)
 }
 
-fn operand_count(fields: Fields) -> u32 {
-    match fields {
-        Fields::Value => 0,
-        Fields::Slot => 0,
-        Fields::One => 1,
-        Fields::Two => 2,
-        Fields::Three => 3,
-    }
-}
-
 // Parentheses that are open, and operands that began outside of them.
 struct Listed {
     open: u64,
     operands: u64,
 }
 
-fn opens(word: Word) -> u64 {
-    match word {
-        Word::Open => 1,
-        Word::Close => 2,
-        Word::Keyword(_) => 0,
-        Word::Operator(_) => 0,
-        Word::Literal(_, _) => 0,
-        Word::Width(_) => 0,
-        Word::Name(_) => 0,
-        Word::Other => 0,
-        Word::End => 0,
-    }
-}
-
-// After one word more.
-fn one_more(l: Listed, kind: u64) -> Listed {
-    let outside = (l.open == 0) & (kind != 2);
-    let opened = std::num::wrapping_add_u64(l.open, if kind == 1 { 1 } else { 0 });
+// After one word more, by its kind: 2 is an opening parenthesis, 3 a closing one.
+fn one_more(l: Listed, kind: u32) -> Listed {
+    let outside = (l.open == 0) & (kind != 3);
+    let opened = std::num::wrapping_add_u64(l.open, if kind == 2 { 1 } else { 0 });
     Listed {
-        open: std::num::wrapping_sub_u64(opened, if kind == 2 { 1 } else { 0 }),
+        open: std::num::wrapping_sub_u64(opened, if kind == 3 { 1 } else { 0 }),
         operands: std::num::wrapping_add_u64(l.operands, if outside { 1 } else { 0 }),
     }
 }
@@ -165,7 +137,7 @@ fn given(text: &[u8], at: usize) -> u64 {
             break;
         }
         let word = t.word;
-        l = one_more(l, opens(word));
+        l = one_more(l, kind(word));
         next = t.next;
     }
     l.operands
@@ -174,7 +146,7 @@ fn given(text: &[u8], at: usize) -> u64 {
 // The numbers of 34: the operator, how many operands it takes, how many it has.
 fn operand_numbers(text: &[u8], at: usize) -> Numbers {
     let op = operator_before(text, at);
-    let count = operand_count(table::fields_of(op));
+    let count = parser::operands_of(op);
     let there = given(text, at);
     let are = if there == 1 { 44 } else { 45 };
     let some = page::push_long(there, page::one(are));

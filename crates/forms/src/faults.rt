@@ -4,7 +4,7 @@ use libc::STDERR_FILENO;
 use page::Numbers;
 
 // Line `n` is fault `n`; 6 cannot occur: the room for the numbers is never too short. Line 21 and `n` is fault `n` of a
-// setting by name; + shows a line of the names.
+// setting by name, 35 that of a name with an equals sign in it; + shows a line of the names.
 fn fill(page: &mut [u8], at: usize, names: &[u8], n: u32, numbers: Numbers) -> usize {
     page::fill(
         page,
@@ -45,6 +45,7 @@ an index is expected: a decimal number or +b and 1 to 32 binary digits
 no value for +
 more cells than the room holds
 the file ends in the middle of a statement
+the rule declares no such name: \"=\" takes white space before and after it
 ",
         b"",
         n,
@@ -178,6 +179,27 @@ pub fn complain_of_setting(path: &[u8], e: ParseError, text: &[u8], own: usize) 
     complain(path, told, errors::between(text, e.from, e.to));
 }
 
+// Whether an equals sign stands in a word.
+fn has_equals(word: &[u8]) -> bool {
+    let mut found = false;
+    for i in 0..word.len() {
+        found = found | (word[i] == b'=');
+    }
+    found
+}
+
+// A file that is too large, whose text is read up to the limit at least.
+pub fn complain_of_size(path: &[u8], text: &[u8]) {
+    let e = ParseError {
+        kind: 12,
+        line: outline::line_of(text, cases::BYTE_LIMIT),
+        column: 0,
+        from: 0,
+        to: 0,
+    };
+    complain(path, e, b"");
+}
+
 // Fault `kind` of a setting by name, at a word; or at the end, where the column is 0 and the slot that has no value is told.
 fn put_name_fault(
     page: &mut [u8],
@@ -188,7 +210,8 @@ fn put_name_fault(
     slot: usize,
     word: &[u8],
 ) -> usize {
-    let n = std::num::wrapping_add_u32(21, kind);
+    let stuck = (kind == 1) & has_equals(word);
+    let n = ops::ite(stuck, 35, std::num::wrapping_add_u32(21, kind));
     if column == 0 {
         return fill(
             page,

@@ -13,6 +13,7 @@ pub use faults::complain;
 pub use faults::complain_of;
 pub use faults::complain_of_name;
 pub use faults::complain_of_setting;
+pub use faults::complain_of_size;
 pub use finished::put_finished;
 pub use parts::part;
 pub use reading::ended_well;

@@ -11,10 +11,10 @@ fn say(page: &mut [u8], at: usize, names: &[u8], n: u32, numbers: Numbers) -> us
         page,
         at,
         names,
-        b"t# [label=\"t# ! = ?\", shape=&, fillcolor=&];$
-t# [label=\"t# / = ?\", shape=&, fillcolor=&];$
-t# [label=\"t# /: array\", shape=&, fillcolor=&];$
-t# [label=\"t# !\", shape=&, fillcolor=&];$
+        b"t# [label=\"t# ! = ?\", shape=&, fillcolor=&
+t# [label=\"t# / = ?\", shape=&, fillcolor=&
+t# [label=\"t# /: array\", shape=&, fillcolor=&
+t# [label=\"t# !\", shape=&, fillcolor=&
 t# -> t#;$
 t# -> t# [style=bold];$
 t# -> t# [style=\"bold,dashed\"];$
@@ -28,6 +28,9 @@ white
 palegreen
 indianred1
 hexagon
+, tooltip=\"
+\"
+];$
 ",
         n,
         numbers,
@@ -78,6 +81,17 @@ fn put_node(
         line_of(x),
         page::push(k, page::push(k, page::push(name, numbers))),
     )
+}
+
+// The tooltip of a term that is no variable: its expression as it was typed in the text of a rule, nothing where there is
+// none. A rule's words have neither a quotation mark nor a backslash, so that nothing is escaped.
+fn put_tooltip(page: &mut [u8], at: usize, rule: &[u8], k: u32, x: Term) -> usize {
+    if (rule.len() == 0) | (x.op == 1) {
+        return at;
+    }
+    let start = say(page, at, b"", 17, none());
+    let to = errors::put_expression(page, start, rule, k);
+    say(page, to, b"", 18, none())
 }
 
 // Operand `i` of a term.
@@ -153,6 +167,7 @@ fn put_blames(
 fn put_term(
     page: &mut [u8],
     at: usize,
+    rule: &[u8],
     names: &[u8],
     table: &[u32],
     values: &[u32],
@@ -162,7 +177,9 @@ fn put_term(
 ) -> usize {
     let x = table::term_at(table, k);
     let free = explain::free_at(truths, k);
-    let node = put_node(page, at, names, k, x, number_at(values, k), free);
+    let begun = put_node(page, at, names, k, x, number_at(values, k), free);
+    let told = put_tooltip(page, begun, rule, k, x);
+    let node = say(page, told, names, 19, none());
     let to = put_edges(page, node, names, table, values, truths, k, on);
     if on {
         return put_blames(page, to, names, table, values, truths, k);
@@ -173,6 +190,7 @@ fn put_term(
 fn put_terms(
     page: &mut [u8],
     at: usize,
+    rule: &[u8],
     names: &[u8],
     table: &[u32],
     values: &[u32],
@@ -185,6 +203,7 @@ fn put_terms(
         to = put_term(
             page,
             to,
+            rule,
             names,
             table,
             values,
@@ -199,6 +218,7 @@ fn put_terms(
 fn put_all(
     page: &mut [u8],
     at: usize,
+    rule: &[u8],
     names: &[u8],
     table: &[u32],
     values: &[u32],
@@ -207,15 +227,22 @@ fn put_all(
 ) -> usize {
     let way = explain::way(table, values, truths, terms);
     let start = say(page, at, names, 7, none());
-    let to = put_terms(page, start, names, table, values, truths, &way, terms);
+    let to = put_terms(page, start, rule, names, table, values, truths, &way, terms);
     say(page, to, names, 8, none())
 }
 
-// The rule of a judgement whose room is the values, then the conditions' truths.
-pub fn put_graph(page: &mut [u8], at: usize, names: &[u8], table: &[u32], room: &[u32]) -> usize {
+// The rule of a judgement whose room is the values, then the conditions' truths; of a case the rule's text is empty.
+pub fn put_graph(
+    page: &mut [u8],
+    at: usize,
+    rule: &[u8],
+    names: &[u8],
+    table: &[u32],
+    room: &[u32],
+) -> usize {
     let terms = show::terms_within(table, 512);
     let middle = show::front(terms, room);
     let values = &room[..middle];
     let truths = &room[middle..];
-    put_all(page, at, names, table, values, truths, terms)
+    put_all(page, at, rule, names, table, values, truths, terms)
 }

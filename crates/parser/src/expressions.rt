@@ -191,7 +191,7 @@ fn operand_count(fields: Fields) -> u32
 }
 
 // How many operands an operator has.
-fn operands_of(op: u32) -> u32
+pub fn operands_of(op: u32) -> u32
     ensures { λ r. ⌜ r ≡ operandsOf op ⌝ }
 {
     operand_count(table::fields_of(op))

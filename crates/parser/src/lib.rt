@@ -8,6 +8,7 @@ mod states; // how far a text is read
 mod words; // the words of a text
 
 use crate::states::State;
+pub use expressions::operands_of;
 pub use names::index_of;
 pub use rules::rule;
 use table::Acceptance;
@@ -17,6 +18,7 @@ pub use words::Token;
 pub use words::Word;
 pub use words::all_symbolic;
 pub use words::token_at;
+pub use words::white;
 pub use words::word_of;
 ghost use mathlib.Core.Path.{_≡_};
 ghost use mathlib.Core.Bool.{cond};

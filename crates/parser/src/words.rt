@@ -115,7 +115,7 @@ const COMMAND_ENDS: [usize; 27] = [
     295,
 ];
 
-fn white(b: u8) -> bool
+pub fn white(b: u8) -> bool
     ensures { λ r. ⌜ r ≡ white b ⌝ }
 {
     (b == 32) | (b == 9) | (b == 10) | (b == 13)

@@ -13,6 +13,7 @@ pub use refusals::put_refusal;
 pub use refusals::refusal_line;
 pub use rows::put_evaluation;
 pub use rows::put_judgement;
+pub use rows::put_typed;
 pub use rules::put_json_rule_refusal;
 pub use rules::put_rule_refusal;
 pub use verdicts::put_heading;

@@ -47,7 +47,7 @@ fn put_judged_rows(
     to
 }
 
-// Each term that is no variable as it was typed in the text of a rule; nothing where there is none.
+// Each term that is no variable as it was typed in the text of a rule.
 fn put_all_typed(page: &mut [u8], at: usize, rule: &[u8], table: &[u32], terms: u32) -> usize {
     let mut to = at;
     for k in 0..terms {
@@ -59,12 +59,13 @@ fn put_all_typed(page: &mut [u8], at: usize, rule: &[u8], table: &[u32], terms: 
     to
 }
 
-fn put_typed(page: &mut [u8], at: usize, rule: &[u8], table: &[u32], terms: u32) -> usize {
+// The terms as they were typed, below an empty line; nothing where there is no text.
+pub fn put_typed(page: &mut [u8], at: usize, rule: &[u8], table: &[u32]) -> usize {
     if rule.len() == 0 {
         return at;
     }
     let start = page::put_all(page, at, b"\nAs typed, with line and column:\n");
-    put_all_typed(page, start, rule, table, terms)
+    put_all_typed(page, start, rule, table, show::terms_within(table, 512))
 }
 
 // An evaluation, whose room has the values at its front.
@@ -105,6 +106,6 @@ pub fn put_judgement(
     let truths = &room[middle..];
     let head = show::put_head(page, at, true);
     let rows = put_judged_rows(page, head, names, table, values, truths, terms);
-    let typed = put_typed(page, rows, rule, table, terms);
+    let typed = put_typed(page, rows, rule, table);
     put_told(page, typed, v, std::num::wrapping_sub_u32(terms, 1))
 }

@@ -7,10 +7,10 @@ use Rattle.errors.proofs.excerpts.squeeze.Statement.{statement}
 use Rattle.errors.proofs.excerpts.squeeze.Tie as tie
 
 abbrev Inv-loop : tie.InvT-loop
-Inv-loop own₀ at bytes to₀ before₀ i₀ i-end own to before i = (i ≤ length bytes) × (length own ≡ length own₀)
+Inv-loop own₀ at bytes most to₀ before₀ i₀ i-end own to before i = (i ≤ length bytes) × (length own ≡ length own₀)
 
 abbrev μ-loop : tie.MeasureT-loop
-μ-loop own₀ at bytes to₀ before₀ i₀ i-end own to before i = length bytes - i
+μ-loop own₀ at bytes most to₀ before₀ i₀ i-end own to before i = length bytes - i
 
 pub squeeze-spec : {M : Type 1} → statement M
 squeeze-spec =

@@ -1,13 +1,13 @@
 -- In an interpretation that fits, every value fits its sort.
 -- Assumes nothing.
-use mathlib.Core.Path.{_≡_, refl, sym, ap, subst, _∙_}
+use mathlib.Core.Path.{_≡_, refl, sym, ap, ap₂, subst, _∙_}
 use mathlib.Core.Bool.{Bool, true, false, cond, _&&_}
 use mathlib.Core.List.{List}
 use Prim.Native.Nat.{ℕ, zero, suc, _^_, _≤_, _<_}
 use native.Mathlib.Nat.{not-suc-le-zero}
 use native.Mathlib.Omega.{arith}
 use lib.Dec.{eqb, ltb}
-use borrow.Author.Tests.{eqb-true, ltb-true}
+use borrow.Author.Tests.{eqb-true, ltb-true, lt-ltb}
 use Rattle.ops.specs.declared.Op.{Op}
 use Rattle.ops.specs.declared.Op.the-variants.{Constant, Variable, Apply, Ite, Select, Store, Unknown}
 use Rattle.ops.specs.Numbers.{opOf}
@@ -15,8 +15,9 @@ use Rattle.ops.specs.Meaning.{apply}
 use Rattle.ops.specs.Fits.{fits}
 use Rattle.ops.specs.declared.Function.{Function}
 use Rattle.ops.specs.Ranks.{Arity, FunctionRank, functionRank, rankWidth}
+use Rattle.ops.specs.Ranks.Arity.{one, two}
 use Rattle.ops.specs.Ranks.FunctionRank.{boolUnary, boolBinary, equality, bvUnary, bvBinary, bvCompare}
-use Rattle.ops.specs.Laws.{resultWidth, chooses}
+use Rattle.ops.specs.Laws.{resultWidth, chooses, operandFits, OperandsFit}
 use Rattle.ops.proofs.Booleans.{never, and-parts}
 use Rattle.ops.proofs.Widths.{fits-below}
 use Rattle.ops.proofs.Fitting.{fitting}
@@ -32,7 +33,7 @@ use Rattle.setting.proofs.Checked.{below-of-fits, checked-fits}
 use Rattle.evaluate.specs.Values.{scalarValue, arrayValue, valueBy, valueIn, values, valueAt}
 use Rattle.evaluate.specs.Laws.{ValuesFit, CheckedValuesFit}
 use Rattle.evaluate.proofs.Folds.{value-below}
-use Rattle.table.proofs.OperandSorts.{isKnown, not-array, same-sort, rank-scalar, three, four, op-at, typing, two-placed, three-placed}
+use Rattle.table.proofs.OperandSorts.{isKnown, not-array, same-sort, boolean-scalar, rank-scalar, three, four, op-at, typing, two-placed, three-placed}
 
 -- a number that fits a sort that is no array's
 scalar-fit : (s : Sort) (u : ℕ) → scalar s ≡ true → fits (s .n) u ≡ true → Fit s (scalarValue u)
@@ -49,6 +50,40 @@ rank-width equality x a b c h = sym (boolean-n x (three (boolean x) (scalar a) (
 rank-width bvUnary x a b c h = same-sort a x (and-parts (vector x) (sameSort a x) h .1) .n
 rank-width bvBinary x a b c h = same-sort a x (three (vector x) (sameSort a x) (sameSort b x) h .1) .n
 rank-width bvCompare x a b c h = sym (boolean-n x (three (boolean x) (vector a) (sameSort a b) h .0))
+
+-- A function's operands fit, by its rank
+
+boolean-fits : (s : Sort) (u : Value) → boolean s ≡ true → Fit s u → fits 0 (u .num) ≡ true
+boolean-fits s u h g = subst (λ (n : ℕ). fits n (u .num) ≡ true) (boolean-n s h) (g .num (boolean-scalar s h))
+
+vector-fits : (s : Sort) (u : Value) → vector s ≡ true → Fit s u → ltb (u .num) (2 ^ s .n) ≡ true
+vector-fits s u h g =
+    let parts = and-parts (eqb (s .m) 0) (ltb 0 (s .n)) h in
+    let some : 0 < s .n = ltb-true 0 (s .n) (parts .1) in
+    lt-ltb (u .num) (2 ^ s .n) (below-of-fits (s .n) (u .num) (λ z. omega arith) (g .num (parts .0)))
+
+same-vector : (a b : Sort) → sameSort a b ≡ true → vector b ≡ true → vector a ≡ true
+same-vector a b h v = let s = same-sort a b h in ap₂ (λ (m n : ℕ). eqb m 0 && ltb 0 n) (s .m) (s .n) ∙ v
+
+module _ (x a b c : Sort) (u v : Value) (first : Fit a u) (second : Fit b v) where
+  pub operands-fit : (n : Arity) (r : FunctionRank n) → typedAs (applied r) x a b c ≡ true → OperandsFit n r (a .n) (u .num) (v .num)
+  operands-fit one boolUnary h = boolean-fits a u (and-parts (boolean x) (boolean a) h .1) first
+  operands-fit one bvUnary h = let s = and-parts (vector x) (sameSort a x) h in vector-fits a u (same-vector a x (s .1) (s .0)) first
+  operands-fit two boolBinary h = let s = three (boolean x) (boolean a) (boolean b) h in (boolean-fits a u (s .1) first, boolean-fits b v (s .2) second)
+  operands-fit two equality h =
+      let s = three (boolean x) (scalar a) (sameSort a b) h in
+      let e = same-sort a b (s .2) in
+      (first .num (s .1), ap (λ (n : ℕ). fits n (v .num)) (e .n) ∙ second .num (ap (λ (m : ℕ). eqb m 0) (sym (e .m)) ∙ s .1))
+  operands-fit two bvBinary h =
+      let s = three (vector x) (sameSort a x) (sameSort b x) h in
+      let e : a .n ≡ b .n = same-sort a x (s .1) .n ∙ sym (same-sort b x (s .2) .n) in
+      (vector-fits a u (same-vector a x (s .1) (s .0)) first, ap (λ (n : ℕ). ltb (v .num) (2 ^ n)) e ∙ vector-fits b v (same-vector b x (s .2) (s .0)) second)
+  operands-fit two bvCompare h =
+      let s = three (boolean x) (vector a) (sameSort a b) h in
+      let e = same-sort a b (s .2) in (
+        vector-fits a u (s .1) first,
+        ap (λ (n : ℕ). ltb (v .num) (2 ^ n)) (e .n) ∙ vector-fits b v (ap₂ (λ (m n : ℕ). eqb m 0 && ltb 0 n) (sym (e .m)) (sym (e .n)) ∙ s .1) second,
+      )
 
 -- One term, by its operator: x, a, b, c are its sort and its operands', i its number
 module _ (I : Interpretation) (v : ℕ → Value) (t : Term) (i : ℕ) (a b c : Sort)

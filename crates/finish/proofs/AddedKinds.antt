@@ -13,12 +13,12 @@ use Rattle.ops.specs.Numbers.{opOf}
 use Rattle.ops.proofs.Booleans.{and-parts, or-neither}
 use Rattle.table.specs.declared.words.Term.{Term}
 use Rattle.table.specs.Folds.{fold}
-use Rattle.table.specs.Terms.{terms, termAt}
+use Rattle.table.specs.Terms.{terms, termAt, sortAt}
 use Rattle.table.specs.Faults.{isVariable, isStore}
 use Rattle.table.proofs.FoldLaws.{length-fold}
 use Rattle.judge.specs.Conditions.{ownMarks}
 use Rattle.groups.specs.declared.kinds.GroupKind.{GroupKind}
-use Rattle.groups.specs.declared.kinds.GroupKind.the-variants.{Literal, Input, Unary, Strict, Conjunction, Disjunction, Implication, Zero, Ones, Shift, Choice, Read, Write}
+use Rattle.groups.specs.declared.kinds.GroupKind.the-variants.{Literal, Input, Unary, Strict, Conjunction, Disjunction, Implication, Zero, Ones, Bounds, Shift, Choice, Read, Write}
 use Rattle.groups.specs.Added.{andT, constantT}
 use Rattle.groups.specs.Groups.{storeGroup}
 use Rattle.groups.specs.FunctionGroups.{kindOf}
@@ -54,8 +54,8 @@ quiet-taken : (c : ℕ) → Quiet (taken c)
 unfolding quiet
 quiet-taken c = record { whole = refl; read = λ s j cj. refl }
 
-module _ (marked : Term → Bool) (yes no : ℕ) (plan : ℕ → Plan) (b : ℕ) (t : Term) (before : (i : ℕ) → Quiet (plan i)) where
-  quiet-by : (kind : GroupKind) → Quiet (planBy marked yes no plan b t kind)
+module _ (marked : Term → Bool) (yes no : ℕ) (plan : ℕ → Plan) (b width : ℕ) (t : Term) (before : (i : ℕ) → Quiet (plan i)) where
+  quiet-by : (kind : GroupKind) → Quiet (planBy marked yes no plan b width t kind)
   unfolding planBy quiet
   quiet-by Literal = record { whole = refl; read = λ s j cj. refl }
   quiet-by Input = record { whole = refl; read = λ s j cj. refl }
@@ -66,16 +66,17 @@ module _ (marked : Term → Bool) (yes no : ℕ) (plan : ℕ → Plan) (b : ℕ)
   quiet-by Implication = record { whole = refl; read = λ s j cj. refl }
   quiet-by Zero = record { whole = refl; read = λ s j cj. refl }
   quiet-by Ones = record { whole = refl; read = λ s j cj. refl }
+  quiet-by Bounds = record { whole = refl; read = λ s j cj. refl }
   quiet-by Shift = record { whole = refl; read = λ s j cj. refl }
   quiet-by Choice = record { whole = refl; read = λ s j cj. refl }
-  quiet-by Read = record { whole = before (t .p) .read b (t .q) (cq marked yes no plan b t); read = λ s j cj. refl }
+  quiet-by Read = record { whole = before (t .p) .read b (t .q) (cq marked yes no plan b width t); read = λ s j cj. refl }
   quiet-by Write =
       record {
         whole = refl;
         read = λ s j cj.
             let below : List Term = plan (t .p) .readGroup s j cj in
             quiet-append below
-            (storeGroup (s + length below) (t .sort .n) (t .p) (t .q) (t .r) j (cq marked yes no plan b t) (cr marked yes no plan b t) cj (lastOf s below))
+            (storeGroup (s + length below) (t .sort .n) (t .p) (t .q) (t .r) j (cq marked yes no plan b width t) (cr marked yes no plan b width t) cj (lastOf s below))
             (before (t .p) .read s j cj) refl;
       }
 
@@ -93,7 +94,7 @@ module _ (w : List ℕ) (marked : Term → Bool) where
   quiet-within : (n k : ℕ) → k < n → Quiet (planAt w marked k)
   quiet-within zero k b = absurd (not-suc-le-zero b)
   quiet-within (suc n) k b =
-      quiet-by marked (terms w) (terms w + 1) (planIn (plans w marked k)) (next w (plans w marked k)) (termAt w k)
+      quiet-by marked (terms w) (terms w + 1) (planIn (plans w marked k)) (next w (plans w marked k)) (sortAt w (termAt w k .p) .n) (termAt w k)
       (quiet-in k (λ i l. quiet-within n i (omega arith))) (kindOf (opOf (termAt w k .op)))
 
   quiet-groups : (k : ℕ) → quiet (groups (plans w marked k)) ≡ true

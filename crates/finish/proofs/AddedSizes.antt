@@ -23,6 +23,6 @@ added-size w f =
 pub added-few : AddedFew
 added-few w f =
     let count : length (added w) ≡ sizes w (terms w) + 3 = added-size w f in
-    let by-steps : sizes w (terms w) ≤ 8 * terms w + 9 * steps w (terms w) = sizes-by-steps w f (terms w) (le-refl (terms w)) in
+    let by-steps : sizes w (terms w) ≤ 9 * terms w + 9 * steps w (terms w) = sizes-by-steps w f (terms w) (le-refl (terms w)) in
     let by-terms : sizes w (terms w) ≤ 145 * terms w = sizes-by-terms w f (terms w) (le-refl (terms w)) in
     record { by-steps = omega arith; by-terms = omega arith }

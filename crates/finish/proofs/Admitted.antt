@@ -29,19 +29,19 @@ use Rattle.table.specs.Ranks.{applied, rankOf, fieldsOf}
 use Rattle.table.specs.Faults.{rank, fields, isVariable, isStore, known, sorted, placedAs, typedAs, typed, valuedAs, conflicts, clash, chain}
 use Rattle.table.specs.WellFormed.{Sound, WellFormed}
 use Rattle.table.proofs.FoldLaws.{fold-below}
-use Rattle.table.proofs.SoundTerms.{widths, store-below}
+use Rattle.table.proofs.SoundTerms.{widths, n-most-at, store-below}
 use Rattle.table.proofs.OperandSorts.{isKnown, op-at, not-array, SameSort, same-sort, vector-scalar, three, four, unary-scalar, binary-scalars, two-placed, three-placed, one-below, rank-below}
 use Rattle.evaluate.proofs.Meaning.{same-array}
 use Rattle.judge.specs.Conditions.{ownMarks}
 use Rattle.groups.specs.Added.{andT, constantT}
-use Rattle.groups.specs.Groups.{absorbingGroup, shiftGroup, choiceGroup, storeGroup}
+use Rattle.groups.specs.Groups.{absorbingGroup, boundsGroup, shiftGroup, choiceGroup, storeGroup}
 use Rattle.groups.specs.FunctionGroups.{FunctionGroup, functionGroup, groupKind, kindOf}
-use Rattle.groups.specs.FunctionGroups.FunctionGroup.{unary, strict, conjunction, disjunction, implication, byZero, byOnes, shift}
+use Rattle.groups.specs.FunctionGroups.FunctionGroup.{unary, strict, conjunction, disjunction, implication, byZero, byOnes, byBounds, shift}
 use Rattle.groups.specs.Plans.{Plan, lastOf, taken, grown, storeRead, planBy, planIn, groups, next, planOf, plans, planAt}
 use Rattle.groups.proofs.GroupSizes.{next-more}
 use Rattle.finish.specs.Finished.{conditionNumber}
 use Rattle.finish.proofs.Layouts.{Has, has-left, has-right, Layout, true-at, false-at, group-has, count-is, last-at}
-use Rattle.finish.proofs.Good.{Below, later, Good, good-sound, and-good, constant-good, AllGood, GoodGroup, append-good, strict-good, conjunction-good, disjunction-good, implication-good, absorbing-good, shift-good, choosing-good, store-good}
+use Rattle.finish.proofs.Good.{Below, later, Good, good-sound, and-good, constant-good, AllGood, GoodGroup, append-good, strict-good, conjunction-good, disjunction-good, implication-good, absorbing-good, bounds-good, shift-good, choosing-good, store-good}
 
 -- The table's own terms
 
@@ -141,7 +141,7 @@ vector-sorted : (n : ℕ) → 0 < n → n ≤ 32 → sorted (constantT n 0 .sort
 vector-sorted n some most = rw (ne-eqb n 0 (λ z. omega arith), lt-ltb 0 n some, le-leb n 32 most)
 
 -- the plan of a term t that stands at k, from the plans of those before it
-module _ (f : List ℕ) (marked : Term → Bool) (n k b : ℕ) (plan : ℕ → Plan) (t : Term) (YES : Below f b n 0 0) (NO : Below f b (n + 1) 0 0) (k-most : k ≤ b)
+module _ (f : List ℕ) (marked : Term → Bool) (n k b : ℕ) (plan : ℕ → Plan) (width : ℕ) (t : Term) (width-is : t .p < k → sortAt f (t .p) .n ≡ width) (width-most : width ≤ 32) (YES : Below f b n 0 0) (NO : Below f b (n + 1) 0 0) (k-most : k ≤ b)
     (earlier : (i : ℕ) → i < k → Fine f b (sortAt f i) (plan i)) (sort : sorted (t .sort) ≡ true) where
   -- the numbers of the operands' conditions
   abbrev cp : ℕ
@@ -165,7 +165,7 @@ module _ (f : List ℕ) (marked : Term → Bool) (n k b : ℕ) (plan : ℕ → P
         fine = record { condition = λ z. later (b + 0) (omega arith) C; reads = λ a s j cj m J CJ h. strict-good f s (later s (omega arith) C) CJ h };
       }
 
-  grown-planned : {xs : List Term} → GoodGroup f b xs → Planned f b (t .sort) (grown marked n (n + 1) plan b t xs)
+  grown-planned : {xs : List Term} → GoodGroup f b xs → Planned f b (t .sort) (grown marked n (n + 1) plan b width t xs)
   grown-planned g =
       record {
         all = g .all;
@@ -173,12 +173,12 @@ module _ (f : List ℕ) (marked : Term → Bool) (n k b : ℕ) (plan : ℕ → P
       }
 
   -- an operand: itself, and the number of its condition
-  record Operand (i width : ℕ) : Type 0 where
-    value : Below f b i 0 width
+  record Operand (i wide : ℕ) : Type 0 where
+    value : Below f b i 0 wide
     free : Below f b (plan i .condition) 0 0
 
-  operand : (i width : ℕ) → i < k → sortAt f i .m ≡ 0 → sortAt f i .n ≡ width → Operand i width
-  operand i width c zm is =
+  operand : (i wide : ℕ) → i < k → sortAt f i .m ≡ 0 → sortAt f i .n ≡ wide → Operand i wide
+  operand i wide c zm is =
       record {
         value = record { before = omega arith; m-is = zm; n-is = is };
         free = earlier i c .condition (eq-eqb (sortAt f i .m) 0 zm);
@@ -188,10 +188,10 @@ module _ (f : List ℕ) (marked : Term → Bool) (n k b : ℕ) (plan : ℕ → P
   same-operand : (i : ℕ) (s : Sort) → i < k → scalar s ≡ true → SameSort (sortAt f i) s → Operand i (s .n)
   same-operand i s c z same = operand i (s .n) c (same .m ∙ eqb-true (s .m) 0 z) (same .n)
 
-  width-operand : (i width : ℕ) → i < k → vectorOf width (sortAt f i) ≡ true → Operand i width
-  width-operand i width c h =
-      let parts = and-parts (eqb (sortAt f i .m) 0) (eqb (sortAt f i .n) width) h in
-      operand i width c (eqb-true (sortAt f i .m) 0 (parts .0)) (eqb-true (sortAt f i .n) width (parts .1))
+  width-operand : (i wide : ℕ) → i < k → vectorOf wide (sortAt f i) ≡ true → Operand i wide
+  width-operand i wide c h =
+      let parts = and-parts (eqb (sortAt f i .m) 0) (eqb (sortAt f i .n) wide) h in
+      operand i wide c (eqb-true (sortAt f i .m) 0 (parts .0)) (eqb-true (sortAt f i .n) wide (parts .1))
 
   -- of terms with two operands
   two-booleans : (t .p < k) × (t .q < k) → typedBy BoolBinary ≡ true → Operand (t .p) 0 × Operand (t .q) 0
@@ -215,15 +215,30 @@ module _ (f : List ℕ) (marked : Term → Bool) (n k b : ℕ) (plan : ℕ → P
   -- by the kinds of groups
   absorbing-planned : (value : ℕ) → fits (t .sort .n) value ≡ true → (t .p < k) × (t .q < k) → typedBy BvBinary ≡ true
       → Has f b (absorbingGroup b (t .sort .n) value (t .p) (t .q) cp cq)
-      → Planned f b (t .sort) (grown marked n (n + 1) plan b t (absorbingGroup b (t .sort .n) value (t .p) (t .q) cp cq))
+      → Planned f b (t .sort) (grown marked n (n + 1) plan b width t (absorbingGroup b (t .sort .n) value (t .p) (t .q) cp cq))
   absorbing-planned value fit place h has =
       let o = two-vectors place h in
       let wide = vector-width h in
       grown-planned (absorbing-good f b (o .0 .free) (o .1 .free) (wide .1) (o .1 .value) (o .0 .value) value fit has)
 
+  bounds-planned : (t .p < k) × (t .q < k) → typedBy BvCompare ≡ true
+      → Has f b (boundsGroup b width (ones width) 0 (t .p) (t .q) cp cq cq)
+      → Planned f b (t .sort) (grown marked n (n + 1) plan b width t (boundsGroup b width (ones width) 0 (t .p) (t .q) cp cq cq))
+  bounds-planned place h has =
+      let parts = three (boolean (t .sort)) (vector (sortAt f (t .p))) (sameSort (sortAt f (t .p)) (sortAt f (t .q))) h in
+      let own = and-parts (eqb (sortAt f (t .p) .m) 0) (ltb 0 (sortAt f (t .p) .n)) (parts .1) in
+      let same = same-sort (sortAt f (t .p)) (sortAt f (t .q)) (parts .2) in
+      let is = width-is (place .0) in
+      let some : 0 < sortAt f (t .p) .n = ltb-true 0 (sortAt f (t .p) .n) (own .1) in
+      let zero-m = eqb-true (sortAt f (t .p) .m) 0 (own .0) in
+      let p = operand (t .p) width (place .0) zero-m is in
+      let q = operand (t .q) width (place .1) (sym (same .m) ∙ zero-m) (sym (same .n) ∙ is) in
+      grown-planned (bounds-good f b (p .free) (q .free) (vector-sorted width (omega arith) width-most) (q .value) (p .value) (q .value) (q .free) (ones width) 0
+      (fits-below width (ones width) (ones-lt width)) (fits-below width 0 (pow-pos width)) has)
+
   shift-planned : (t .p < k) × (t .q < k) → typedBy BvBinary ≡ true
       → Has f b (shiftGroup b (t .sort .n) (t .q) cp cq)
-      → Planned f b (t .sort) (grown marked n (n + 1) plan b t (shiftGroup b (t .sort .n) (t .q) cp cq))
+      → Planned f b (t .sort) (grown marked n (n + 1) plan b width t (shiftGroup b (t .sort .n) (t .q) cp cq))
   shift-planned place h has =
       let o = two-vectors place h in
       let wide = vector-width h in
@@ -231,7 +246,7 @@ module _ (f : List ℕ) (marked : Term → Bool) (n k b : ℕ) (plan : ℕ → P
 
   choice-planned : (t .p < k) × (t .q < k) × (t .r < k) → typedBy Choice ≡ true
       → Has f b (choiceGroup b (t .p) (t .q) (t .r) cp cq cr)
-      → Planned f b (t .sort) (grown marked n (n + 1) plan b t (choiceGroup b (t .p) (t .q) (t .r) cp cq cr))
+      → Planned f b (t .sort) (grown marked n (n + 1) plan b width t (choiceGroup b (t .p) (t .q) (t .r) cp cq cr))
   choice-planned place h has =
       let parts = four (scalar (t .sort)) (boolean (sortAt f (t .p))) (sameSort (sortAt f (t .q)) (t .sort)) (sameSort (sortAt f (t .r)) (t .sort)) h in
       let p = width-operand (t .p) 0 (place .0) (parts .1) in
@@ -241,7 +256,7 @@ module _ (f : List ℕ) (marked : Term → Bool) (n k b : ℕ) (plan : ℕ → P
 
   read-planned : (t .p < k) × (t .q < k) → typedBy Read ≡ true
       → Has f b (plan (t .p) .readGroup b (t .q) cq)
-      → Planned f b (t .sort) (grown marked n (n + 1) plan b t (plan (t .p) .readGroup b (t .q) cq))
+      → Planned f b (t .sort) (grown marked n (n + 1) plan b width t (plan (t .p) .readGroup b (t .q) cq))
   read-planned place h has =
       let parts = three (array (sortAt f (t .p))) (vectorOf (sortAt f (t .p) .m) (sortAt f (t .q))) (vectorOf (sortAt f (t .p) .n) (t .sort)) h in
       let q = width-operand (t .q) (sortAt f (t .p) .m) (place .1) (parts .1) in
@@ -253,7 +268,7 @@ module _ (f : List ℕ) (marked : Term → Bool) (n k b : ℕ) (plan : ℕ → P
 
   -- a read of a store
   store-reads : (t .p < k) × (t .q < k) × (t .r < k) → typedBy Write ≡ true
-      → (c j cj : ℕ) → b ≤ c → Below f c j 0 (t .sort .m) → Below f c cj 0 0 → Has f c (storeRead marked n (n + 1) plan b t c j cj) → GoodGroup f c (storeRead marked n (n + 1) plan b t c j cj)
+      → (c j cj : ℕ) → b ≤ c → Below f c j 0 (t .sort .m) → Below f c cj 0 0 → Has f c (storeRead marked n (n + 1) plan b width t c j cj) → GoodGroup f c (storeRead marked n (n + 1) plan b width t c j cj)
   store-reads place h c j cj le J CJ has =
       let parts = write-parts h in
       let same = same-sort (sortAt f (t .p)) (t .sort) (parts .1) in
@@ -273,7 +288,7 @@ module _ (f : List ℕ) (marked : Term → Bool) (n k b : ℕ) (plan : ℕ → P
       A (later s b-most (q .value)) (later s b-most (r .value)) (later s c-most J) (later s b-most (q .free)) (later s b-most (r .free)) (later s c-most CJ) (X .last) (has-right f c xs ys has))
 
   store-planned : (t .p < k) × (t .q < k) × (t .r < k) → typedBy Write ≡ true
-      → Planned f b (t .sort) (record { group = []; condition = 0; readGroup = storeRead marked n (n + 1) plan b t })
+      → Planned f b (t .sort) (record { group = []; condition = 0; readGroup = storeRead marked n (n + 1) plan b width t })
   store-planned place h =
       record {
         all = λ i l. absurd (not-suc-le-zero l);
@@ -287,7 +302,7 @@ module _ (f : List ℕ) (marked : Term → Bool) (n k b : ℕ) (plan : ℕ → P
 
   -- a function, by its kind of group
   function-planned : (o : Operation) (r : FunctionRank (arity o)) (g : FunctionGroup o r) → typedBy (applied r) ≡ true → (t .p < k) × (t .q < k) × (t .r < k)
-      → Has f b (planBy marked n (n + 1) plan b t (groupKind g) .group) → Planned f b (t .sort) (planBy marked n (n + 1) plan b t (groupKind g))
+      → Has f b (planBy marked n (n + 1) plan b width t (groupKind g) .group) → Planned f b (t .sort) (planBy marked n (n + 1) plan b width t (groupKind g))
   unfolding planBy
   function-planned o r unary h place has = taken-planned cp (earlier (t .p) (place .0) .condition (unary-scalar r (t .sort) (sortAt f (t .p)) (sortAt f (t .q)) (sortAt f (t .r)) h))
   function-planned o r strict h place has =
@@ -304,10 +319,11 @@ module _ (f : List ℕ) (marked : Term → Bool) (n k b : ℕ) (plan : ℕ → P
       grown-planned (implication-good f b (e .0 .free) (e .1 .free) (e .0 .value) (e .1 .value) has)
   function-planned o r byZero h place has = absorbing-planned 0 (fits-below (t .sort .n) 0 (pow-pos (t .sort .n))) (place .0, place .1) h has
   function-planned o r byOnes h place has = absorbing-planned (ones (t .sort .n)) (fits-below (t .sort .n) (ones (t .sort .n)) (ones-lt (t .sort .n))) (place .0, place .1) h has
+  function-planned o r byBounds h place has = bounds-planned (place .0, place .1) h has
   function-planned o r shift h place has = shift-planned (place .0, place .1) h has
 
   planned-by : (op : Op) → isKnown op ≡ true → typedBy (rankOf op) ≡ true → placedAs (fieldsOf (rankOf op)) k t ≡ true
-      → Has f b (planBy marked n (n + 1) plan b t (kindOf op) .group) → Planned f b (t .sort) (planBy marked n (n + 1) plan b t (kindOf op))
+      → Has f b (planBy marked n (n + 1) plan b width t (kindOf op) .group) → Planned f b (t .sort) (planBy marked n (n + 1) plan b width t (kindOf op))
   unfolding planBy isKnown
   planned-by Constant known h place has = taken-planned n YES
   planned-by Variable known h place has = input-planned (marked t)
@@ -334,7 +350,8 @@ module _ (limit : ℕ) (w f : List ℕ) (F : WellFormed limit w) (l : Layout w f
   planned-step : (k : ℕ) → k < terms w → ((i : ℕ) → i < k → Fine f (start k) (sortAt f i) (planAt w ownMarks i)) → Planned f (start k) (sortAt w k) (planAt w ownMarks k)
   unfolding typed
   planned-step k b before =
-      planned-by f ownMarks (terms w) k (start k) (planIn (plans w ownMarks k)) (termAt w k) (true-below (start k) (omega arith)) (false-below (start k) (omega arith)) (omega arith)
+      planned-by f ownMarks (terms w) k (start k) (planIn (plans w ownMarks k)) (sortAt w (termAt w k .p) .n) (termAt w k)
+      (λ c. ap (λ (s : Sort). s .n) (sort-same limit w f F l (termAt w k .p) (omega arith))) (n-most-at limit w F (termAt w k .p)) (true-below (start k) (omega arith)) (false-below (start k) (omega arith)) (omega arith)
       (λ i c. subst (Fine f (start k) (sortAt f i)) (sym (fold-below (λ ps i. planOf w ownMarks ps (termAt w i)) (taken 0) k i c)) (before i c))
       (F .sound k b .is-sorted) (opOf (termAt w k .op)) (op-at w k (F .sound k b)) (typed-in limit w f F l k b) (F .sound k b .is-placed) (group-has w f l k b)
 

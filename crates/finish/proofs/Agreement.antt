@@ -34,13 +34,13 @@ use Rattle.table.proofs.OperandSorts.{isKnown, same-sort, boolean-scalar, same-
 use Rattle.judge.specs.Conditions.{Condition, plain, storeFree, conditionBy, conditionIn, conditions, conditionAt, ownMarks}
 use Rattle.judge.proofs.Alike.{condition-below}
 use Rattle.groups.specs.FunctionGroups.{FunctionGroup, functionGroup, groupKind, kindOf}
-use Rattle.groups.specs.FunctionGroups.FunctionGroup.{unary, strict, conjunction, disjunction, implication, byZero, byOnes, shift}
+use Rattle.groups.specs.FunctionGroups.FunctionGroup.{unary, strict, conjunction, disjunction, implication, byZero, byOnes, byBounds, shift}
 use Rattle.groups.specs.Plans.{Plan, lastOf, taken, storeRead, planBy, planIn, planOf, next, plans, planAt}
 use Rattle.groups.specs.Groups.{variableGroup, storeGroup}
 use Rattle.finish.specs.Finished.{conditionNumber}
 use Rattle.finish.proofs.Layouts.{Has, has-left, has-right, Layout, true-at, false-at, group-has, last-at}
 use Rattle.judge.proofs.Meaning.{holds-bit}
-use Rattle.finish.proofs.GroupValues.{Known, and-num, constant-num, strict-group, and-group, or-group, implies-group, absorbing-group, shift-group, choice-group, store-group}
+use Rattle.finish.proofs.GroupValues.{Known, and-num, constant-num, strict-group, and-group, or-group, implies-group, absorbing-group, bounds-group, shift-group, choice-group, store-group}
 
 -- The value of a term depends on the terms below alone
 
@@ -138,8 +138,8 @@ module _ (f : List ℕ) (I : Interpretation) (val : ℕ → Value) (law : (k : �
 
     -- a read of a store: after the group of the array beneath, its own
     store-read : t .p < k → Operand (t .q) → Operand (t .r)
-        → (s : ℕ) {j cj x : ℕ} {d : Bool} → Known val j cj x d → Has f s (storeRead ownMarks yes no plan b t s j cj)
-        → val (lastOf s (storeRead ownMarks yes no plan b t s j cj)) .num ≡ bit (storeFree ownMarks v c (sorts (t .p) .n) t x d)
+        → (s : ℕ) {j cj x : ℕ} {d : Bool} → Known val j cj x d → Has f s (storeRead ownMarks yes no plan b (sorts (t .p) .n) t s j cj)
+        → val (lastOf s (storeRead ownMarks yes no plan b (sorts (t .p) .n) t s j cj)) .num ≡ bit (storeFree ownMarks v c (sorts (t .p) .n) t x d)
     store-read l at stored s {j} {cj} {x} {d} index h =
         let under = plan (t .p) .readGroup s j cj in
         let own = storeGroup (s + length under) (t .sort .n) (t .p) (t .q) (t .r) j (plan (t .q) .condition) (plan (t .r) .condition) cj (lastOf s under) in
@@ -160,8 +160,8 @@ module _ (f : List ℕ) (I : Interpretation) (val : ℕ → Value) (law : (k : �
 
     -- a function, by its kind of group
     agree-function : (o : Operation) (r : FunctionRank (arity o)) (g : FunctionGroup o r) → typedAs (applied r) (t .sort) (sorts (t .p)) (sorts (t .q)) (sorts (t .r)) ≡ true
-        → (t .p < k) × (t .q < k) × (t .r < k) → Has f b (planBy ownMarks yes no plan b t (groupKind g) .group)
-        → Agree f val false (planBy ownMarks yes no plan b t (groupKind g)) (plain (operationCondition o (sorts (t .p) .n) (v (t .p) .num) (v (t .q) .num) (c (t .p) .free) (c (t .q) .free)))
+        → (t .p < k) × (t .q < k) × (t .r < k) → Has f b (planBy ownMarks yes no plan b (sorts (t .p) .n) t (groupKind g) .group)
+        → Agree f val false (planBy ownMarks yes no plan b (sorts (t .p) .n) t (groupKind g)) (plain (operationCondition o (sorts (t .p) .n) (v (t .p) .num) (v (t .q) .num) (c (t .p) .free) (c (t .q) .free)))
     unfolding planBy
     agree-function o r unary h place has = plain-agrees (operand (t .p) (place .0) (unary-scalar r (t .sort) (sorts (t .p)) (sorts (t .q)) (sorts (t .r)) h) .free)
     agree-function o r strict h place has = let e = both r h place in plain-agrees (strict-group f I val law b (e .0) (e .1) has)
@@ -172,12 +172,13 @@ module _ (f : List ℕ) (I : Interpretation) (val : ℕ → Value) (law : (k : �
     agree-function o r byOnes h place has =
         let e = both r h place in
         plain-agrees (absorbing-group f I val law b (e .0) (e .1) (t .sort .n) (ones (t .sort .n)) (ones (sorts (t .p) .n)) (ap ones (vector-width h)) has)
+    agree-function o r byBounds h place has = let e = both r h place in plain-agrees (bounds-group f I val law b (e .0) (e .1) (sorts (t .p) .n) (ones (sorts (t .p) .n)) 0 has)
     agree-function o r shift h place has = let e = both r h place in plain-agrees (shift-group f I val law b (e .0) (e .1) (t .sort .n) (sorts (t .p) .n) (vector-width h) has)
 
     -- the term, by its operator
     agree-by : (op : Op) → isKnown op ≡ true → typedAs (rankOf op) (t .sort) (sorts (t .p)) (sorts (t .q)) (sorts (t .r)) ≡ true → placedAs (fieldsOf (rankOf op)) k t ≡ true
-        → Has f b (planBy ownMarks yes no plan b t (kindOf op) .group)
-        → Agree f val (writes op) (planBy ownMarks yes no plan b t (kindOf op)) (conditionBy ownMarks v c (sorts (t .p) .n) t op)
+        → Has f b (planBy ownMarks yes no plan b (sorts (t .p) .n) t (kindOf op) .group)
+        → Agree f val (writes op) (planBy ownMarks yes no plan b (sorts (t .p) .n) t (kindOf op)) (conditionBy ownMarks v c (sorts (t .p) .n) t op)
     unfolding planBy conditionBy settles isKnown
     agree-by Constant known h place has = plain-agrees yes-is
     agree-by Variable known h place has = plain-agrees (mark-is (ownMarks t))

@@ -20,7 +20,7 @@ use Rattle.table.specs.Faults.{fields, isVariable, isStore, known, sorted, plac
 use Rattle.table.specs.WellFormed.{Sound}
 use Rattle.table.proofs.OperandSorts.{three}
 use Rattle.groups.specs.Added.{notT, andT, orT, equalT, choiceT, lessT, constantT, readT}
-use Rattle.groups.specs.Groups.{strictGroup, andGroup, orGroup, impliesGroup, absorbingGroup, shiftGroup, choiceGroup, storeGroup}
+use Rattle.groups.specs.Groups.{strictGroup, andGroup, orGroup, impliesGroup, absorbingGroup, boundsGroup, shiftGroup, choiceGroup, storeGroup}
 use Rattle.groups.specs.Plans.{lastOf}
 use Rattle.finish.proofs.Layouts.{Has}
 
@@ -258,6 +258,24 @@ module _ (f : List ℕ) (b : ℕ) {cp cq : ℕ} (CP : Below f b cp 0 0) (CQ : Be
         ▸ or-good (it 2 5 refl) (it 4 5 refl)
         ▸ and-good (up 6 CP) (up 6 CQ)
         ▸ or-good (it 5 7 refl) (it 6 7 refl)
+        ▸ done)
+        refl
+
+    -- u and v are the constants
+    pub bounds-good : {p s cs : ℕ} → Below f b p 0 n → Below f b s 0 n → Below f b cs 0 0 → (u v : ℕ) → fits n u ≡ true → fits n v ≡ true
+        → Has f b (boundsGroup b n u v p s cp cs cq) → GoodGroup f b (boundsGroup b n u v p s cp cs cq)
+    bounds-good {p} {s} {cs} P S CS u v fit fit′ h =
+        let it = own f b (boundsGroup b n u v p s cp cs cq) h in
+        group-good f b (boundsGroup b n u v p s cp cs cq) h
+        (constant-good n u sort fit
+        ▸ equal-good (up 1 P) (first f b (boundsGroup b n u v p s cp cs cq) h 1 refl)
+        ▸ and-good (up 2 CP) (it 1 2 refl)
+        ▸ constant-good n v sort fit′
+        ▸ equal-good (up 4 S) (it 3 4 refl)
+        ▸ and-good (up 5 CS) (it 4 5 refl)
+        ▸ or-good (it 2 6 refl) (it 5 6 refl)
+        ▸ and-good (up 7 CP) (up 7 CQ)
+        ▸ or-good (it 6 8 refl) (it 7 8 refl)
         ▸ done)
         refl
 

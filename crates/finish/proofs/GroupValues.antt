@@ -16,7 +16,7 @@ use Rattle.setting.specs.Interpretation.{Value, Interpretation}
 use Rattle.evaluate.specs.Values.{valueBy, valueFrom}
 use Rattle.judge.proofs.Meaning.{holds-bit}
 use Rattle.groups.specs.Added.{notT, andT, orT, equalT, choiceT, lessT, constantT, readT}
-use Rattle.groups.specs.Groups.{strictGroup, andGroup, orGroup, impliesGroup, absorbingGroup, shiftGroup, choiceGroup, storeGroup}
+use Rattle.groups.specs.Groups.{strictGroup, andGroup, orGroup, impliesGroup, absorbingGroup, boundsGroup, shiftGroup, choiceGroup, storeGroup}
 use Rattle.finish.proofs.Layouts.{Has, has-first}
 
 holds-cond : (b : Bool) (x y : ℕ) → holds (cond b x y) ≡ cond b (holds x) (holds y)
@@ -103,6 +103,13 @@ module _ (f : List ℕ) (I : Interpretation) (val : ℕ → Value) (law : (k : �
     absorbing-group n z u e h =
         let start = has-first f b (absorbingGroup b n z p q cp cq) h (lit< tt) in
         simp (or-num (h 7 (lit< tt)), and-num (h 6 (lit< tt)), or-num (h 5 (lit< tt)), and-num (h 4 (lit< tt)), equal-num (h 3 (lit< tt)), and-num (h 2 (lit< tt)), equal-num (h 1 (lit< tt)), constant-num start ∙ e)
+        (simp (first .value, first .free, second .value, second .free, holds-bit))
+
+    -- u and v are the constants
+    pub bounds-group : (n u v : ℕ) → Has f b (boundsGroup b n u v p q cp cq cq) → val (b + 8) .num ≡ bit (absorbed c (eqb x u) d (eqb y v))
+    bounds-group n u v h =
+        let start = has-first f b (boundsGroup b n u v p q cp cq cq) h (lit< tt) in
+        simp (or-num (h 8 (lit< tt)), and-num (h 7 (lit< tt)), or-num (h 6 (lit< tt)), and-num (h 5 (lit< tt)), equal-num (h 4 (lit< tt)), constant-num (h 3 (lit< tt)), and-num (h 2 (lit< tt)), equal-num (h 1 (lit< tt)), constant-num start)
         (simp (first .value, first .free, second .value, second .free, holds-bit))
 
     -- u is the width

@@ -38,12 +38,17 @@ right x =
 abbrev pub unmarkedRule : List ℕ
 unmarkedRule = term 1 0 0 0 0 0 (term 1 0 0 1 1 0 (term 3 0 0 0 1 0 (term 2 0 0 0 0 0 [])))
 
--- rule G; rule H; a rule whose condition is T
+-- a marked vector shifted by itself, equal to itself: the less in the shift's group has no group of its own
+abbrev pub shiftRule : List ℕ
+shiftRule = term 1 0 8 0 1 0 (term 13 0 8 0 0 0 (term 6 0 0 1 1 0 []))
+
+-- rule G; rule H; a rule whose condition is T; a shift
 pub rows : List Row
 rows =
-    record { table = ruleG; count = 20; condition = 18; last = term 3 0 0 6 18 0 [] }
+    record { table = ruleG; count = 28; condition = 26; last = term 3 0 0 6 26 0 [] }
     ∷ record { table = ruleH; count = 21; condition = 19; last = term 3 0 0 6 19 0 [] }
     ∷ record { table = unmarkedRule; count = 14; condition = 4; last = term 3 0 0 3 4 0 [] }
+    ∷ record { table = shiftRule; count = 13; condition = 11; last = term 3 0 0 2 11 0 [] }
     ∷ []
 
 -- by computation
@@ -51,7 +56,7 @@ pub examples : every right rows ≡ true
 unfolding every rows right admissionWithin scan fault faultIf typed anyBelow clash chain fold finished flat planBy groups
 examples = refl
 
--- Rule G: T is 7 and F is 8; the product's group is 9 to 16, the sum's 17, the comparison's 18
+-- Rule G: T is 7 and F is 8; the product's group is 9 to 16, the sum's 17, the comparison's 18 to 26
 abbrev pub finishedG : List ℕ
 finishedG =
     term 1 0 8 0 0 0
@@ -72,8 +77,16 @@ finishedG =
     (term 3 0 0 7 8 0
     (term 4 0 0 14 15 0
     (term 3 0 0 16 7 0
+    (term 0 0 8 255 0 0
+    (term 6 0 0 5 18 0
+    (term 3 0 0 7 19 0
+    (term 0 0 8 0 0 0
+    (term 6 0 0 4 21 0
+    (term 3 0 0 17 22 0
+    (term 4 0 0 20 23 0
     (term 3 0 0 7 17 0
-    (term 3 0 0 6 18 0 [])))))))))))))))))))
+    (term 4 0 0 24 25 0
+    (term 3 0 0 6 26 0 [])))))))))))))))))))))))))))
 
 pub finished-G : finished ruleG ≡ finishedG
 unfolding finished flat fold planBy groups

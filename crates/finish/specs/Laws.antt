@@ -29,9 +29,9 @@ use Rattle.finish.specs.declared.Finishing.{Finishing}
 use Rattle.finish.specs.declared.Finishing.the-variants.{Finished, NotFinished}
 use Rattle.finish.specs.Finished.{conditionNumber, added, finished, extent, finishing}
 
--- With S the table's steps, at most 3 + 8 times n + 9 times S terms are added, and never over 3 + 145 times n.
+-- With S the table's steps, at most 3 + 9 times n + 9 times S terms are added, and never over 3 + 145 times n.
 pub record Few (w : List ℕ) (count : ℕ) : Type 0 where
-  pub by-steps : count ≤ 3 + 8 * terms w + 9 * steps w (terms w)
+  pub by-steps : count ≤ 3 + 9 * terms w + 9 * steps w (terms w)
   pub by-terms : count ≤ 3 + 145 * terms w
 
 abbrev pub AddedFew : Type 0

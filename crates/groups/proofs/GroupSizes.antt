@@ -16,7 +16,7 @@ use Rattle.ops.specs.Ranks.{FunctionRank, arity}
 use Rattle.ops.proofs.Booleans.{never}
 use Rattle.table.specs.declared.words.Term.{Term}
 use Rattle.table.specs.Folds.{fold}
-use Rattle.table.specs.Terms.{terms, termAt}
+use Rattle.table.specs.Terms.{terms, termAt, sortAt}
 use Rattle.table.specs.Ranks.{rankOf, fieldsOf, reads, writes}
 use Rattle.table.specs.Faults.{isStore, isRead, placedAs, chain, size}
 use Rattle.table.specs.WellFormed.{WellFormed}
@@ -26,7 +26,7 @@ use Rattle.evaluate.specs.Steps.{stepsOf, steps}
 use Rattle.table.proofs.OperandSorts.{isKnown, op-at, two-placed, three-placed}
 use Rattle.judge.specs.Conditions.{ownMarks}
 use Rattle.groups.specs.FunctionGroups.{FunctionGroup, functionGroup, groupKind, kindOf}
-use Rattle.groups.specs.FunctionGroups.FunctionGroup.{unary, strict, conjunction, disjunction, implication, byZero, byOnes, shift}
+use Rattle.groups.specs.FunctionGroups.FunctionGroup.{unary, strict, conjunction, disjunction, implication, byZero, byOnes, byBounds, shift}
 use Rattle.groups.specs.Groups.{storeGroup}
 use Rattle.groups.specs.Plans.{Plan, lastOf, taken, cq, cr, planBy, planIn, planOf, groups, next, plans, planAt}
 use Rattle.groups.specs.Sizes.{sizeBy, sizeOf, sizes}
@@ -85,16 +85,16 @@ record Sized (x : Plan) (size readSize : ℕ) : Type 0 where
   read : (s j cj : ℕ) → length (x .readGroup s j cj) ≡ readSize
 
 -- by its operator: i is its number, c the count of stores from its first operand inward
-module _ (marked : Term → Bool) (yes no : ℕ) (plan : ℕ → Plan) (b : ℕ) (t : Term) (i c : ℕ)
+module _ (marked : Term → Bool) (yes no : ℕ) (plan : ℕ → Plan) (b width : ℕ) (t : Term) (i c : ℕ)
     (below : t .p < i → (s j cj : ℕ) → length (plan (t .p) .readGroup s j cj) ≡ 1 + 9 * c) where
-  store-size : (s j cj : ℕ) → t .p < i → length (planBy marked yes no plan b t (kindOf Store) .readGroup s j cj) ≡ 1 + 9 * suc c
+  store-size : (s j cj : ℕ) → t .p < i → length (planBy marked yes no plan b width t (kindOf Store) .readGroup s j cj) ≡ 1 + 9 * suc c
   unfolding planBy
   store-size s j cj l =
       let under : List Term = plan (t .p) .readGroup s j cj in
-      length-append under (storeGroup (s + length under) (t .sort .n) (t .p) (t .q) (t .r) j (cq marked yes no plan b t) (cr marked yes no plan b t) cj (lastOf s under))
+      length-append under (storeGroup (s + length under) (t .sort .n) (t .p) (t .q) (t .r) j (cq marked yes no plan b width t) (cr marked yes no plan b width t) cj (lastOf s under))
       ∙ omega (arith, below l s j cj)
 
-  sized-function : {o : Operation} {r : FunctionRank (arity o)} (g : FunctionGroup o r) → Sized (planBy marked yes no plan b t (groupKind g)) (sizeBy (groupKind g) c) 1
+  sized-function : {o : Operation} {r : FunctionRank (arity o)} (g : FunctionGroup o r) → Sized (planBy marked yes no plan b width t (groupKind g)) (sizeBy (groupKind g) c) 1
   unfolding planBy
   sized-function unary = record { whole = refl; read = λ s j cj. refl }
   sized-function strict = record { whole = refl; read = λ s j cj. refl }
@@ -103,15 +103,16 @@ module _ (marked : Term → Bool) (yes no : ℕ) (plan : ℕ → Plan) (b : ℕ)
   sized-function implication = record { whole = refl; read = λ s j cj. refl }
   sized-function byZero = record { whole = refl; read = λ s j cj. refl }
   sized-function byOnes = record { whole = refl; read = λ s j cj. refl }
+  sized-function byBounds = record { whole = refl; read = λ s j cj. refl }
   sized-function shift = record { whole = refl; read = λ s j cj. refl }
 
-  sized-by : (op : Op) → isKnown op ≡ true → placedAs (fieldsOf (rankOf op)) i t ≡ true → Sized (planBy marked yes no plan b t (kindOf op)) (sizeBy (kindOf op) c) (1 + 9 * cond (writes op) (suc c) 0)
+  sized-by : (op : Op) → isKnown op ≡ true → placedAs (fieldsOf (rankOf op)) i t ≡ true → Sized (planBy marked yes no plan b width t (kindOf op)) (sizeBy (kindOf op) c) (1 + 9 * cond (writes op) (suc c) 0)
   unfolding planBy isKnown
   sized-by Constant k place = record { whole = refl; read = λ s j cj. refl }
   sized-by Variable k place = record { whole = refl; read = λ s j cj. refl }
   sized-by (Apply f) k place = sized-function (functionGroup f)
   sized-by Ite k place = record { whole = refl; read = λ s j cj. refl }
-  sized-by Select k place = record { whole = below (two-placed i t place .0) b (t .q) (cq marked yes no plan b t); read = λ s j cj. refl }
+  sized-by Select k place = record { whole = below (two-placed i t place .0) b (t .q) (cq marked yes no plan b width t); read = λ s j cj. refl }
   sized-by Store k place = record { whole = refl; read = λ s j cj. store-size s j cj (three-placed i t place .0) }
   sized-by Unknown k place = never k
 
@@ -141,7 +142,7 @@ module _ (w : List ℕ) (marked : Term → Bool) where
     sized-step k b before =
         let x = termAt w k in
         subst (λ (c : ℕ). Sized (planAt w marked k) (sizeOf w x) (1 + 9 * c)) (sym (chain-is w 512 f k b))
-        (sized-by marked (terms w) (terms w + 1) (planIn (plans w marked k)) (next w (plans w marked k)) x k (size w (x .p))
+        (sized-by marked (terms w) (terms w + 1) (planIn (plans w marked k)) (next w (plans w marked k)) (sortAt w (x .p) .n) x k (size w (x .p))
         (λ l s j cj. ap (λ (y : Plan). length (y .readGroup s j cj)) (plan-below k (x .p) l) ∙ before (x .p) l s j cj)
         (opOf (x .op)) (op-at w k (f .sound k b)) (f .sound k b .is-placed))
 
@@ -172,8 +173,8 @@ next-more w k = ap (λ (g : List Term). terms w + 2 + length g) (groups-more w o
 
 -- How many they are at most
 
--- eight terms, but for a read
-function-most : {o : Operation} {r : FunctionRank (arity o)} (g : FunctionGroup o r) (c : ℕ) → sizeBy (groupKind g) c ≤ 8
+-- nine terms, but for a read
+function-most : {o : Operation} {r : FunctionRank (arity o)} (g : FunctionGroup o r) (c : ℕ) → sizeBy (groupKind g) c ≤ 9
 function-most unary c = omega arith
 function-most strict c = omega arith
 function-most conjunction c = omega arith
@@ -181,9 +182,10 @@ function-most disjunction c = omega arith
 function-most implication c = omega arith
 function-most byZero c = omega arith
 function-most byOnes c = omega arith
+function-most byBounds c = omega arith
 function-most shift c = omega arith
 
-size-most : (op : Op) (c : ℕ) → sizeBy (kindOf op) c ≤ cond (reads op) (1 + 9 * c) 8
+size-most : (op : Op) (c : ℕ) → sizeBy (kindOf op) c ≤ cond (reads op) (1 + 9 * c) 9
 size-most Constant c = omega arith
 size-most Variable c = omega arith
 size-most (Apply f) c = function-most (functionGroup f) c
@@ -192,22 +194,22 @@ size-most Select c = omega arith
 size-most Store c = omega arith
 size-most Unknown c = omega arith
 
-most-by-steps : (z : Bool) (c : ℕ) → cond z (1 + 9 * c) 8 ≤ 8 + 9 * cond z c 0
+most-by-steps : (z : Bool) (c : ℕ) → cond z (1 + 9 * c) 9 ≤ 9 + 9 * cond z c 0
 most-by-steps true c = omega arith
 most-by-steps false c = omega arith
 
-most-by-terms : (z : Bool) (c : ℕ) → c ≤ 16 → cond z (1 + 9 * c) 8 ≤ 145
+most-by-terms : (z : Bool) (c : ℕ) → c ≤ 16 → cond z (1 + 9 * c) 9 ≤ 145
 most-by-terms true c b = omega arith
 most-by-terms false c b = omega arith
 
-pub sizes-by-steps : (w : List ℕ) → WellFormed 512 w → (k : ℕ) → k ≤ terms w → sizes w k ≤ 8 * k + 9 * steps w k
+pub sizes-by-steps : (w : List ℕ) → WellFormed 512 w → (k : ℕ) → k ≤ terms w → sizes w k ≤ 9 * k + 9 * steps w k
 unfolding sizes steps
 sizes-by-steps w f zero b = omega arith
 sizes-by-steps w f (suc k) b =
     let x = termAt w k in
     let c = size w (x .p) in
-    let before : sizes w k ≤ 8 * k + 9 * steps w k = sizes-by-steps w f k (omega arith) in
-    let here : sizeOf w x ≤ 8 + 9 * stepsOf w x = le-trans (size-most (opOf (x .op)) c) (most-by-steps (isRead x) c) in
+    let before : sizes w k ≤ 9 * k + 9 * steps w k = sizes-by-steps w f k (omega arith) in
+    let here : sizeOf w x ≤ 9 + 9 * stepsOf w x = le-trans (size-most (opOf (x .op)) c) (most-by-steps (isRead x) c) in
     omega arith
 
 pub sizes-by-terms : (w : List ℕ) → WellFormed 512 w → (k : ℕ) → k ≤ terms w → sizes w k ≤ 145 * k

@@ -13,7 +13,7 @@ use Rattle.ops.specs.Meaning.{Operation}
 use Rattle.ops.specs.Ranks.{FunctionRank, arity}
 use Rattle.ops.proofs.Booleans.{never}
 use Rattle.table.specs.declared.words.Term.{Term}
-use Rattle.table.specs.Terms.{terms, termAt}
+use Rattle.table.specs.Terms.{terms, termAt, sortAt}
 use Rattle.table.specs.Ranks.{rankOf, fieldsOf, writes}
 use Rattle.table.specs.Faults.{isStore, placedAs}
 use Rattle.table.specs.WellFormed.{WellFormed}
@@ -23,7 +23,7 @@ use Rattle.judge.specs.Conditions.{ownMarks}
 use Rattle.groups.specs.declared.groups.Written.{Written}
 use Rattle.groups.specs.Code.Writing.{placedAll, conditionNumbers, Numbered, after}
 use Rattle.groups.specs.FunctionGroups.{FunctionGroup, functionGroup, groupKind, kindOf}
-use Rattle.groups.specs.FunctionGroups.FunctionGroup.{unary, strict, conjunction, disjunction, implication, byZero, byOnes, shift}
+use Rattle.groups.specs.FunctionGroups.FunctionGroup.{unary, strict, conjunction, disjunction, implication, byZero, byOnes, byBounds, shift}
 use Rattle.groups.specs.Groups.{variableGroup, storeGroup}
 use Rattle.groups.specs.Plans.{Plan, lastOf, taken, planBy, planIn, planOf, next, plans, planAt}
 use Rattle.groups.proofs.GroupSizes.{plan-below, read-most}
@@ -40,9 +40,9 @@ number-is : (w conditions : List ℕ) → Numbered w conditions → (i : ℕ) �
 number-is w conditions h i b = recorded w conditions h i ∙ ap (λ (x : Plan). x .condition) (plan-below w ownMarks (length conditions) i b)
 
 -- any other term's read is and(C(v), C(j))
-module _ (marked : Term → Bool) (yes no : ℕ) (plan : ℕ → Plan) (b : ℕ) (t : Term) (s j cj : ℕ) where
+module _ (marked : Term → Bool) (yes no : ℕ) (plan : ℕ → Plan) (b width : ℕ) (t : Term) (s j cj : ℕ) where
   function-end : {o : Operation} {r : FunctionRank (arity o)} (g : FunctionGroup o r)
-      → variableGroup (planBy marked yes no plan b t (groupKind g) .condition) cj ≡ planBy marked yes no plan b t (groupKind g) .readGroup s j cj
+      → variableGroup (planBy marked yes no plan b width t (groupKind g) .condition) cj ≡ planBy marked yes no plan b width t (groupKind g) .readGroup s j cj
   unfolding planBy
   function-end unary = refl
   function-end strict = refl
@@ -51,10 +51,11 @@ module _ (marked : Term → Bool) (yes no : ℕ) (plan : ℕ → Plan) (b : ℕ)
   function-end implication = refl
   function-end byZero = refl
   function-end byOnes = refl
+  function-end byBounds = refl
   function-end shift = refl
 
   end-by : (op : Op) → isKnown op ≡ true → writes op ≡ false
-      → variableGroup (planBy marked yes no plan b t (kindOf op) .condition) cj ≡ planBy marked yes no plan b t (kindOf op) .readGroup s j cj
+      → variableGroup (planBy marked yes no plan b width t (kindOf op) .condition) cj ≡ planBy marked yes no plan b width t (kindOf op) .readGroup s j cj
   unfolding planBy isKnown
   end-by Constant k e = refl
   end-by Variable k e = refl
@@ -66,7 +67,7 @@ module _ (marked : Term → Bool) (yes no : ℕ) (plan : ℕ → Plan) (b : ℕ)
 
   -- a store's: the group beneath and nine terms
   store-by : (below : List Term) (ci ce : ℕ) → plan (t .p) .readGroup s j cj ≡ below → plan (t .q) .condition ≡ ci → plan (t .r) .condition ≡ ce
-      → planBy marked yes no plan b t (kindOf Store) .readGroup s j cj ≡ below ++ storeGroup (s + length below) (t .sort .n) (t .p) (t .q) (t .r) j ci ce cj (lastOf s below)
+      → planBy marked yes no plan b width t (kindOf Store) .readGroup s j cj ≡ below ++ storeGroup (s + length below) (t .sort .n) (t .p) (t .q) (t .r) j ci ce cj (lastOf s below)
   unfolding planBy
   store-by below ci ce e f g = rw (e, f, g)
 
@@ -98,7 +99,7 @@ module _ (w conditions : List ℕ) (f : WellFormed 512 w) (h : Numbered w condit
   pub ends : isStore x ≡ false → variableGroup (getD conditions a 0) cj ≡ group a
   ends s =
       ap (λ (c : ℕ). variableGroup c cj) (number-is w conditions h a inside)
-      ∙ end-by ownMarks (terms w) (terms w + 1) (planIn (plans w ownMarks a)) (next w (plans w ownMarks a)) (termAt w a) b j cj (opOf (termAt w a .op))
+      ∙ end-by ownMarks (terms w) (terms w + 1) (planIn (plans w ownMarks a)) (next w (plans w ownMarks a)) (sortAt w (termAt w a .p) .n) (termAt w a) b j cj (opOf (termAt w a .op))
       (op-at w a (f .sound a in-table)) (ap isStore (sym here) ∙ s)
 
   module _ (s : isStore x ≡ true) where
@@ -117,8 +118,8 @@ module _ (w conditions : List ℕ) (f : WellFormed 512 w) (h : Numbered w condit
     -- a store over the array beneath
     grows : group a ≡ group (x .p) ++ storeGroup (b + length (group (x .p))) (x .sort .n) (x .p) (x .q) (x .r) j (getD conditions (x .q) 0) (getD conditions (x .r) 0) cj (lastOf b (group (x .p)))
     grows =
-        ap (λ (o : Op). planBy ownMarks (terms w) (terms w + 1) (planIn (plans w ownMarks a)) (next w (plans w ownMarks a)) (termAt w a) (kindOf o) .readGroup b j cj) op-is
-        ∙ store-by ownMarks (terms w) (terms w + 1) (planIn (plans w ownMarks a)) (next w (plans w ownMarks a)) (termAt w a) b j cj
+        ap (λ (o : Op). planBy ownMarks (terms w) (terms w + 1) (planIn (plans w ownMarks a)) (next w (plans w ownMarks a)) (sortAt w (termAt w a .p) .n) (termAt w a) (kindOf o) .readGroup b j cj) op-is
+        ∙ store-by ownMarks (terms w) (terms w + 1) (planIn (plans w ownMarks a)) (next w (plans w ownMarks a)) (sortAt w (termAt w a .p) .n) (termAt w a) b j cj
         (group (termAt w a .p)) (getD conditions (termAt w a .q) 0) (getD conditions (termAt w a .r) 0)
         (ap (λ (y : Plan). y .readGroup b j cj) (plan-below w ownMarks a (termAt w a .p) (placing .0))) (number-of (termAt w a .q) (placing .1)) (number-of (termAt w a .r) (placing .2))
         ∙ ap (λ (t : Term). group (t .p) ++ storeGroup (b + length (group (t .p))) (t .sort .n) (t .p) (t .q) (t .r) j (getD conditions (t .q) 0) (getD conditions (t .r) 0) cj (lastOf b (group (t .p)))) (sym here)

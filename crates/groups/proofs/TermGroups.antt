@@ -14,7 +14,7 @@ use Rattle.ops.specs.Meaning.{Operation}
 use Rattle.ops.specs.Ranks.{FunctionRank, arity}
 use Rattle.ops.proofs.Booleans.{never}
 use Rattle.table.specs.declared.words.Term.{Term}
-use Rattle.table.specs.Terms.{terms, termAt}
+use Rattle.table.specs.Terms.{terms, termAt, sortAt}
 use Rattle.table.specs.Ranks.{rankOf, fieldsOf}
 use Rattle.table.specs.Faults.{placedAs}
 use Rattle.table.specs.WellFormed.{WellFormed}
@@ -23,9 +23,10 @@ use Rattle.table.proofs.OperandSorts.{two-placed}
 use Rattle.judge.specs.Conditions.{ownMarks}
 use Rattle.groups.specs.declared.groups.Written.{Written}
 use Rattle.groups.specs.declared.kinds.GroupKind.{GroupKind}
-use Rattle.groups.specs.declared.kinds.GroupKind.the-variants.{Literal, Input, Unary, Strict, Conjunction, Disjunction, Implication, Zero, Ones, Shift, Choice, Read, Write}
+use Rattle.groups.specs.declared.kinds.GroupKind.the-variants.{Literal, Input, Unary, Strict, Conjunction, Disjunction, Implication, Zero, Ones, Bounds, Shift, Choice, Read, Write}
 use Rattle.groups.specs.FunctionGroups.{FunctionGroup, functionGroup, groupKind, kindOf}
-use Rattle.groups.specs.FunctionGroups.FunctionGroup.{unary, strict, conjunction, disjunction, implication, byZero, byOnes, shift}
+use Rattle.groups.specs.FunctionGroups.FunctionGroup.{unary, strict, conjunction, disjunction, implication, byZero, byOnes, byBounds, shift}
+use Rattle.groups.specs.Groups.{choiceGroup}
 use Rattle.groups.specs.Code.Writing.{placedAll, placedFrom, Numbered, after, written}
 use Rattle.groups.specs.Plans.{Plan, lastOf, planBy, planIn, next, plans, planAt}
 use Rattle.groups.proofs.GroupSizes.{plan-below, next-more}
@@ -41,6 +42,7 @@ isRead Disjunction = false
 isRead Implication = false
 isRead Zero = false
 isRead Ones = false
+isRead Bounds = false
 isRead Shift = false
 isRead Choice = false
 isRead Read = true
@@ -55,6 +57,7 @@ function-unread disjunction = refl
 function-unread implication = refl
 function-unread byZero = refl
 function-unread byOnes = refl
+function-unread byBounds = refl
 function-unread shift = refl
 
 read-op : (op : Op) → isRead (kindOf op) ≡ true → op ≡ Select
@@ -67,62 +70,92 @@ read-op Select e = refl
 read-op Store e = never e
 read-op Unknown e = never e
 
-module _ (w conditions : List ℕ) (f : WellFormed 512 w) (h : Numbered w conditions) (b i yes : ℕ) (all : i ≡ length conditions) (inside : i < terms w) (yes-is : yes ≡ terms w)
-    (b-is : b ≡ next w (plans w ownMarks i)) (x : Term) (here : x ≡ termAt w i) (kind : GroupKind) (kind-is : kind ≡ kindOf (opOf (x .op))) where
-  abbrev pub before : ℕ → Plan
+-- term i, of a kind, where its group is written: conditions has the numbers of those before it
+pub record Here (w conditions : List ℕ) (b i yes : ℕ) (x : Term) (kind : GroupKind) : Type 0 where
+  pub formed : WellFormed 512 w
+  pub numbered : Numbered w conditions
+  pub all : i ≡ length conditions
+  pub inside : i < terms w
+  pub yes-is : yes ≡ terms w
+  pub b-is : b ≡ next w (plans w ownMarks i)
+  pub is : x ≡ termAt w i
+  pub kind-is : kind ≡ kindOf (opOf (x .op))
+
+module _ {w conditions : List ℕ} {b i yes : ℕ} {x : Term} {kind : GroupKind} (here : Here w conditions b i yes x kind) where
+  abbrev before : ℕ → Plan
   before k = planIn (plans w ownMarks i) k
 
   abbrev pub planned : GroupKind → Plan
-  planned l = planBy ownMarks yes (yes + 1) before b x l
+  planned l = planBy ownMarks yes (yes + 1) before b (sortAt w (x .p) .n) x l
 
   -- the number that conditions has of an operand
-  pub number-in : (k : ℕ) → getD conditions k 0 ≡ before k .condition
-  number-in k = recorded w conditions h k ∙ ap (λ (n : ℕ). planIn (plans w ownMarks n) k .condition) (sym all)
+  number-in : (k : ℕ) {c : ℕ} → c ≡ getD conditions k 0 → c ≡ before k .condition
+  number-in k e = e ∙ recorded w conditions (here .numbered) k ∙ ap (λ (n : ℕ). planIn (plans w ownMarks n) k .condition) (sym (here .all))
 
   plan-is : (l : GroupKind) → kind ≡ l → planned l ≡ planAt w ownMarks i
   plan-is l e =
-      ap planned (sym e ∙ kind-is)
-      ∙ ap (λ (y : Term). planBy ownMarks yes (yes + 1) before b y (kindOf (opOf (y .op)))) here
-      ∙ ap₂ (λ (n s : ℕ). planBy ownMarks n (n + 1) before s (termAt w i) (kindOf (opOf (termAt w i .op)))) yes-is b-is
+      ap planned (sym e ∙ here .kind-is)
+      ∙ ap (λ (y : Term). planBy ownMarks yes (yes + 1) before b (sortAt w (y .p) .n) y (kindOf (opOf (y .op)))) (here .is)
+      ∙ ap₂ (λ (n s : ℕ). planBy ownMarks n (n + 1) before s (sortAt w (termAt w i .p) .n) (termAt w i) (kindOf (opOf (termAt w i .op)))) (here .yes-is) (here .b-is)
 
   written-is : (l : GroupKind) → kind ≡ l → (r : Written) → r .condition ≡ planned l .condition → r .next ≡ b + length (planned l .group) → r ≡ written w i
   written-is l e r c n =
       let condition : r .condition ≡ planAt w ownMarks i .condition = c ∙ ap (λ (y : Plan). y .condition) (plan-is l e) in
       let next-is : r .next ≡ next w (plans w ownMarks (suc i)) =
-      n ∙ ap₂ (λ (s : ℕ) (y : Plan). s + length (y .group)) b-is (plan-is l e) ∙ sym (next-more w i) in
+      n ∙ ap₂ (λ (s : ℕ) (y : Plan). s + length (y .group)) (here .b-is) (plan-is l e) ∙ sym (next-more w i) in
       λ k. record { condition = condition k; next = next-is k }
 
   -- a group g, whose last is the condition
-  pub grows : (l : GroupKind) → kind ≡ l → (g : List Term) → g ≡ planned l .group → planned l .condition ≡ lastOf b (planned l .group) → (r : Written) (room last : List ℕ)
+  pub grows : (l : GroupKind) → kind ≡ l → {g : List Term} → g ≡ planned l .group → planned l .condition ≡ lastOf b (planned l .group) → {r : Written} (room : List ℕ) {last : List ℕ}
       → (r ≡ after b g) × (last ≡ placedAll room b g) → (r ≡ written w i) × (last ≡ placedAll room b (planAt w ownMarks i .group))
-  grows l e g same c r room last (answer, wrote) = (
+  grows l e {g} same c {r} room {last} (answer, wrote) = (
     written-is l e r (ap (λ (y : Written). y .condition) answer ∙ ap (lastOf b) same ∙ sym c) (ap (λ (y : Written). y .next) answer ∙ ap (λ (y : List Term). b + length y) same),
     wrote ∙ ap (placedAll room b) (same ∙ ap (λ (y : Plan). y .group) (plan-is l e)),
   )
 
+  -- the numbers cp and cq of two operands' conditions
+  pub both-are : (g : ℕ → ℕ → List Term) {cp cq : ℕ} → cp ≡ getD conditions (x .p) 0 → cq ≡ getD conditions (x .q) 0 → g cp cq ≡ g (before (x .p) .condition) (before (x .q) .condition)
+  both-are g p q = ap₂ g (number-in (x .p) p) (number-in (x .q) q)
+
+  pub binary : (l : GroupKind) → kind ≡ l → (g : ℕ → ℕ → List Term) → g (before (x .p) .condition) (before (x .q) .condition) ≡ planned l .group
+      → planned l .condition ≡ lastOf b (planned l .group) → {cp cq : ℕ} → cp ≡ getD conditions (x .p) 0 → cq ≡ getD conditions (x .q) 0 → {r : Written} (room : List ℕ) {last : List ℕ}
+      → (r ≡ after b (g cp cq)) × (last ≡ placedAll room b (g cp cq)) → (r ≡ written w i) × (last ≡ placedAll room b (planAt w ownMarks i .group))
+  binary l e g same c p q room h = grows l e (both-are g p q ∙ same) c room h
+
   -- nothing added
-  pub stays : (l : GroupKind) → kind ≡ l → planned l .group ≡ [] → (c : ℕ) → c ≡ planned l .condition → (r : Written) (room : List ℕ)
+  pub stays : (l : GroupKind) → kind ≡ l → planned l .group ≡ [] → {c : ℕ} → c ≡ planned l .condition → {r : Written} (room : List ℕ)
       → r ≡ record { condition = c; next = b } → (r ≡ written w i) × (room ≡ placedAll room b (planAt w ownMarks i .group))
   unfolding placedFrom
-  stays l e none c is r room answer = (
+  stays l e none is {r} room answer = (
     written-is l e r (ap (λ (y : Written). y .condition) answer ∙ is) (ap (λ (y : Written). y .next) answer ∙ sym (add-zero b) ∙ sym (ap (λ (y : List Term). b + length y) none)),
     sym (ap (placedAll room b) (sym (ap (λ (y : Plan). y .group) (plan-is l e)) ∙ none)),
   )
+
+  -- a condition of the operand's
+  pub unary-is : {c : ℕ} → c ≡ getD conditions (x .p) 0 → c ≡ planned Unary .condition
+  unfolding planBy
+  unary-is is = number-in (x .p) is
+
+  -- a choice has three operands
+  pub choice-is : {cp cq cr : ℕ} → cp ≡ getD conditions (x .p) 0 → cq ≡ getD conditions (x .q) 0 → cr ≡ getD conditions (x .r) 0
+      → choiceGroup b (x .p) (x .q) (x .r) cp cq cr ≡ planned Choice .group
+  unfolding planBy
+  choice-is p q r = λ j. choiceGroup b (x .p) (x .q) (x .r) (number-in (x .p) p j) (number-in (x .q) q j) (number-in (x .r) r j)
 
   -- a read's array is an earlier term
   pub read-below : kind ≡ Read → x .p < length conditions
   unfolding isRead
   read-below e =
-      let op : opOf (x .op) ≡ Select = read-op (opOf (x .op)) (ap isRead (sym kind-is ∙ e)) in
-      let op-at : opOf (termAt w i .op) ≡ Select = ap (λ (y : Term). opOf (y .op)) (sym here) ∙ op in
-      let low : termAt w i .p < i = two-placed i (termAt w i) (subst (λ (o : Op). placedAs (fieldsOf (rankOf o)) i (termAt w i) ≡ true) op-at (f .sound i inside .is-placed)) .0 in
-      subst (λ (y : Term). y .p < length conditions) (sym here) (omega arith)
+      let op : opOf (x .op) ≡ Select = read-op (opOf (x .op)) (ap isRead (sym (here .kind-is) ∙ e)) in
+      let op-at : opOf (termAt w i .op) ≡ Select = ap (λ (y : Term). opOf (y .op)) (sym (here .is)) ∙ op in
+      let low : termAt w i .p < i = two-placed i (termAt w i) (subst (λ (o : Op). placedAs (fieldsOf (rankOf o)) i (termAt w i) ≡ true) op-at (here .formed .sound i (here .inside) .is-placed)) .0 in
+      subst (λ (y : Term). y .p < length conditions) (sym (here .is)) (omega (arith, here .all))
 
   -- its group
-  pub read-is : kind ≡ Read → (cq : ℕ) → cq ≡ getD conditions (x .q) 0 → planAt w ownMarks (x .p) .readGroup b (x .q) cq ≡ planned Read .group
+  pub read-is : kind ≡ Read → {cq : ℕ} → cq ≡ getD conditions (x .q) 0 → planAt w ownMarks (x .p) .readGroup b (x .q) cq ≡ planned Read .group
   unfolding planBy
-  read-is e cq is =
-      ap₂ (λ (y : Plan) (n : ℕ). y .readGroup b (x .q) n) (sym (plan-below w ownMarks i (x .p) (let low : x .p < length conditions = read-below e in omega arith))) (is ∙ number-in (x .q))
+  read-is e is =
+      ap₂ (λ (y : Plan) (n : ℕ). y .readGroup b (x .q) n) (sym (plan-below w ownMarks i (x .p) (omega (arith, read-below e, here .all)))) (number-in (x .q) is)
 
   pub width-most : x .sort .n ≤ 32
-  width-most = subst (λ (y : Term). y .sort .n ≤ 32) (sym here) (n-most-at 512 w f i)
+  width-most = subst (λ (y : Term). y .sort .n ≤ 32) (sym (here .is)) (n-most-at 512 w (here .formed) i)

@@ -1,4 +1,4 @@
--- Which kind of group an operator has: the lines of paper 01's "The condition of each term".
+-- Which kind of group an operator has: the lines of paper 01's "The condition of each term", of less that of paper 02's request 03.
 -- Assumes nothing.
 use mathlib.Core.Bool.{not}
 use Prim.Native.Nat.{ℕ}
@@ -11,9 +11,9 @@ use Rattle.ops.specs.Meaning.{Operation, holds, ones, operation}
 use Rattle.ops.specs.Meaning.Operation.{unary as one-operand, strict as never-settled, absorbing, shift as second-settled}
 use Rattle.ops.specs.Ranks.{FunctionRank, arity, functionRank}
 use Rattle.ops.specs.Ranks.Arity.{one, two}
-use Rattle.ops.specs.Ranks.FunctionRank.{boolBinary, bvBinary}
+use Rattle.ops.specs.Ranks.FunctionRank.{boolBinary, bvBinary, bvCompare}
 use Rattle.groups.specs.declared.kinds.GroupKind.{GroupKind}
-use Rattle.groups.specs.declared.kinds.GroupKind.the-variants.{Literal, Input, Unary, Strict, Conjunction, Disjunction, Implication, Zero, Ones, Shift, Choice, Read, Write}
+use Rattle.groups.specs.declared.kinds.GroupKind.the-variants.{Literal, Input, Unary, Strict, Conjunction, Disjunction, Implication, Zero, Ones, Bounds, Shift, Choice, Read, Write}
 
 -- The groups of functions: each is right for the functions that these values settle, of this rank.
 pub data FunctionGroup : (o : Operation) → FunctionRank (arity o) → Type 0 where
@@ -28,6 +28,8 @@ pub data FunctionGroup : (o : Operation) → FunctionRank (arity o) → Type 0 w
   -- 0 on either side; all ones on either
   byZero : {f : ℕ → ℕ → ℕ → ℕ} → FunctionGroup (absorbing f (λ n x. eqb x 0) (λ n y. eqb y 0)) bvBinary
   byOnes : {f : ℕ → ℕ → ℕ → ℕ} → FunctionGroup (absorbing f (λ n x. eqb x (ones n)) (λ n y. eqb y (ones n))) bvBinary
+  -- all ones on the left, 0 on the right
+  byBounds : {f : ℕ → ℕ → ℕ → ℕ} → FunctionGroup (absorbing f (λ n x. eqb x (ones n)) (λ n y. eqb y 0)) bvCompare
   -- the width or more on the right
   shift : {f : ℕ → ℕ → ℕ → ℕ} → FunctionGroup (second-settled f (λ n y. leb n y)) bvBinary
 
@@ -43,7 +45,7 @@ functionGroup BvOr = byOnes
 functionGroup BvAdd = strict
 functionGroup BvMul = byZero
 functionGroup BvShl = shift
-functionGroup BvUlt = strict
+functionGroup BvUlt = byBounds
 
 abbrev pub groupKind : {o : Operation} {r : FunctionRank (arity o)} → FunctionGroup o r → GroupKind
 groupKind unary = Unary
@@ -53,6 +55,7 @@ groupKind disjunction = Disjunction
 groupKind implication = Implication
 groupKind byZero = Zero
 groupKind byOnes = Ones
+groupKind byBounds = Bounds
 groupKind shift = Shift
 
 abbrev pub kindOf : Op → GroupKind

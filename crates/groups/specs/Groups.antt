@@ -6,7 +6,7 @@ use Prim.Native.Nat.{ℕ, _+_}
 use Rattle.table.specs.declared.words.Term.{Term}
 use Rattle.groups.specs.Added.{notT, andT, orT, equalT, choiceT, lessT, constantT, readT}
 
--- Equal, sum, less: and(C(p), C(q)).
+-- Equal, sum: and(C(p), C(q)).
 abbrev pub strictGroup : ℕ → ℕ → List Term
 strictGroup cp cq = andT cp cq ∷ []
 
@@ -55,6 +55,22 @@ absorbingGroup b n value p q cp cq =
     ∷ orT (b + 2) (b + 4)
     ∷ andT cp cq
     ∷ orT (b + 5) (b + 6)
+    ∷ []
+
+-- Less (paper 02, request 03): constant 2^n - 1 at the operands' width; equal(p, it); and(C(p), it); constant 0; equal(q, it);
+-- and(C(q), it); or of the third and sixth; and(C(p), C(q)); or of the last two. 9. The constants are u and v; s and cs are what
+-- stands for q and C(q) in the fifth and sixth.
+abbrev pub boundsGroup : ℕ → ℕ → ℕ → ℕ → ℕ → ℕ → ℕ → ℕ → ℕ → List Term
+boundsGroup b n u v p s cp cs cq =
+    constantT n u
+    ∷ equalT p b
+    ∷ andT cp (b + 1)
+    ∷ constantT n v
+    ∷ equalT s (b + 3)
+    ∷ andT cs (b + 4)
+    ∷ orT (b + 2) (b + 5)
+    ∷ andT cp cq
+    ∷ orT (b + 6) (b + 7)
     ∷ []
 
 -- Shift: constant n of width n; less(q, it); not it; and(C(q), it); and(C(p), C(q)); or of the last two. 6.

@@ -8,11 +8,11 @@ use Rattle.ops.specs.Numbers.{opOf}
 use Rattle.ops.specs.Meaning.{ones}
 use Rattle.table.specs.declared.words.Term.{Term}
 use Rattle.table.specs.Folds.{fold}
-use Rattle.table.specs.Terms.{terms, termAt}
+use Rattle.table.specs.Terms.{terms, termAt, sortAt}
 use Rattle.groups.specs.declared.kinds.GroupKind.{GroupKind}
-use Rattle.groups.specs.declared.kinds.GroupKind.the-variants.{Literal, Input, Unary, Strict, Conjunction, Disjunction, Implication, Zero, Ones, Shift, Choice, Read, Write}
+use Rattle.groups.specs.declared.kinds.GroupKind.the-variants.{Literal, Input, Unary, Strict, Conjunction, Disjunction, Implication, Zero, Ones, Bounds, Shift, Choice, Read, Write}
 use Rattle.groups.specs.FunctionGroups.{kindOf}
-use Rattle.groups.specs.Groups.{strictGroup, andGroup, orGroup, impliesGroup, absorbingGroup, shiftGroup, choiceGroup, variableGroup, storeGroup}
+use Rattle.groups.specs.Groups.{strictGroup, andGroup, orGroup, impliesGroup, absorbingGroup, boundsGroup, shiftGroup, choiceGroup, variableGroup, storeGroup}
 
 -- Of a term: the group of terms added for it; the number of C(t); and, of an array, the group of a read of it, from the group's
 -- first number, the index's number and that of the index's condition.
@@ -29,8 +29,9 @@ lastOf b group = b + pred (length group)
 abbrev pub taken : ℕ → Plan
 taken c = record { group = []; condition = c; readGroup = λ b j cj. variableGroup c cj }
 
--- the plan of term t, whose group's first number is b, from the plans of the terms before it; yes and no are the numbers of T and F
-module _ (marked : Term → Bool) (yes no : ℕ) (plan : ℕ → Plan) (b : ℕ) (t : Term) where
+-- the plan of term t, whose group's first number is b, from the plans of the terms before it and its first operand's width; yes and no
+-- are the numbers of T and F
+module _ (marked : Term → Bool) (yes no : ℕ) (plan : ℕ → Plan) (b width : ℕ) (t : Term) where
   abbrev pub cp : ℕ
   cp = plan (t .p) .condition
 
@@ -60,6 +61,7 @@ module _ (marked : Term → Bool) (yes no : ℕ) (plan : ℕ → Plan) (b : ℕ)
   planBy Implication = grown (impliesGroup b (t .p) (t .q) cp cq)
   planBy Zero = grown (absorbingGroup b (t .sort .n) 0 (t .p) (t .q) cp cq)
   planBy Ones = grown (absorbingGroup b (t .sort .n) (ones (t .sort .n)) (t .p) (t .q) cp cq)
+  planBy Bounds = grown (boundsGroup b width (ones width) 0 (t .p) (t .q) cp cq cq)
   planBy Shift = grown (shiftGroup b (t .sort .n) (t .q) cp cq)
   planBy Choice = grown (choiceGroup b (t .p) (t .q) (t .r) cp cq cr)
   planBy Read = grown (plan (t .p) .readGroup b (t .q) cq)
@@ -79,7 +81,7 @@ abbrev pub next : List ℕ → List Plan → ℕ
 next w ps = terms w + 2 + length (groups ps)
 
 abbrev pub planOf : List ℕ → (Term → Bool) → List Plan → Term → Plan
-planOf w marked ps t = planBy marked (terms w) (terms w + 1) (planIn ps) (next w ps) t (kindOf (opOf (t .op)))
+planOf w marked ps t = planBy marked (terms w) (terms w + 1) (planIn ps) (next w ps) (sortAt w (t .p) .n) t (kindOf (opOf (t .op)))
 
 -- the plans of the first k terms
 abbrev pub plans : List ℕ → (Term → Bool) → ℕ → List Plan

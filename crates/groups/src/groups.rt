@@ -3,8 +3,8 @@ ghost use mathlib.Core.Path.{_≡_};
 ghost use mathlib.Core.List.{[], _∷_};
 ghost use Prim.Native.Nat.{pred, _+_, _≤_, _<_};
 ghost use Rattle.groups.specs.Code.Writing.{placedFrom, placedAll, after};
-ghost use Rattle.groups.specs.Groups.{strictGroup, andGroup, orGroup, impliesGroup, absorbingGroup, shiftGroup};
-ghost use Rattle.groups.specs.Groups.{choiceGroup, storeGroup};
+ghost use Rattle.groups.specs.Groups.{strictGroup, andGroup, orGroup, impliesGroup, absorbingGroup, boundsGroup};
+ghost use Rattle.groups.specs.Groups.{shiftGroup, choiceGroup, storeGroup};
 use crate::added::and_term;
 use crate::added::choice_term;
 use crate::added::constant_term;
@@ -52,7 +52,7 @@ fn lay_three(room: &mut [u32], b: u32, i: u32, x: Term, y: Term, z: Term)
     lay_two(room, b, i + 1, y, z);
 }
 
-// Equal, sum, less; and the read of a variable.
+// Equal, sum; and the read of a variable.
 pub fn strict(room: &mut [u32], b: u32, cp: u32, cq: u32) -> Written
     requires { ⌜ b ≤ 80000 ⌝ }
     ensures { λ r. ⌜ r ≡ after b (strictGroup cp cq) ⌝ }
@@ -140,6 +140,50 @@ pub fn absorbing(
     );
     lay_two(room, b, 6, and_term(cp, cq), or_term(b + 5, b + 6));
     grown(b, 8)
+}
+
+// Less: `u` and `v` are the constants of width `n` that settle, as `p` and as `s`.
+pub fn bounds(
+    room: &mut [u32],
+    b: u32,
+    n: u32,
+    u: u32,
+    v: u32,
+    p: u32,
+    s: u32,
+    cp: u32,
+    cs: u32,
+    cq: u32,
+) -> Written
+    requires { ⌜ b ≤ 80000 ⌝ }
+    ensures { λ r. ⌜ r ≡ after b (boundsGroup b n u v p s cp cs cq) ⌝ }
+    ensures { λ r. ⌜ now (room .exit) ≡ placedAll (now (room .entry)) b (boundsGroup b n u v p s cp cs cq) ⌝ }
+{
+    lay_three(
+        room,
+        b,
+        0,
+        constant_term(n, u),
+        equal_term(p, b),
+        and_term(cp, b + 1),
+    );
+    lay_three(
+        room,
+        b,
+        3,
+        constant_term(n, v),
+        equal_term(s, b + 3),
+        and_term(cs, b + 4),
+    );
+    lay_three(
+        room,
+        b,
+        6,
+        or_term(b + 2, b + 5),
+        and_term(cp, cq),
+        or_term(b + 6, b + 7),
+    );
+    grown(b, 9)
 }
 
 pub fn shift(room: &mut [u32], b: u32, n: u32, q: u32, cp: u32, cq: u32) -> Written

@@ -1,4 +1,4 @@
-// The kinds of groups (paper 01, "The condition of each term"), and which of them an operator has.
+// The kinds of groups (paper 01, "The condition of each term"; of less paper 02, request 03), and which of them an operator has.
 ghost use mathlib.Core.Path.{_≡_};
 ghost use Rattle.ops.specs.Numbers.{opOf};
 ghost use Rattle.groups.specs.FunctionGroups.{kindOf};
@@ -7,12 +7,13 @@ pub enum GroupKind {
     Literal, // constant
     Input, // variable
     Unary, // not, vector not
-    Strict, // equal, sum, less
+    Strict, // equal, sum
     Conjunction, // and
     Disjunction, // or
     Implication, // implies
     Zero, // vector and, product: settled by 0
     Ones, // vector or: settled by 2^n - 1
+    Bounds, // less: settled by 2^n - 1 on the left, by 0 on the right
     Shift,
     Choice,
     Read,
@@ -35,7 +36,7 @@ const KINDS: [GroupKind; 17] = [
     GroupKind::Strict,
     GroupKind::Zero,
     GroupKind::Shift,
-    GroupKind::Strict,
+    GroupKind::Bounds,
     GroupKind::Read,
     GroupKind::Write,
 ];

@@ -3,13 +3,16 @@ ghost use mathlib.Core.Path.{_≡_};
 ghost use mathlib.Core.Bool.{cond};
 ghost use Prim.Native.Nat.{_+_, _≤_, _<_};
 ghost use lib.ListN.{length};
-ghost use Rattle.table.specs.Terms.{terms};
+ghost use Rattle.ops.specs.Meaning.{ones};
+ghost use Rattle.table.specs.Terms.{terms, sortAt};
 ghost use Rattle.table.specs.WellFormed.{WellFormed};
 ghost use Rattle.judge.specs.Conditions.{ownMarks};
-ghost use Rattle.groups.specs.Code.Writing.{placedAll, Numbered, written};
+ghost use Rattle.groups.specs.Groups.{boundsGroup};
+ghost use Rattle.groups.specs.Code.Writing.{placedAll, Numbered, after, written};
 ghost use Rattle.groups.specs.Plans.{next, plans, planAt};
 use crate::groups::Written;
 use crate::groups::absorbing;
+use crate::groups::bounds;
 use crate::groups::choice;
 use crate::groups::conjunction;
 use crate::groups::disjunction;
@@ -38,6 +41,21 @@ fn input(x: Term, yes: u32) -> u32
     ensures { λ r. ⌜ r ≡ cond (ownMarks x) (yes + 1) yes ⌝ }
 {
     if x.q == 1 { yes + 1 } else { yes }
+}
+
+// The group of less: the constants have the operands' width.
+fn less(table: &[u32], room: &mut [u32], b: u32, x: Term, cp: u32, cq: u32) -> Written
+    requires { ⌜ WellFormed 512 (now table) ⌝ }
+    requires { ⌜ b ≤ 80000 ⌝ }
+    ensures { λ r. ⌜ r ≡ after b (boundsGroup b (sortAt (now (table .entry)) (x .p) .n)
+        (ones (sortAt (now (table .entry)) (x .p) .n)) 0 (x .p) (x .q) cp cq cq) ⌝ }
+    ensures { λ r. ⌜ now (room .exit)
+        ≡ placedAll (now (room .entry)) b (boundsGroup b (sortAt (now (table .entry)) (x .p) .n)
+        (ones (sortAt (now (table .entry)) (x .p) .n)) 0 (x .p) (x .q) cp cq cq) ⌝ }
+{
+    let sort = table::sort_at(table, x.p);
+    let n = sort.n;
+    bounds(room, b, n, ops::ones(n), 0, x.p, x.q, cp, cq, cq)
 }
 
 // The group of term `i`, from number `b` on; conditions has the numbers of the conditions before it.
@@ -71,6 +89,7 @@ pub fn write_group(
         GroupKind::Implication => implication(room, b, x.p, x.q, cp, cq),
         GroupKind::Zero => absorbing(room, b, n, 0, x.p, x.q, cp, cq),
         GroupKind::Ones => absorbing(room, b, n, ops::ones(n), x.p, x.q, cp, cq),
+        GroupKind::Bounds => less(table, room, b, x, cp, cq),
         GroupKind::Shift => shift(room, b, n, x.q, cp, cq),
         GroupKind::Choice => choice(room, b, x.p, x.q, x.r, cp, cq, number_at(conditions, x.r)),
         GroupKind::Read => read_group(table, conditions, room, b, x.p, x.q, cq),

@@ -10,13 +10,15 @@ use native.Mathlib.Omega.{arith}
 use lib.Dec.{eqb}
 use lib.ListN.{getD, List·getD-eq-default}
 use borrow.Author.Tests.{eqb-true, eqb-false, ltb-true, lt-ltb}
+use Rattle.ops.specs.declared.Function.{Function}
 use Rattle.ops.specs.declared.Op.{Op}
 use Rattle.ops.specs.declared.Op.the-variants.{Constant, Variable, Apply, Ite, Select, Store, Unknown}
 use Rattle.ops.specs.Numbers.{opOf}
-use Rattle.ops.specs.Meaning.{holds}
+use Rattle.ops.specs.Meaning.{holds, operation, apply}
+use Rattle.ops.specs.Ranks.{arity, functionRank}
 use Rattle.ops.specs.Fits.{fits}
-use Rattle.ops.specs.Condition.{chosen}
-use Rattle.ops.specs.Laws.{Agree}
+use Rattle.ops.specs.Condition.{chosen, settles}
+use Rattle.ops.specs.Laws.{OperandsFit, Agree}
 use Rattle.ops.proofs.Booleans.{never, and-parts, and-shut}
 use Rattle.ops.proofs.Independence.{independence as op-independence, choice-independence}
 use Rattle.table.specs.declared.words.Sort.{Sort}
@@ -29,11 +31,11 @@ use Rattle.table.specs.WellFormed.{WellFormed}
 use Rattle.table.proofs.FoldLaws.{fold-below, length-fold}
 use Rattle.setting.specs.Interpretation.{Value, Interpretation, Fit, FitInputs, Same, AgreeUnmarked}
 use Rattle.setting.proofs.Checked.{below-of-fits}
-use Rattle.evaluate.specs.Values.{scalarValue, arrayValue, operated, valueBy, valueIn, valueFrom, values, valueAt}
+use Rattle.evaluate.specs.Values.{scalarValue, arrayValue, valueBy, valueIn, valueFrom, values, valueAt}
 use Rattle.evaluate.proofs.Folds.{value-below}
-use Rattle.evaluate.proofs.Fitting.{values-fit}
-use Rattle.table.proofs.OperandSorts.{same-sort, three, four, typing, two-placed}
-use Rattle.judge.specs.Conditions.{Condition, plain, settling, storeFree, conditionBy, conditionIn, conditionFrom, conditions, conditionAt}
+use Rattle.evaluate.proofs.Fitting.{operands-fit, values-fit}
+use Rattle.table.proofs.OperandSorts.{same-sort, three, four, typing, two-placed, rank-below}
+use Rattle.judge.specs.Conditions.{Condition, plain, storeFree, conditionBy, conditionIn, conditionFrom, conditions, conditionAt}
 use Rattle.judge.specs.Demand3.{Independence}
 
 -- at one term, whose indexes are below bound where it is an array: one condition, and where it is true one value; so too of each read,
@@ -62,7 +64,7 @@ renamed e e′ g g′ h = rw (e, e′, g, g′) h
 
 -- One term, in two runs: i is its number, and sorts are the table's
 module _ (marked : Term → Bool) (I I′ : Interpretation) (v v′ : ℕ → Value) (c c′ : ℕ → Condition) (sorts : ℕ → Sort) (t : Term) (i : ℕ)
-    (alike : (k : ℕ) → Alike (2 ^ sorts k .m) (v k) (v′ k) (c k) (c′ k)) (fit : (k : ℕ) → k < i → Fit (sorts k) (v k)) where
+    (alike : (k : ℕ) → Alike (2 ^ sorts k .m) (v k) (v′ k) (c k) (c′ k)) (fit : (k : ℕ) → k < i → Fit (sorts k) (v k)) (fit′ : (k : ℕ) → k < i → Fit (sorts k) (v′ k)) where
   -- an input: free where it is not marked
   variable-alike : (b m : Bool) → eqb (t .sort .m) 0 ≡ b → (m ≡ false → Same (t .sort) (I (t .p)) (I′ (t .p)))
       → Alike (2 ^ t .sort .m) (cond b (scalarValue (I (t .p) .num)) (arrayValue (I (t .p) .cell))) (cond b (scalarValue (I′ (t .p) .num)) (arrayValue (I′ (t .p) .cell))) (plain (not m)) (plain (not m))
@@ -122,23 +124,30 @@ module _ (marked : Term → Bool) (I I′ : Interpretation) (v v′ : ℕ → Va
   store-shut a b true test same z = never (sym z)
   store-shut a b false test same z = ap₂ (λ (x y : Bool). (x && cond test b false) || (y && same)) (and-shut a) (and-shut b)
 
-  -- an operator on numbers
-  alike-operated : (op : Op) → Alike (2 ^ t .sort .m) (operated I v (sorts (t .p) .n) t op) (operated I′ v′ (sorts (t .p) .n) t op) (settling marked v c (sorts (t .p) .n) t op) (settling marked v′ c′ (sorts (t .p) .n) t op)
-  alike-operated op =
-      alike-scalar (2 ^ t .sort .m)
-      (op-independence op (sorts (t .p) .n) (v (t .p) .num) (v′ (t .p) .num) (v (t .q) .num) (v′ (t .q) .num) (v (t .r) .num) (v′ (t .r) .num)
-      (c (t .p) .free) (c′ (t .p) .free) (c (t .q) .free) (c′ (t .q) .free) (c (t .r) .free) (c′ (t .r) .free)
-      (alike (t .p) .whole) (alike (t .q) .whole) (alike (t .r) .whole))
+  -- a function's operands fit
+  fitted : (f : Function) → typedAs (rankOf (Apply f)) (t .sort) (sorts (t .p)) (sorts (t .q)) (sorts (t .r)) ≡ true → placedAs (fieldsOf (rankOf (Apply f))) i t ≡ true
+      → (u : ℕ → Value) → ((k : ℕ) → k < i → Fit (sorts k) (u k)) → OperandsFit (arity (operation f)) (functionRank f) (sorts (t .p) .n) (u (t .p) .num) (u (t .q) .num)
+  fitted f h place u g =
+      let low = rank-below (functionRank f) i t place in
+      operands-fit (t .sort) (sorts (t .p)) (sorts (t .q)) (sorts (t .r)) (u (t .p)) (u (t .q)) (g (t .p) (low .0)) (g (t .q) (low .1)) (arity (operation f)) (functionRank f) h
 
   -- the term, by its operator
   alike-by : (op : Op) → typedAs (rankOf op) (t .sort) (sorts (t .p)) (sorts (t .q)) (sorts (t .r)) ≡ true → placedAs (fieldsOf (rankOf op)) i t ≡ true
       → (slotted op ≡ true → marked t ≡ false → Same (t .sort) (I (t .p)) (I′ (t .p)))
       → Alike (2 ^ t .sort .m) (valueBy I v (sorts (t .p) .n) t op) (valueBy I′ v′ (sorts (t .p) .n) t op) (conditionBy marked v c (sorts (t .p) .n) t op) (conditionBy marked v′ c′ (sorts (t .p) .n) t op)
-  unfolding valueBy conditionBy
+  unfolding valueBy conditionBy apply settles
   alike-by Constant h place input = alike-scalar (2 ^ t .sort .m) (same-agree true (t .p))
   alike-by Variable h place input = variable-alike (eqb (t .sort .m) 0) (marked t) refl (input refl)
-  alike-by (Apply f) h place input = alike-operated (Apply f)
-  alike-by Ite h place input = alike-operated Ite
+  alike-by (Apply f) h place input =
+      alike-scalar (2 ^ t .sort .m)
+      (op-independence f (sorts (t .p) .n) (v (t .p) .num) (v′ (t .p) .num) (v (t .q) .num) (v′ (t .q) .num) (c (t .p) .free) (c′ (t .p) .free) (c (t .q) .free) (c′ (t .q) .free)
+      (fitted f h place v fit) (fitted f h place v′ fit′) (alike (t .p) .whole) (alike (t .q) .whole))
+  alike-by Ite h place input =
+      let test = alike (t .p) .whole in
+      alike-scalar (2 ^ t .sort .m)
+      (choice-independence (holds (v (t .p) .num)) (holds (v′ (t .p) .num)) (v (t .q) .num) (v′ (t .q) .num) (v (t .r) .num) (v′ (t .r) .num)
+      (c (t .p) .free) (c′ (t .p) .free) (c (t .q) .free) (c′ (t .q) .free) (c (t .r) .free) (c′ (t .r) .free)
+      (test .condition) (λ k. ap holds (test .value k)) (alike (t .q) .whole) (alike (t .r) .whole))
   alike-by Select h place input =
       alike-scalar (2 ^ t .sort .m) (select-alike (c (t .q) .free) (c′ (t .q) .free) (alike (t .q) .whole) (index-below h (two-placed i t place .1)))
   alike-by Store h place input =
@@ -173,7 +182,7 @@ module _ (w : List ℕ) (marked : Term → Bool) (I : Interpretation) where
 
 -- The table, term by term
 
-module _ (limit : ℕ) (w : List ℕ) (marked : Term → Bool) (I I′ : Interpretation) (f : WellFormed limit w) (inputs : FitInputs w I) (agree : AgreeUnmarked w marked I I′) where
+module _ (limit : ℕ) (w : List ℕ) (marked : Term → Bool) (I I′ : Interpretation) (f : WellFormed limit w) (inputs : FitInputs w I) (inputs′ : FitInputs w I′) (agree : AgreeUnmarked w marked I I′) where
   -- of term i the lists of the first k terms say the same in both runs
   abbrev AlikeIn : ℕ → ℕ → Type 0
   AlikeIn k i = Alike (2 ^ sortAt w i .m) (valueIn (values w I k) i) (valueIn (values w I′ k) i) (conditionIn (conditions w marked I k) i) (conditionIn (conditions w marked I′ k) i)
@@ -190,6 +199,10 @@ module _ (limit : ℕ) (w : List ℕ) (marked : Term → Bool) (I I′ : Interpr
       go (yes l) = renamed (value-below w I k i l) (value-below w I′ k i l) (condition-below w marked I k i l) (condition-below w marked I′ k i l) (before i l)
       go (no l) = renamed (value-past w I k i l) (value-past w I′ k i l) (condition-past w marked I k i l) (condition-past w marked I′ k i l) (alike-scalar (2 ^ sortAt w i .m) (same-agree false 0))
 
+  -- the values of the terms before it fit
+  fits-before : (J : Interpretation) → FitInputs w J → (k : ℕ) → k < terms w → (i : ℕ) → i < k → Fit (sortAt w i) (valueIn (values w J k) i)
+  fits-before J fit k b i l = subst (Fit (sortAt w i)) (sym (value-below w J k i l)) (values-fit limit w J f fit i (omega arith))
+
   -- one term, those before it being known to be alike
   alike-step : (k : ℕ) → k < terms w → ((i : ℕ) → i < k → AlikeAt i) → AlikeAt k
   alike-step k b before =
@@ -197,7 +210,7 @@ module _ (limit : ℕ) (w : List ℕ) (marked : Term → Bool) (I I′ : Interpr
       let s = f .sound k b in
       alike-by marked I I′ (valueIn (values w I k)) (valueIn (values w I′ k)) (conditionIn (conditions w marked I k)) (conditionIn (conditions w marked I′ k)) (sortAt w) x k
       (alike-in k before)
-      (λ i l. subst (Fit (sortAt w i)) (sym (value-below w I k i l)) (values-fit limit w I f inputs i (omega arith)))
+      (fits-before I inputs k b) (fits-before I′ inputs′ k b)
       (opOf (x .op)) (typing w k s) (s .is-placed) (agree k b)
 
   -- every term, by induction
@@ -206,13 +219,13 @@ module _ (limit : ℕ) (w : List ℕ) (marked : Term → Bool) (I I′ : Interpr
   alike-within (suc n) k b l = alike-step k l (λ i m. alike-within n i (omega arith) (omega arith))
 
 -- every term of a well-formed table is alike in two runs that agree on the unmarked inputs
-pub alike-at : (limit : ℕ) (w : List ℕ) (marked : Term → Bool) (I I′ : Interpretation) → WellFormed limit w → FitInputs w I → AgreeUnmarked w marked I I′
+pub alike-at : (limit : ℕ) (w : List ℕ) (marked : Term → Bool) (I I′ : Interpretation) → WellFormed limit w → FitInputs w I → FitInputs w I′ → AgreeUnmarked w marked I I′
     → (k : ℕ) → k < terms w → Alike (2 ^ sortAt w k .m) (valueAt w I k) (valueAt w I′ k) (conditionAt w marked I k) (conditionAt w marked I′ k)
-alike-at limit w marked I I′ f inputs agree k b = alike-within limit w marked I I′ f inputs agree (suc k) k (omega arith) b
+alike-at limit w marked I I′ f inputs inputs′ agree k b = alike-within limit w marked I I′ f inputs inputs′ agree (suc k) k (omega arith) b
 
 -- the rule is one of them
 pub independence : Independence
 independence limit w marked I I′ f inputs inputs′ agree =
     let some : 0 < terms w = f .some in
-    let rule = alike-at limit w marked I I′ f inputs agree (pred (terms w)) (omega arith) .whole in
+    let rule = alike-at limit w marked I I′ f inputs inputs′ agree (pred (terms w)) (omega arith) .whole in
     record { condition = rule .condition; rule = λ h. ap holds (rule .value h) }

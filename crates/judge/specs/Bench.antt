@@ -48,8 +48,16 @@ shifting = term 1 0 8 0 1 0 (term 1 0 8 1 0 0 (term 13 0 8 0 1 0 (term 0 0 8 0 0
 abbrev pub either : List ℕ
 either = term 1 0 8 0 1 0 (term 0 0 8 5 0 0 (term 14 0 0 0 1 0 (term 2 0 0 2 0 0 (term 4 0 0 2 3 0 []))))
 
+-- a marked vector of width 8 (slot 0) is below a constant; a constant is below it (paper 02, request 03)
+abbrev below : ℕ → List ℕ
+below c = term 1 0 8 0 1 0 (term 0 0 8 c 0 0 (term 14 0 0 0 1 0 []))
+
+abbrev above : ℕ → List ℕ
+above c = term 1 0 8 0 1 0 (term 0 0 8 c 0 0 (term 14 0 0 1 0 0 []))
+
 -- P1 to P4: rule G, values a, x, b. P5, P6: a sum and a product. P7, P8: rule H, values t (all of it), a, c. P9, P10: a shift.
--- P11: a choice, equal branches and others. P12: in two settings. Last, a read of a store at a marked index.
+-- P11: a choice, equal branches and others. P12: in two settings. Then a read of a store at a marked index. Last, a marked 7 beside bounds:
+-- nothing is below 0, nothing above all ones; no other bound settles a less.
 pub rows : List Row
 rows =
     -- P1
@@ -82,6 +90,13 @@ rows =
     ∷ record { table = either; values = 5 ∷ []; cells = []; at = 4; value = 1; condition = false; spent = 0 }
     -- the read group: a store at a marked index
     ∷ record { table = markedIndex; values = 9 ∷ 0 ∷ 0 ∷ []; cells = []; at = 6; value = 1; condition = false; spent = 1 }
+    -- request 03
+    ∷ record { table = below 0; values = 7 ∷ []; cells = []; at = 2; value = 0; condition = true; spent = 0 }
+    ∷ record { table = above 255; values = 7 ∷ []; cells = []; at = 2; value = 0; condition = true; spent = 0 }
+    ∷ record { table = below 1; values = 7 ∷ []; cells = []; at = 2; value = 0; condition = false; spent = 0 }
+    ∷ record { table = above 254; values = 7 ∷ []; cells = []; at = 2; value = 0; condition = false; spent = 0 }
+    ∷ record { table = below 255; values = 7 ∷ []; cells = []; at = 2; value = 1; condition = false; spent = 0 }
+    ∷ record { table = above 0; values = 7 ∷ []; cells = []; at = 2; value = 1; condition = false; spent = 0 }
     ∷ []
 
 -- by computation

@@ -2,18 +2,20 @@
 -- Assumes nothing.
 use mathlib.Core.Path.{_≡_, refl, sym, ap, _∙_}
 use mathlib.Core.Bool.{Bool, true, false, not, _&&_, _||_}
-use Prim.Native.Nat.{ℕ, _+_, _*_, _%_, _^_, _<_}
+use Prim.Native.Nat.{ℕ, suc, _+_, _*_, _%_, _^_, _<_}
 use native.Mathlib.Nat.{zero-mul, mul-zero, zero-mod, mod-eq-of-lt, add-right-cancel}
+use native.Mathlib.Decide.{decLt}
+use native.Mathlib.Omega.{arith}
 use lib.Bits.{bitAnd, bitOr, and-zero-l, and-zero-r, and-comm, and-mask, or-comm, or-mod, or-add-and}
 use lib.Dec.{eqb, ltb, leb}
-use lib.Pow.{ones-lt, ones-sub-lt}
-use borrow.Author.Tests.{eqb-true, leb-true}
+use lib.Pow.{pow-pos, ones-lt, ones-sub-lt, le-ones}
+use borrow.Author.Tests.{eqb-true, ltb-true, leb-true, lt-ltb, le-ltb}
 use Rattle.ops.specs.declared.Function.the-variants.{Not, And, Or, Implies, Equal, BvNot, BvAnd, BvOr, BvAdd, BvMul, BvShl, BvUlt}
 use Rattle.ops.specs.declared.Function.{Function}
 use Rattle.ops.specs.Meaning.{bit, holds, ones, operation, valueOf}
 use Rattle.ops.specs.Ranks.{functionRank, rankWidth}
 use Rattle.ops.specs.Fits.{fits}
-use Rattle.ops.specs.Laws.{first, second, Absorbs, Absorption}
+use Rattle.ops.specs.Laws.{first, second, operandFits, Absorbs, Absorption, LessSettled}
 use Rattle.ops.proofs.Booleans.{never, and-shut, or-open}
 use Rattle.ops.proofs.Widths.{mod-below, shifted-out, fits-below, fits-mod, fits-bit}
 
@@ -64,14 +66,23 @@ module _ (n : ℕ) where
   out : (x x′ y : ℕ) → leb n y ≡ true → (x * 2 ^ y) % 2 ^ n ≡ (x′ * 2 ^ y) % 2 ^ n
   out x x′ y e = shifted-out n x y (leb-true n y e) ∙ sym (shifted-out n x′ y (leb-true n y e))
 
+  -- no vector is above all ones
+  none-above : (x y : ℕ) → eqb x (ones n) ≡ true → ltb y (2 ^ n) ≡ true → ltb x y ≡ false
+  none-above x y e h = ap (λ (u : ℕ). ltb u y) (eqb-true x (ones n) e) ∙ le-ltb (ones n) y (le-ones n (ltb-true y (2 ^ n) h))
+
+-- and none is below 0
+none-below : (x y : ℕ) → eqb y 0 ≡ true → ltb x y ≡ false
+none-below x y e = ap (ltb x) (eqb-true y 0 e) ∙ le-ltb x 0 (omega arith)
+
 -- What is shown function by function: where one operand settles the result the other cannot change it, and the value fits.
 pub record Lawful (f : Function) (n : ℕ) : Type 0 where
   pub absorbed : Absorbs f n
   pub fitted : (x y : ℕ) → fits (rankWidth (functionRank f) n) (valueOf f n x y) ≡ true
 
 module _ (f : Function) (n : ℕ) (fitted : (x y : ℕ) → fits (rankWidth (functionRank f) n) (valueOf f n x y) ≡ true) where
+  -- whatever the other operand's value
   absorbing : ((x y y′ : ℕ) → first (operation f) n x ≡ true → valueOf f n x y ≡ valueOf f n x y′) → ((x x′ y : ℕ) → second (operation f) n y ≡ true → valueOf f n x y ≡ valueOf f n x′ y) → Lawful f n
-  absorbing a b = record { absorbed = record { by-first = a; by-second = b }; fitted = fitted }
+  absorbing a b = record { absorbed = record { by-first = λ x y y′ h h′. a x y y′; by-second = λ x x′ y h h′. b x x′ y }; fitted = fitted }
 
   -- a function that no value settles
   unsettled : ((x : ℕ) → first (operation f) n x ≡ false) → ((y : ℕ) → second (operation f) n y ≡ false) → Lawful f n
@@ -107,7 +118,33 @@ lawful BvMul n =
     (one-first (λ u w. (u * w) % 2 ^ n) 0 (λ w. nothing n (zero-mul w)))
     (one-second (λ u w. (u * w) % 2 ^ n) 0 (λ u. nothing n (mul-zero u)))
 lawful BvShl n = absorbing BvShl n (λ x y. fits-mod n _) (λ x y y′ p. never p) (out n)
-lawful BvUlt n = unsettled BvUlt n (λ x y. fits-bit (ltb x y)) (λ x. refl) (λ y. refl)
+lawful BvUlt n =
+    record {
+      absorbed = record {
+        by-first = λ x y y′ h h′ p. ap bit (none-above n x y p h ∙ sym (none-above n x y′ p h′));
+        by-second = λ x x′ y h h′ p. ap bit (none-below x y p ∙ sym (none-below x′ y p));
+      };
+      fitted = λ x y. fits-bit (ltb x y);
+    }
+
+-- of less no other value does: its successor is above it, and 0 is below it
+told-apart : {a b : Bool} → bit a ≡ bit b → a ≡ true → b ≡ false → ⊥
+told-apart e p q = let z : _≡_ {A = ℕ} 1 0 = sym (ap bit p) ∙ e ∙ ap bit q in omega arith
+
+pub less-settled : LessSettled
+less-settled n u h =
+    record {
+      as-first = λ same. go (decLt (suc u) (2 ^ n)) same;
+      as-second = λ same. up (decLt 0 u) same;
+    }
+  where
+    go : Dec (suc u < 2 ^ n) → ((y y′ : ℕ) → y < 2 ^ n → y′ < 2 ^ n → valueOf BvUlt n u y ≡ valueOf BvUlt n u y′) → u ≡ ones n
+    go (yes l) same = absurd (told-apart (same (suc u) u l h) (lt-ltb u (suc u) (omega arith)) (le-ltb u u (omega arith)))
+    go (no l) same = omega arith
+
+    up : Dec (0 < u) → ((x x′ : ℕ) → x < 2 ^ n → x′ < 2 ^ n → valueOf BvUlt n x u ≡ valueOf BvUlt n x′ u) → u ≡ 0
+    up (yes l) same = absurd (told-apart (same 0 u (pow-pos n) h) (lt-ltb 0 u l) (le-ltb u u (omega arith)))
+    up (no l) same = omega arith
 
 pub absorption : Absorption
 absorption f n = lawful f n .absorbed

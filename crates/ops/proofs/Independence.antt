@@ -1,16 +1,16 @@
 -- Two runs that agree on the operands agree on the result.
 -- Assumes nothing.
-use mathlib.Core.Path.{_≡_, refl, sym, ap, ap₂, _∙_}
+use mathlib.Core.Path.{_≡_, sym, ap, ap₂, _∙_}
 use mathlib.Core.Bool.{Bool, true, false, not, _&&_, _||_, cond}
 use mathlib.Core.Logic.{⊎-elim}
 use Prim.Native.Nat.{ℕ}
 use lib.Dec.{eqb}
 use borrow.Author.Tests.{eqb-true}
-use Rattle.ops.specs.declared.Op.the-variants.{Constant, Variable, Apply, Ite, Select, Store, Unknown}
-use Rattle.ops.specs.Meaning.{Operation, holds, operation, valueBy, valueOf, apply}
+use Rattle.ops.specs.Meaning.{Operation, operation, valueBy}
 use Rattle.ops.specs.Meaning.Operation.{unary, strict, absorbing, shift}
-use Rattle.ops.specs.Condition.{absorbed, shifted, chosen, conditionBy, conditionOf, settles}
-use Rattle.ops.specs.Laws.{first, second, Agree, Independence, ChoiceIndependence}
+use Rattle.ops.specs.Ranks.{FunctionRank, arity, functionRank}
+use Rattle.ops.specs.Condition.{absorbed, shifted, conditionBy}
+use Rattle.ops.specs.Laws.{first, second, operandFits, OperandsFit, Agree, Independence, ChoiceIndependence}
 use Rattle.ops.proofs.Booleans.{and-parts, or-parts, and-same, or-same}
 use Rattle.ops.proofs.Absorption.{absorption}
 
@@ -79,22 +79,18 @@ choice-independence test test′ y y′ z z′ c c′ d d′ e e′ free same q 
         either test test′ (q .value (free-both .0)) (r .value (free-both .1)) (eqb-true y z (parts .1))
 
 -- one operation, with what its tests promise
-operation-agree : (o : Operation) (n : ℕ) {x x′ y y′ : ℕ} {c c′ d d′ : Bool} → Agree c c′ x x′ → Agree d d′ y y′
-    → (first o n x ≡ true → valueBy o n x y ≡ valueBy o n x y′) → (second o n y ≡ true → valueBy o n x y ≡ valueBy o n x′ y)
+operation-agree : (o : Operation) (r : FunctionRank (arity o)) (n : ℕ) {x x′ y y′ : ℕ} {c c′ d d′ : Bool}
+    → OperandsFit (arity o) r n x y → OperandsFit (arity o) r n x′ y′ → Agree c c′ x x′ → Agree d d′ y y′
+    → (operandFits r n y ≡ true → operandFits r n y′ ≡ true → first o n x ≡ true → valueBy o n x y ≡ valueBy o n x y′)
+    → (operandFits r n x ≡ true → operandFits r n x′ ≡ true → second o n y ≡ true → valueBy o n x y ≡ valueBy o n x′ y)
     → Agree (conditionBy o n x y c d) (conditionBy o n x′ y′ c′ d′) (valueBy o n x y) (valueBy o n x′ y′)
-operation-agree (unary f) n p q by-first by-second = record { condition = p .condition; value = λ h. ap (f n) (p .value h) }
-operation-agree (strict f) n p q by-first by-second = record { condition = both-condition p q; value = both-value p q (f n) }
-operation-agree (absorbing f a b) n p q by-first by-second = absorbed-agree p q (f n) (a n) (b n) by-first by-second
-operation-agree (shift f b) n p q by-first by-second = shifted-agree p q (f n) (b n) (b n) by-second
+operation-agree (unary f) r n fit fit′ p q by-first by-second = record { condition = p .condition; value = λ h. ap (f n) (p .value h) }
+operation-agree (strict f) r n fit fit′ p q by-first by-second = record { condition = both-condition p q; value = both-value p q (f n) }
+operation-agree (absorbing f a b) r n fit fit′ p q by-first by-second =
+    absorbed-agree p q (f n) (a n) (b n) (by-first (fit .1) (fit′ .1)) (by-second (fit .0) (fit′ .0))
+operation-agree (shift f b) r n fit fit′ p q by-first by-second = shifted-agree p q (f n) (b n) (b n) (by-second (fit .0) (fit′ .0))
 
 pub independence : Independence
-unfolding apply settles
-independence Constant n x x′ y y′ z z′ c c′ d d′ e e′ p q r = record { condition = refl; value = λ h. refl }
-independence Variable n x x′ y y′ z z′ c c′ d d′ e e′ p q r = record { condition = refl; value = λ h. refl }
-independence (Apply f) n x x′ y y′ z z′ c c′ d d′ e e′ p q r =
+independence f n x x′ y y′ c c′ d d′ fit fit′ p q =
     let a = absorption f n in
-    operation-agree (operation f) n p q (a .by-first x y y′) (a .by-second x x′ y)
-independence Ite n x x′ y y′ z z′ c c′ d d′ e e′ p q r = choice-independence (holds x) (holds x′) y y′ z z′ c c′ d d′ e e′ (p .condition) (λ h. ap holds (p .value h)) q r
-independence Select n x x′ y y′ z z′ c c′ d d′ e e′ p q r = record { condition = refl; value = λ h. refl }
-independence Store n x x′ y y′ z z′ c c′ d d′ e e′ p q r = record { condition = refl; value = λ h. refl }
-independence Unknown n x x′ y y′ z z′ c c′ d d′ e e′ p q r = record { condition = refl; value = λ h. refl }
+    operation-agree (operation f) (functionRank f) n fit fit′ p q (a .by-first x y y′) (a .by-second x x′ y)

@@ -10,7 +10,7 @@ use Rattle.ops.specs.declared.Function.{Function}
 use Rattle.ops.specs.Meaning.{Operation, holds, operation}
 use Rattle.ops.specs.Meaning.Operation.{unary, strict, absorbing, shift}
 
--- and, or, implies, vector and, product, vector or: an operand that is free and settles, or both free
+-- and, or, implies, vector and, product, vector or, less: an operand that is free and settles, or both free
 abbrev pub absorbed : Bool → Bool → Bool → Bool → Bool
 absorbed c a d b = ((c && a) || (d && b)) || (c && d)
 

@@ -5,15 +5,17 @@ use mathlib.Core.Path.{_≡_}
 use mathlib.Core.Bool.{Bool, true, false, cond}
 use Prim.Native.Nat.{ℕ, _-_, _^_, _<_}
 use lib.Bits.{bitAnd, bitOr}
-use lib.Dec.{eqb}
+use lib.Dec.{eqb, ltb}
 use Rattle.ops.specs.declared.Op.{Op}
 use Rattle.ops.specs.declared.Op.the-variants.{Constant, Variable, Apply, Ite, Select, Store, Unknown}
 use Rattle.ops.specs.declared.Function.{Function}
-use Rattle.ops.specs.declared.Function.the-variants.{BvNot, BvAnd, BvOr}
+use Rattle.ops.specs.declared.Function.the-variants.{BvNot, BvAnd, BvOr, BvUlt}
 use Rattle.ops.specs.Meaning.{Operation, ones, operation, valueOf, apply}
 use Rattle.ops.specs.Meaning.Operation.{unary, strict, absorbing, shift}
-use Rattle.ops.specs.Ranks.{functionRank, rankWidth}
-use Rattle.ops.specs.Condition.{chosen, settles}
+use Rattle.ops.specs.Ranks.{Arity, FunctionRank, arity, functionRank, rankWidth}
+use Rattle.ops.specs.Ranks.Arity.{one, two}
+use Rattle.ops.specs.Ranks.FunctionRank.{boolUnary, boolBinary, equality, bvUnary, bvBinary, bvCompare}
+use Rattle.ops.specs.Condition.{chosen, conditionOf, settles}
 use Rattle.ops.specs.Fits.{fits}
 
 -- The width of an operator's value (0: a Boolean), from the widths n and m of its first and second operand.
@@ -64,26 +66,52 @@ second (strict f) n y = false
 second (absorbing f a b) n y = b n y
 second (shift f b) n y = b n y
 
--- Where one operand settles the result, the other cannot change it (source 004: R-absorption).
+-- the values of an operand, by its function's rank: 0 or 1; of the width n; below 2^n
+abbrev pub operandFits : {a : Arity} → FunctionRank a → ℕ → ℕ → Bool
+operandFits boolUnary n v = fits 0 v
+operandFits boolBinary n v = fits 0 v
+operandFits equality n v = fits n v
+operandFits bvUnary n v = ltb v (2 ^ n)
+operandFits bvBinary n v = ltb v (2 ^ n)
+operandFits bvCompare n v = ltb v (2 ^ n)
+
+-- both operands, where there are two
+abbrev pub OperandsFit : (a : Arity) → FunctionRank a → ℕ → ℕ → ℕ → Type 0
+OperandsFit one r n x y = operandFits r n x ≡ true
+OperandsFit two r n x y = (operandFits r n x ≡ true) × (operandFits r n y ≡ true)
+
+-- Where one operand settles the result, the other cannot change it, whichever value of its sort it takes (source 004: R-absorption).
 pub record Absorbs (f : Function) (n : ℕ) : Type 0 where
-  pub by-first : (x y y′ : ℕ) → first (operation f) n x ≡ true → valueOf f n x y ≡ valueOf f n x y′
-  pub by-second : (x x′ y : ℕ) → second (operation f) n y ≡ true → valueOf f n x y ≡ valueOf f n x′ y
+  pub by-first : (x y y′ : ℕ) → operandFits (functionRank f) n y ≡ true → operandFits (functionRank f) n y′ ≡ true
+      → first (operation f) n x ≡ true → valueOf f n x y ≡ valueOf f n x y′
+  pub by-second : (x x′ y : ℕ) → operandFits (functionRank f) n x ≡ true → operandFits (functionRank f) n x′ ≡ true
+      → second (operation f) n y ≡ true → valueOf f n x y ≡ valueOf f n x′ y
 
 abbrev pub Absorption : Type 0
 Absorption = (f : Function) (n : ℕ) → Absorbs f n
+
+-- Of less these are all: a value of the first operand that settles it is all ones, one of the second is 0.
+pub record OnlyBounds (n u : ℕ) : Type 0 where
+  pub as-first : ((y y′ : ℕ) → y < 2 ^ n → y′ < 2 ^ n → valueOf BvUlt n u y ≡ valueOf BvUlt n u y′) → u ≡ ones n
+  pub as-second : ((x x′ : ℕ) → x < 2 ^ n → x′ < 2 ^ n → valueOf BvUlt n x u ≡ valueOf BvUlt n x′ u) → u ≡ 0
+
+abbrev pub LessSettled : Type 0
+LessSettled = (n u : ℕ) → u < 2 ^ n → OnlyBounds n u
 
 -- Two runs agree on a term: one condition, and where it is true one value.
 pub record Agree (c c′ : Bool) (x x′ : ℕ) : Type 0 where
   pub condition : c ≡ c′
   pub value : c ≡ true → x ≡ x′
 
--- Two runs that agree on the operands agree on the result.
+-- Two runs that agree on the operands of a function, whose values fit, agree on the result.
 abbrev pub Independence : Type 0
 Independence =
-    (op : Op) (n x x′ y y′ z z′ : ℕ) (c c′ d d′ e e′ : Bool) → Agree c c′ x x′ → Agree d d′ y y′ → Agree e e′ z z′
-    → Agree (settles op n x y z c d e) (settles op n x′ y′ z′ c′ d′ e′) (apply op n x y z) (apply op n x′ y′ z′)
+    (f : Function) (n x x′ y y′ : ℕ) (c c′ d d′ : Bool)
+    → OperandsFit (arity (operation f)) (functionRank f) n x y → OperandsFit (arity (operation f)) (functionRank f) n x′ y′
+    → Agree c c′ x x′ → Agree d d′ y y′
+    → Agree (conditionOf f n x y c d) (conditionOf f n x′ y′ c′ d′) (valueOf f n x y) (valueOf f n x′ y′)
 
--- The same of a choice whose test is any truth, one in both runs where its condition is true.
+-- The same of a choice whose test is any truth, one in both runs where its condition is true; nothing is asked of the values.
 abbrev pub ChoiceIndependence : Type 0
 ChoiceIndependence =
     (test test′ : Bool) (y y′ z z′ : ℕ) (c c′ d d′ e e′ : Bool) → c ≡ c′ → (c ≡ true → test ≡ test′) → Agree d d′ y y′ → Agree e e′ z z′

@@ -45,7 +45,8 @@ operation BvOr = absorbing (λ n x y. bitOr x y % 2 ^ n) (λ n x. eqb x (ones n)
 operation BvAdd = strict (λ n x y. (x + y) % 2 ^ n)
 operation BvMul = absorbing (λ n x y. (x * y) % 2 ^ n) (λ n x. eqb x 0) (λ n y. eqb y 0)
 operation BvShl = shift (λ n x y. (x * 2 ^ y) % 2 ^ n) (λ n y. leb n y)
-operation BvUlt = strict (λ n x y. bit (ltb x y))
+-- nothing is above all ones, nothing below 0
+operation BvUlt = absorbing (λ n x y. bit (ltb x y)) (λ n x. eqb x (ones n)) (λ n y. eqb y 0)
 
 abbrev pub valueBy : Operation → ℕ → ℕ → ℕ → ℕ
 valueBy (unary f) n x y = f n x

@@ -182,7 +182,7 @@ fn condition_of(f: Function, n: u32, x: u32, y: u32, c: bool, d: bool) -> bool
         Function::BvAdd => c & d,
         Function::BvMul => absorbed(c, x == 0, d, y == 0),
         Function::BvShl => shifted(c, d, n <= y),
-        Function::BvUlt => c & d,
+        Function::BvUlt => absorbed(c, all_ones(n, x), d, y == 0),
     }
 }
 

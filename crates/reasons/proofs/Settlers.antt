@@ -37,16 +37,17 @@ unfolding settles
 settling-settles n h =
     let zero-or-one : (op : ℕ) (second : Bool) → (by op second n 0 || by op second n 1) ≡ true → by op second n (firstOf (by op second n) n) ≡ true =
     λ op second e. first-does (by op second n) n h (rw e) in
-    let all-ones : (second : Bool) → by 10 second n (ones n) ≡ true → by 10 second n (firstOf (by 10 second n) n) ≡ true =
-    λ second e. first-does (by 10 second n) n h (rw e (or-open ((by 10 second n 0 || by 10 second n 1) || by 10 second n n))) in
+    let all-ones : (op : ℕ) (second : Bool) → by op second n (ones n) ≡ true → by op second n (firstOf (by op second n) n) ≡ true =
+    λ op second e. first-does (by op second n) n h (rw e (or-open ((by op second n 0 || by op second n 1) || by op second n n))) in
     let width : by 13 true n n ≡ true = rw (le-leb n n (le-refl n)) in
     both _ _ (both _ _ (zero-or-one 3 false refl) (zero-or-one 3 true refl))
     (both _ _ (both _ _ (zero-or-one 4 false refl) (zero-or-one 4 true refl))
     (both _ _ (both _ _ (zero-or-one 5 false refl) (zero-or-one 5 true refl))
     (both _ _ (both _ _ (zero-or-one 9 false refl) (zero-or-one 9 true refl))
-    (both _ _ (both _ _ (all-ones false (rw (eq-eqb (ones n) (ones n) refl))) (all-ones true (rw (eq-eqb (ones n) (ones n) refl))))
+    (both _ _ (both _ _ (all-ones 10 false (rw (eq-eqb (ones n) (ones n) refl))) (all-ones 10 true (rw (eq-eqb (ones n) (ones n) refl))))
     (both _ _ (both _ _ (zero-or-one 12 false refl) (zero-or-one 12 true refl))
-    (first-does (by 13 true n) n h (rw (width, or-open (by 13 true n 0 || by 13 true n 1)))))))))
+    (both _ _ (both _ _ (all-ones 14 false (rw (eq-eqb (ones n) (ones n) refl))) (zero-or-one 14 true refl))
+    (first-does (by 13 true n) n h (rw (width, or-open (by 13 true n 0 || by 13 true n 1))))))))))
 
 -- The code, way by way
 

@@ -24,8 +24,9 @@ settled op second n = wouldSettle (opOf op) n (settlingValue op second n) second
 abbrev pub either : ℕ → ℕ → Bool
 either op n = settled op false n && settled op true n
 
--- What the program names does settle: and, or, implies, vector and, vector or and the product, by either operand; the shift by its second.
+-- What the program names does settle: and, or, implies, vector and, vector or, the product and less, by either operand; the shift by its
+-- second.
 abbrev pub SettlingSettles : Type 0
 SettlingSettles =
     (n : ℕ) → n ≤ 32
-    → (either 3 n && (either 4 n && (either 5 n && (either 9 n && (either 10 n && (either 12 n && settled 13 true n)))))) ≡ true
+    → (either 3 n && (either 4 n && (either 5 n && (either 9 n && (either 10 n && (either 12 n && (either 14 n && settled 13 true n))))))) ≡ true

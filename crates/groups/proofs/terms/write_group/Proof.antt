@@ -1,97 +1,150 @@
 use Prim.Native.Nat.{ℕ}
-use mathlib.Core.Path.{refl, ap, ap₂, _∙_}
+use mathlib.Core.Path.{_≡_, refl, ap, _∙_}
+use mathlib.Core.List.{List}
+use native.Mathlib.Nat.{le-trans}
+use lib.Dec.{lit≤}
+use Rattle.table.specs.declared.words.Term.{Term}
 use Rattle.ops.specs.Meaning.{ones}
-use Rattle.groups.specs.declared.kinds.GroupKind.the-variants.{Literal, Input, Unary, Strict, Conjunction, Disjunction, Implication, Zero, Ones, Shift, Choice, Read, Write}
-use Rattle.groups.specs.Groups.{strictGroup, andGroup, orGroup, impliesGroup, absorbingGroup, shiftGroup, choiceGroup}
+use Rattle.table.specs.Terms.{sortAt}
+use Rattle.groups.specs.declared.kinds.GroupKind.the-variants.{Literal, Input, Unary, Strict, Conjunction, Disjunction, Implication, Zero, Ones, Bounds, Shift, Choice, Read, Write}
+use Rattle.groups.specs.Groups.{strictGroup, andGroup, orGroup, impliesGroup, absorbingGroup, boundsGroup, shiftGroup}
 use Rattle.groups.specs.Plans.{planBy}
-use Rattle.groups.proofs.TermGroups.{before, number-in, grows, stays, read-below, read-is, width-most}
+use Rattle.groups.proofs.TermGroups.{Here, both-are, grows, binary, stays, unary-is, choice-is, read-below, read-is, width-most}
 use borrow.Author.Needs.{needs}
 use Rattle.groups.proofs.terms.write_group.Statement.{statement}
 use Rattle.groups.proofs.terms.write_group.Tie as tie
 
+-- what is known once the term's kind is: d
+abbrev start : tie.After-kind-of → tie.Start
+start d = d .before .before .before .before .before .before .before
+
+here : (d : tie.After-kind-of) → Here (start d .args .table .now) (start d .args .conditions .now) (start d .args .b) (start d .args .i) (start d .args .yes) (d .before .before .before .term-at .result) (d .kind-of .result)
+here d =
+    let s = start d in
+    record {
+      formed = s .pre .0;
+      numbered = s .pre .1 .0;
+      all = s .pre .1 .1 .0 .0;
+      inside = s .pre .1 .1 .0 .1 .0;
+      yes-is = s .pre .1 .1 .0 .1 .1;
+      b-is = s .pre .1 .1 .1 .0;
+      is = d .before .before .before .term-at .ensures;
+      kind-is = d .kind-of .ensures;
+    }
+
 ones-requires : tie.Need-ones-requires
-ones-requires c κs = let s = c .before .before .before .before .before .before .before .before .before .before in width-most (s .args .table .now) (s .args .conditions .now) (s .pre .0) (s .pre .1 .0) (s .args .b) (s .args .i) (s .args .yes) (s .pre .1 .1 .0 .0) (s .pre .1 .1 .0 .1 .0) (s .pre .1 .1 .0 .1 .1) (s .pre .1 .1 .1 .0) (c .before .before .before .before .before .before .term-at .result) (c .before .before .before .before .before .before .term-at .ensures) (c .before .before .before .kind-of .result) (c .before .before .before .kind-of .ensures)
+ones-requires c κs = width-most (here (c .before .before .before))
+
+less-requires : tie.Need-less-requires
+less-requires c κs = let s = start (c .before .before .before) in (s .pre .0, le-trans (s .pre .1 .1 .1 .1) (lit≤ tt))
 
 read-group-requires : tie.Need-read-group-requires
-read-group-requires c κs = let s = c .before .before .before .before .before .before .before .before .before .before in (s .pre .0, (s .pre .1 .0, (read-below (s .args .table .now) (s .args .conditions .now) (s .pre .0) (s .pre .1 .0) (s .args .b) (s .args .i) (s .args .yes) (s .pre .1 .1 .0 .0) (s .pre .1 .1 .0 .1 .0) (s .pre .1 .1 .0 .1 .1) (s .pre .1 .1 .1 .0) (c .before .before .before .before .before .before .term-at .result) (c .before .before .before .before .before .before .term-at .ensures) (c .before .before .before .kind-of .result) (c .before .before .before .kind-of .ensures) (c .before .enum-told12 .given .1), s .pre .1 .1 .1 .1)))
+read-group-requires c κs = let d = c .before .before .before in let s = start d in (s .pre .0, (s .pre .1 .0, (read-below (here d) (c .before .enum-told13 .given .1), s .pre .1 .1 .1 .1)))
 
 returns : tie.Need-returns
 unfolding planBy
-returns c =
-    let s = c .before .before .before .before .before .before .before .before .before .before in let x = c .before .before .before .before .before .before .term-at .result in let p = c .before .before .before .before .before .number-at .ensures in let q = c .before .before .before .before .number-at2 .ensures in let in-is = number-in (s .args .table .now) (s .args .conditions .now) (s .pre .0) (s .pre .1 .0) (s .args .b) (s .args .i) (s .args .yes) (s .pre .1 .1 .0 .0) (s .pre .1 .1 .0 .1 .0) (s .pre .1 .1 .0 .1 .1) (s .pre .1 .1 .1 .0) (c .before .before .before .before .before .before .term-at .result) (c .before .before .before .before .before .before .term-at .ensures) (c .before .before .before .kind-of .result) (c .before .before .before .kind-of .ensures) in
-    stays (s .args .table .now) (s .args .conditions .now) (s .pre .0) (s .pre .1 .0) (s .args .b) (s .args .i) (s .args .yes) (s .pre .1 .1 .0 .0) (s .pre .1 .1 .0 .1 .0) (s .pre .1 .1 .0 .1 .1) (s .pre .1 .1 .1 .0) (c .before .before .before .before .before .before .term-at .result) (c .before .before .before .before .before .before .term-at .ensures) (c .before .before .before .kind-of .result) (c .before .before .before .kind-of .ensures) Literal (c .before .enum-told .given .1) refl _ refl (c .taken .result) (s .args .room .now) (c .taken .ensures)
+returns c = let d = c .before .before .before in stays (here d) Literal (c .before .enum-told .given .1) refl refl (start d .args .room .now) (c .taken .ensures)
 
 returns-2 : tie.Need-returns-2
 unfolding planBy
-returns-2 c =
-    let s = c .before .before .before .before .before .before .before .before .before .before .before in let x = c .before .before .before .before .before .before .before .term-at .result in let p = c .before .before .before .before .before .before .number-at .ensures in let q = c .before .before .before .before .before .number-at2 .ensures in let in-is = number-in (s .args .table .now) (s .args .conditions .now) (s .pre .0) (s .pre .1 .0) (s .args .b) (s .args .i) (s .args .yes) (s .pre .1 .1 .0 .0) (s .pre .1 .1 .0 .1 .0) (s .pre .1 .1 .0 .1 .1) (s .pre .1 .1 .1 .0) (c .before .before .before .before .before .before .before .term-at .result) (c .before .before .before .before .before .before .before .term-at .ensures) (c .before .before .before .before .kind-of .result) (c .before .before .before .before .kind-of .ensures) in
-    stays (s .args .table .now) (s .args .conditions .now) (s .pre .0) (s .pre .1 .0) (s .args .b) (s .args .i) (s .args .yes) (s .pre .1 .1 .0 .0) (s .pre .1 .1 .0 .1 .0) (s .pre .1 .1 .0 .1 .1) (s .pre .1 .1 .1 .0) (c .before .before .before .before .before .before .before .term-at .result) (c .before .before .before .before .before .before .before .term-at .ensures) (c .before .before .before .before .kind-of .result) (c .before .before .before .before .kind-of .ensures) Input (c .before .before .enum-told2 .given .1) refl _ (c .before .input .ensures) (c .taken2 .result) (s .args .room .now) (c .taken2 .ensures)
+returns-2 c = let d = c .before .before .before .before in stays (here d) Input (c .before .before .enum-told2 .given .1) refl (c .before .input .ensures) (start d .args .room .now) (c .taken2 .ensures)
 
 returns-3 : tie.Need-returns-3
 unfolding planBy
-returns-3 c =
-    let s = c .before .before .before .before .before .before .before .before .before .before in let x = c .before .before .before .before .before .before .term-at .result in let p = c .before .before .before .before .before .number-at .ensures in let q = c .before .before .before .before .number-at2 .ensures in let in-is = number-in (s .args .table .now) (s .args .conditions .now) (s .pre .0) (s .pre .1 .0) (s .args .b) (s .args .i) (s .args .yes) (s .pre .1 .1 .0 .0) (s .pre .1 .1 .0 .1 .0) (s .pre .1 .1 .0 .1 .1) (s .pre .1 .1 .1 .0) (c .before .before .before .before .before .before .term-at .result) (c .before .before .before .before .before .before .term-at .ensures) (c .before .before .before .kind-of .result) (c .before .before .before .kind-of .ensures) in
-    stays (s .args .table .now) (s .args .conditions .now) (s .pre .0) (s .pre .1 .0) (s .args .b) (s .args .i) (s .args .yes) (s .pre .1 .1 .0 .0) (s .pre .1 .1 .0 .1 .0) (s .pre .1 .1 .0 .1 .1) (s .pre .1 .1 .1 .0) (c .before .before .before .before .before .before .term-at .result) (c .before .before .before .before .before .before .term-at .ensures) (c .before .before .before .kind-of .result) (c .before .before .before .kind-of .ensures) Unary (c .before .enum-told3 .given .1) refl _ (p ∙ in-is (x .p)) (c .taken3 .result) (s .args .room .now) (c .taken3 .ensures)
+returns-3 c = let d = c .before .before .before in stays (here d) Unary (c .before .enum-told3 .given .1) refl (unary-is (here d) (d .before .before .number-at .ensures)) (start d .args .room .now) (c .taken3 .ensures)
 
 returns-4 : tie.Need-returns-4
 unfolding planBy
 returns-4 c =
-    let s = c .before .before .before .before .before .before .before .before .before .before .before .before .before in let x = c .before .before .before .before .before .before .before .before .before .term-at .result in let p = c .before .before .before .before .before .before .before .before .number-at .ensures in let q = c .before .before .before .before .before .before .before .number-at2 .ensures in let in-is = number-in (s .args .table .now) (s .args .conditions .now) (s .pre .0) (s .pre .1 .0) (s .args .b) (s .args .i) (s .args .yes) (s .pre .1 .1 .0 .0) (s .pre .1 .1 .0 .1 .0) (s .pre .1 .1 .0 .1 .1) (s .pre .1 .1 .1 .0) (c .before .before .before .before .before .before .before .before .before .term-at .result) (c .before .before .before .before .before .before .before .before .before .term-at .ensures) (c .before .before .before .before .before .before .kind-of .result) (c .before .before .before .before .before .before .kind-of .ensures) in
-    grows (s .args .table .now) (s .args .conditions .now) (s .pre .0) (s .pre .1 .0) (s .args .b) (s .args .i) (s .args .yes) (s .pre .1 .1 .0 .0) (s .pre .1 .1 .0 .1 .0) (s .pre .1 .1 .0 .1 .1) (s .pre .1 .1 .1 .0) (c .before .before .before .before .before .before .before .before .before .term-at .result) (c .before .before .before .before .before .before .before .before .before .term-at .ensures) (c .before .before .before .before .before .before .kind-of .result) (c .before .before .before .before .before .before .kind-of .ensures) Strict (c .before .before .before .before .enum-told4 .given .1) _ (ap₂ (λ (m n : ℕ). strictGroup m n) (p ∙ in-is (x .p)) (q ∙ in-is (x .q))) refl (c .before .before .strict .result) (s .args .room .now) (c .before .before .strict .last .0) (c .before .before .strict .ensures)
+    let d = c .before .before .before .before .before .before in
+    let s = start d in
+    let x = d .before .before .before .term-at .result in
+    binary (here d) Strict (c .before .before .before .before .enum-told4 .given .1) (λ m n. strictGroup m n) refl refl
+    (d .before .before .number-at .ensures) (d .before .number-at2 .ensures) (s .args .room .now) (c .before .before .strict .ensures)
 
 returns-5 : tie.Need-returns-5
 unfolding planBy
 returns-5 c =
-    let s = c .before .before .before .before .before .before .before .before .before .before .before .before .before in let x = c .before .before .before .before .before .before .before .before .before .term-at .result in let p = c .before .before .before .before .before .before .before .before .number-at .ensures in let q = c .before .before .before .before .before .before .before .number-at2 .ensures in let in-is = number-in (s .args .table .now) (s .args .conditions .now) (s .pre .0) (s .pre .1 .0) (s .args .b) (s .args .i) (s .args .yes) (s .pre .1 .1 .0 .0) (s .pre .1 .1 .0 .1 .0) (s .pre .1 .1 .0 .1 .1) (s .pre .1 .1 .1 .0) (c .before .before .before .before .before .before .before .before .before .term-at .result) (c .before .before .before .before .before .before .before .before .before .term-at .ensures) (c .before .before .before .before .before .before .kind-of .result) (c .before .before .before .before .before .before .kind-of .ensures) in
-    grows (s .args .table .now) (s .args .conditions .now) (s .pre .0) (s .pre .1 .0) (s .args .b) (s .args .i) (s .args .yes) (s .pre .1 .1 .0 .0) (s .pre .1 .1 .0 .1 .0) (s .pre .1 .1 .0 .1 .1) (s .pre .1 .1 .1 .0) (c .before .before .before .before .before .before .before .before .before .term-at .result) (c .before .before .before .before .before .before .before .before .before .term-at .ensures) (c .before .before .before .before .before .before .kind-of .result) (c .before .before .before .before .before .before .kind-of .ensures) Conjunction (c .before .before .before .before .enum-told5 .given .1) _ (ap₂ (λ (m n : ℕ). andGroup (s .args .b) (x .p) (x .q) m n) (p ∙ in-is (x .p)) (q ∙ in-is (x .q))) refl (c .before .before .conjunction .result) (s .args .room .now) (c .before .before .conjunction .last .0) (c .before .before .conjunction .ensures)
+    let d = c .before .before .before .before .before .before in
+    let s = start d in
+    let x = d .before .before .before .term-at .result in
+    binary (here d) Conjunction (c .before .before .before .before .enum-told5 .given .1) (λ m n. andGroup (s .args .b) (x .p) (x .q) m n) refl refl
+    (d .before .before .number-at .ensures) (d .before .number-at2 .ensures) (s .args .room .now) (c .before .before .conjunction .ensures)
 
 returns-6 : tie.Need-returns-6
 unfolding planBy
 returns-6 c =
-    let s = c .before .before .before .before .before .before .before .before .before .before .before .before .before in let x = c .before .before .before .before .before .before .before .before .before .term-at .result in let p = c .before .before .before .before .before .before .before .before .number-at .ensures in let q = c .before .before .before .before .before .before .before .number-at2 .ensures in let in-is = number-in (s .args .table .now) (s .args .conditions .now) (s .pre .0) (s .pre .1 .0) (s .args .b) (s .args .i) (s .args .yes) (s .pre .1 .1 .0 .0) (s .pre .1 .1 .0 .1 .0) (s .pre .1 .1 .0 .1 .1) (s .pre .1 .1 .1 .0) (c .before .before .before .before .before .before .before .before .before .term-at .result) (c .before .before .before .before .before .before .before .before .before .term-at .ensures) (c .before .before .before .before .before .before .kind-of .result) (c .before .before .before .before .before .before .kind-of .ensures) in
-    grows (s .args .table .now) (s .args .conditions .now) (s .pre .0) (s .pre .1 .0) (s .args .b) (s .args .i) (s .args .yes) (s .pre .1 .1 .0 .0) (s .pre .1 .1 .0 .1 .0) (s .pre .1 .1 .0 .1 .1) (s .pre .1 .1 .1 .0) (c .before .before .before .before .before .before .before .before .before .term-at .result) (c .before .before .before .before .before .before .before .before .before .term-at .ensures) (c .before .before .before .before .before .before .kind-of .result) (c .before .before .before .before .before .before .kind-of .ensures) Disjunction (c .before .before .before .before .enum-told6 .given .1) _ (ap₂ (λ (m n : ℕ). orGroup (s .args .b) (x .p) (x .q) m n) (p ∙ in-is (x .p)) (q ∙ in-is (x .q))) refl (c .before .before .disjunction .result) (s .args .room .now) (c .before .before .disjunction .last .0) (c .before .before .disjunction .ensures)
+    let d = c .before .before .before .before .before .before in
+    let s = start d in
+    let x = d .before .before .before .term-at .result in
+    binary (here d) Disjunction (c .before .before .before .before .enum-told6 .given .1) (λ m n. orGroup (s .args .b) (x .p) (x .q) m n) refl refl
+    (d .before .before .number-at .ensures) (d .before .number-at2 .ensures) (s .args .room .now) (c .before .before .disjunction .ensures)
 
 returns-7 : tie.Need-returns-7
 unfolding planBy
 returns-7 c =
-    let s = c .before .before .before .before .before .before .before .before .before .before .before .before .before in let x = c .before .before .before .before .before .before .before .before .before .term-at .result in let p = c .before .before .before .before .before .before .before .before .number-at .ensures in let q = c .before .before .before .before .before .before .before .number-at2 .ensures in let in-is = number-in (s .args .table .now) (s .args .conditions .now) (s .pre .0) (s .pre .1 .0) (s .args .b) (s .args .i) (s .args .yes) (s .pre .1 .1 .0 .0) (s .pre .1 .1 .0 .1 .0) (s .pre .1 .1 .0 .1 .1) (s .pre .1 .1 .1 .0) (c .before .before .before .before .before .before .before .before .before .term-at .result) (c .before .before .before .before .before .before .before .before .before .term-at .ensures) (c .before .before .before .before .before .before .kind-of .result) (c .before .before .before .before .before .before .kind-of .ensures) in
-    grows (s .args .table .now) (s .args .conditions .now) (s .pre .0) (s .pre .1 .0) (s .args .b) (s .args .i) (s .args .yes) (s .pre .1 .1 .0 .0) (s .pre .1 .1 .0 .1 .0) (s .pre .1 .1 .0 .1 .1) (s .pre .1 .1 .1 .0) (c .before .before .before .before .before .before .before .before .before .term-at .result) (c .before .before .before .before .before .before .before .before .before .term-at .ensures) (c .before .before .before .before .before .before .kind-of .result) (c .before .before .before .before .before .before .kind-of .ensures) Implication (c .before .before .before .before .enum-told7 .given .1) _ (ap₂ (λ (m n : ℕ). impliesGroup (s .args .b) (x .p) (x .q) m n) (p ∙ in-is (x .p)) (q ∙ in-is (x .q))) refl (c .before .before .implication .result) (s .args .room .now) (c .before .before .implication .last .0) (c .before .before .implication .ensures)
+    let d = c .before .before .before .before .before .before in
+    let s = start d in
+    let x = d .before .before .before .term-at .result in
+    binary (here d) Implication (c .before .before .before .before .enum-told7 .given .1) (λ m n. impliesGroup (s .args .b) (x .p) (x .q) m n) refl refl
+    (d .before .before .number-at .ensures) (d .before .number-at2 .ensures) (s .args .room .now) (c .before .before .implication .ensures)
 
 returns-8 : tie.Need-returns-8
 unfolding planBy
 returns-8 c =
-    let s = c .before .before .before .before .before .before .before .before .before .before .before .before .before in let x = c .before .before .before .before .before .before .before .before .before .term-at .result in let p = c .before .before .before .before .before .before .before .before .number-at .ensures in let q = c .before .before .before .before .before .before .before .number-at2 .ensures in let in-is = number-in (s .args .table .now) (s .args .conditions .now) (s .pre .0) (s .pre .1 .0) (s .args .b) (s .args .i) (s .args .yes) (s .pre .1 .1 .0 .0) (s .pre .1 .1 .0 .1 .0) (s .pre .1 .1 .0 .1 .1) (s .pre .1 .1 .1 .0) (c .before .before .before .before .before .before .before .before .before .term-at .result) (c .before .before .before .before .before .before .before .before .before .term-at .ensures) (c .before .before .before .before .before .before .kind-of .result) (c .before .before .before .before .before .before .kind-of .ensures) in
-    grows (s .args .table .now) (s .args .conditions .now) (s .pre .0) (s .pre .1 .0) (s .args .b) (s .args .i) (s .args .yes) (s .pre .1 .1 .0 .0) (s .pre .1 .1 .0 .1 .0) (s .pre .1 .1 .0 .1 .1) (s .pre .1 .1 .1 .0) (c .before .before .before .before .before .before .before .before .before .term-at .result) (c .before .before .before .before .before .before .before .before .before .term-at .ensures) (c .before .before .before .before .before .before .kind-of .result) (c .before .before .before .before .before .before .kind-of .ensures) Zero (c .before .before .before .before .enum-told8 .given .1) _ (ap₂ (λ (m n : ℕ). absorbingGroup (s .args .b) (x .sort .n) 0 (x .p) (x .q) m n) (p ∙ in-is (x .p)) (q ∙ in-is (x .q))) refl (c .before .before .absorbing .result) (s .args .room .now) (c .before .before .absorbing .last .0) (c .before .before .absorbing .ensures)
+    let d = c .before .before .before .before .before .before in
+    let s = start d in
+    let x = d .before .before .before .term-at .result in
+    binary (here d) Zero (c .before .before .before .before .enum-told8 .given .1) (λ m n. absorbingGroup (s .args .b) (x .sort .n) 0 (x .p) (x .q) m n) refl refl
+    (d .before .before .number-at .ensures) (d .before .number-at2 .ensures) (s .args .room .now) (c .before .before .absorbing .ensures)
 
 returns-9 : tie.Need-returns-9
 unfolding planBy
 returns-9 c =
-    let s = c .before .before .before .before .before .before .before .before .before .before .before .before .before .before in let x = c .before .before .before .before .before .before .before .before .before .before .term-at .result in let p = c .before .before .before .before .before .before .before .before .before .number-at .ensures in let q = c .before .before .before .before .before .before .before .before .number-at2 .ensures in let in-is = number-in (s .args .table .now) (s .args .conditions .now) (s .pre .0) (s .pre .1 .0) (s .args .b) (s .args .i) (s .args .yes) (s .pre .1 .1 .0 .0) (s .pre .1 .1 .0 .1 .0) (s .pre .1 .1 .0 .1 .1) (s .pre .1 .1 .1 .0) (c .before .before .before .before .before .before .before .before .before .before .term-at .result) (c .before .before .before .before .before .before .before .before .before .before .term-at .ensures) (c .before .before .before .before .before .before .before .kind-of .result) (c .before .before .before .before .before .before .before .kind-of .ensures) in
-    grows (s .args .table .now) (s .args .conditions .now) (s .pre .0) (s .pre .1 .0) (s .args .b) (s .args .i) (s .args .yes) (s .pre .1 .1 .0 .0) (s .pre .1 .1 .0 .1 .0) (s .pre .1 .1 .0 .1 .1) (s .pre .1 .1 .1 .0) (c .before .before .before .before .before .before .before .before .before .before .term-at .result) (c .before .before .before .before .before .before .before .before .before .before .term-at .ensures) (c .before .before .before .before .before .before .before .kind-of .result) (c .before .before .before .before .before .before .before .kind-of .ensures) Ones (c .before .before .before .before .before .enum-told9 .given .1) _ (ap (λ (v : ℕ). absorbingGroup (s .args .b) (x .sort .n) v (x .p) (x .q) (c .before .before .before .before .before .before .before .before .before .number-at .result) (c .before .before .before .before .before .before .before .before .number-at2 .result)) (c .before .before .before .ones .ensures) ∙ ap₂ (λ (m n : ℕ). absorbingGroup (s .args .b) (x .sort .n) (ones (x .sort .n)) (x .p) (x .q) m n) (p ∙ in-is (x .p)) (q ∙ in-is (x .q))) refl (c .before .before .absorbing2 .result) (s .args .room .now) (c .before .before .absorbing2 .last .0) (c .before .before .absorbing2 .ensures)
+    let d = c .before .before .before .before .before .before .before in
+    let s = start d in
+    let x = d .before .before .before .term-at .result in
+    let group : ℕ → ℕ → ℕ → List Term = λ v m n. absorbingGroup (s .args .b) (x .sort .n) v (x .p) (x .q) m n in
+    grows (here d) Ones (c .before .before .before .before .before .enum-told9 .given .1)
+    (ap (λ (v : ℕ). group v (d .before .before .number-at .result) (d .before .number-at2 .result)) (c .before .before .before .ones .ensures)
+    ∙ both-are (here d) (group (ones (x .sort .n))) (d .before .before .number-at .ensures) (d .before .number-at2 .ensures)) refl
+    (s .args .room .now) (c .before .before .absorbing2 .ensures)
 
 returns-10 : tie.Need-returns-10
 unfolding planBy
 returns-10 c =
-    let s = c .before .before .before .before .before .before .before .before .before .before .before .before .before in let x = c .before .before .before .before .before .before .before .before .before .term-at .result in let p = c .before .before .before .before .before .before .before .before .number-at .ensures in let q = c .before .before .before .before .before .before .before .number-at2 .ensures in let in-is = number-in (s .args .table .now) (s .args .conditions .now) (s .pre .0) (s .pre .1 .0) (s .args .b) (s .args .i) (s .args .yes) (s .pre .1 .1 .0 .0) (s .pre .1 .1 .0 .1 .0) (s .pre .1 .1 .0 .1 .1) (s .pre .1 .1 .1 .0) (c .before .before .before .before .before .before .before .before .before .term-at .result) (c .before .before .before .before .before .before .before .before .before .term-at .ensures) (c .before .before .before .before .before .before .kind-of .result) (c .before .before .before .before .before .before .kind-of .ensures) in
-    grows (s .args .table .now) (s .args .conditions .now) (s .pre .0) (s .pre .1 .0) (s .args .b) (s .args .i) (s .args .yes) (s .pre .1 .1 .0 .0) (s .pre .1 .1 .0 .1 .0) (s .pre .1 .1 .0 .1 .1) (s .pre .1 .1 .1 .0) (c .before .before .before .before .before .before .before .before .before .term-at .result) (c .before .before .before .before .before .before .before .before .before .term-at .ensures) (c .before .before .before .before .before .before .kind-of .result) (c .before .before .before .before .before .before .kind-of .ensures) Shift (c .before .before .before .before .enum-told10 .given .1) _ (ap₂ (λ (m n : ℕ). shiftGroup (s .args .b) (x .sort .n) (x .q) m n) (p ∙ in-is (x .p)) (q ∙ in-is (x .q))) refl (c .before .before .shift .result) (s .args .room .now) (c .before .before .shift .last .0) (c .before .before .shift .ensures)
+    let d = c .before .before .before .before .before .before in
+    let s = start d in
+    let x = d .before .before .before .term-at .result in
+    binary (here d) Bounds (c .before .before .before .before .enum-told10 .given .1) (λ m n. boundsGroup (s .args .b) (sortAt (s .args .table .now) (x .p) .n) (ones (sortAt (s .args .table .now) (x .p) .n)) 0 (x .p) (x .q) m n n) refl refl
+    (d .before .before .number-at .ensures) (d .before .number-at2 .ensures) (s .args .room .now) (c .before .before .less .ensures)
 
 returns-11 : tie.Need-returns-11
 unfolding planBy
 returns-11 c =
-    let s = c .before .before .before .before .before .before .before .before .before .before .before .before .before .before in let x = c .before .before .before .before .before .before .before .before .before .before .term-at .result in let p = c .before .before .before .before .before .before .before .before .before .number-at .ensures in let q = c .before .before .before .before .before .before .before .before .number-at2 .ensures in let in-is = number-in (s .args .table .now) (s .args .conditions .now) (s .pre .0) (s .pre .1 .0) (s .args .b) (s .args .i) (s .args .yes) (s .pre .1 .1 .0 .0) (s .pre .1 .1 .0 .1 .0) (s .pre .1 .1 .0 .1 .1) (s .pre .1 .1 .1 .0) (c .before .before .before .before .before .before .before .before .before .before .term-at .result) (c .before .before .before .before .before .before .before .before .before .before .term-at .ensures) (c .before .before .before .before .before .before .before .kind-of .result) (c .before .before .before .before .before .before .before .kind-of .ensures) in
-    grows (s .args .table .now) (s .args .conditions .now) (s .pre .0) (s .pre .1 .0) (s .args .b) (s .args .i) (s .args .yes) (s .pre .1 .1 .0 .0) (s .pre .1 .1 .0 .1 .0) (s .pre .1 .1 .0 .1 .1) (s .pre .1 .1 .1 .0) (c .before .before .before .before .before .before .before .before .before .before .term-at .result) (c .before .before .before .before .before .before .before .before .before .before .term-at .ensures) (c .before .before .before .before .before .before .before .kind-of .result) (c .before .before .before .before .before .before .before .kind-of .ensures) Choice (c .before .before .before .before .before .enum-told11 .given .1) _ (ap (λ (m : ℕ). choiceGroup (s .args .b) (x .p) (x .q) (x .r) (c .before .before .before .before .before .before .before .before .before .number-at .result) (c .before .before .before .before .before .before .before .before .number-at2 .result) m) (c .before .before .before .number-at3 .ensures ∙ in-is (x .r)) ∙ ap₂ (λ (m n : ℕ). choiceGroup (s .args .b) (x .p) (x .q) (x .r) m n (before (s .args .table .now) (s .args .conditions .now) (s .pre .0) (s .pre .1 .0) (s .args .b) (s .args .i) (s .args .yes) (s .pre .1 .1 .0 .0) (s .pre .1 .1 .0 .1 .0) (s .pre .1 .1 .0 .1 .1) (s .pre .1 .1 .1 .0) (c .before .before .before .before .before .before .before .before .before .before .term-at .result) (c .before .before .before .before .before .before .before .before .before .before .term-at .ensures) (c .before .before .before .before .before .before .before .kind-of .result) (c .before .before .before .before .before .before .before .kind-of .ensures) (x .r) .condition)) (p ∙ in-is (x .p)) (q ∙ in-is (x .q))) refl (c .before .before .choice .result) (s .args .room .now) (c .before .before .choice .last .0) (c .before .before .choice .ensures)
+    let d = c .before .before .before .before .before .before in
+    let s = start d in
+    let x = d .before .before .before .term-at .result in
+    binary (here d) Shift (c .before .before .before .before .enum-told11 .given .1) (λ m n. shiftGroup (s .args .b) (x .sort .n) (x .q) m n) refl refl
+    (d .before .before .number-at .ensures) (d .before .number-at2 .ensures) (s .args .room .now) (c .before .before .shift .ensures)
 
 returns-12 : tie.Need-returns-12
 unfolding planBy
 returns-12 c =
-    let s = c .before .before .before .before .before .before .before .before .before .before .before .before .before in let x = c .before .before .before .before .before .before .before .before .before .term-at .result in let p = c .before .before .before .before .before .before .before .before .number-at .ensures in let q = c .before .before .before .before .before .before .before .number-at2 .ensures in let in-is = number-in (s .args .table .now) (s .args .conditions .now) (s .pre .0) (s .pre .1 .0) (s .args .b) (s .args .i) (s .args .yes) (s .pre .1 .1 .0 .0) (s .pre .1 .1 .0 .1 .0) (s .pre .1 .1 .0 .1 .1) (s .pre .1 .1 .1 .0) (c .before .before .before .before .before .before .before .before .before .term-at .result) (c .before .before .before .before .before .before .before .before .before .term-at .ensures) (c .before .before .before .before .before .before .kind-of .result) (c .before .before .before .before .before .before .kind-of .ensures) in
-    grows (s .args .table .now) (s .args .conditions .now) (s .pre .0) (s .pre .1 .0) (s .args .b) (s .args .i) (s .args .yes) (s .pre .1 .1 .0 .0) (s .pre .1 .1 .0 .1 .0) (s .pre .1 .1 .0 .1 .1) (s .pre .1 .1 .1 .0) (c .before .before .before .before .before .before .before .before .before .term-at .result) (c .before .before .before .before .before .before .before .before .before .term-at .ensures) (c .before .before .before .before .before .before .kind-of .result) (c .before .before .before .before .before .before .kind-of .ensures) Read (c .before .before .before .before .enum-told12 .given .1) _ (read-is (s .args .table .now) (s .args .conditions .now) (s .pre .0) (s .pre .1 .0) (s .args .b) (s .args .i) (s .args .yes) (s .pre .1 .1 .0 .0) (s .pre .1 .1 .0 .1 .0) (s .pre .1 .1 .0 .1 .1) (s .pre .1 .1 .1 .0) (c .before .before .before .before .before .before .before .before .before .term-at .result) (c .before .before .before .before .before .before .before .before .before .term-at .ensures) (c .before .before .before .before .before .before .kind-of .result) (c .before .before .before .before .before .before .kind-of .ensures) (c .before .before .before .before .enum-told12 .given .1) _ q) refl (c .before .before .read-group .result) (s .args .room .now) (c .before .before .read-group .last .1 .1 .0) (c .before .before .read-group .ensures)
+    let d = c .before .before .before .before .before .before .before in
+    grows (here d) Choice (c .before .before .before .before .before .enum-told12 .given .1) (choice-is (here d) (d .before .before .number-at .ensures) (d .before .number-at2 .ensures) (c .before .before .before .number-at3 .ensures)) refl
+    (start d .args .room .now) (c .before .before .choice .ensures)
 
 returns-13 : tie.Need-returns-13
 unfolding planBy
 returns-13 c =
-    let s = c .before .before .before .before .before .before .before .before .before .before in let x = c .before .before .before .before .before .before .term-at .result in let p = c .before .before .before .before .before .number-at .ensures in let q = c .before .before .before .before .number-at2 .ensures in let in-is = number-in (s .args .table .now) (s .args .conditions .now) (s .pre .0) (s .pre .1 .0) (s .args .b) (s .args .i) (s .args .yes) (s .pre .1 .1 .0 .0) (s .pre .1 .1 .0 .1 .0) (s .pre .1 .1 .0 .1 .1) (s .pre .1 .1 .1 .0) (c .before .before .before .before .before .before .term-at .result) (c .before .before .before .before .before .before .term-at .ensures) (c .before .before .before .kind-of .result) (c .before .before .before .kind-of .ensures) in
-    stays (s .args .table .now) (s .args .conditions .now) (s .pre .0) (s .pre .1 .0) (s .args .b) (s .args .i) (s .args .yes) (s .pre .1 .1 .0 .0) (s .pre .1 .1 .0 .1 .0) (s .pre .1 .1 .0 .1 .1) (s .pre .1 .1 .1 .0) (c .before .before .before .before .before .before .term-at .result) (c .before .before .before .before .before .before .term-at .ensures) (c .before .before .before .kind-of .result) (c .before .before .before .kind-of .ensures) Write (c .before .enum-told13 .given .1) refl 0 refl (c .taken4 .result) (s .args .room .now) (c .taken4 .ensures)
+    let d = c .before .before .before .before .before .before in
+    let kind = c .before .before .before .before .enum-told13 .given .1 in
+    grows (here d) Read kind (read-is (here d) kind (d .before .number-at2 .ensures)) refl (start d .args .room .now) (c .before .before .read-group .ensures)
+
+returns-14 : tie.Need-returns-14
+unfolding planBy
+returns-14 c = let d = c .before .before .before in stays (here d) Write (c .before .enum-told14 .given .1) refl refl (start d .args .room .now) (c .taken4 .ensures)
 
 pub write-group-spec : {M : Type 1} → statement M
 write-group-spec =
@@ -122,6 +175,8 @@ write-group-spec =
     ones-requires
     (λ c κs. search needs)
     (λ c. search needs)
+    less-requires
+    (λ c. search needs)
     (λ c κs. search needs)
     (λ c. search needs)
     (λ c κs. search needs)
@@ -151,4 +206,6 @@ write-group-spec =
     returns-11
     (λ c. search needs)
     returns-12
-    returns-13)
+    (λ c. search needs)
+    returns-13
+    returns-14)

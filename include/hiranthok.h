@@ -78,9 +78,9 @@
  * parse. Patch: what is declared here stayed as it was. The library has no version of its own to ask for: take header and library
  * from one state of the repository. */
 #define HIRANTHOK_VERSION_MAJOR 0
-#define HIRANTHOK_VERSION_MINOR 12
+#define HIRANTHOK_VERSION_MINOR 13
 #define HIRANTHOK_VERSION_PATCH 0
-#define HIRANTHOK_VERSION "0.12.0"
+#define HIRANTHOK_VERSION "0.13.0"
 
 /* The numbers of a term and of a cell. */
 #define HIRANTHOK_TERM_WORDS 6

@@ -48,6 +48,8 @@ VALUE = r"(?:true|false|\d+)"
 SETTLED = [
     TERM + r"t\d+ is not free, but t\d+ is free and (?:true|false)\.", TERM + r"t\d+ is not free, but t\d+ is free and \d+\.",
     r"t\d+ \(bvshl .*\): t\d+ is not free, but t\d+ is free and \d+\.",
+    r"t\d+ \(bvult (t\d+) (t\d+)\): \2 is not free, but \1 is free and [1-9]\d*\.",
+    r"t\d+ \(bvult (t\d+) (t\d+)\): \1 is not free, but \2 is free and 0\.",
     r"(?:%st\d+ is not free,|   ) but the test t\d+ is free and picks t\d+, which is free\." % TERM,
     r"(?:%st\d+ is not free,|   ) but t\d+ and t\d+ are free and equal \(\d+\)\." % TERM,
     r"(?:%st\d+ is not free,|   ) but t\d+ and t\d+ are free and equal \((?:true|false)\)\." % TERM,
@@ -56,7 +58,7 @@ SETTLED = [
     r"(?:%st\d+ is not free,|   ) but t\d+, which store t\d+ holds, is free and equal to what is beneath\." % TERM,
     r"(?:%st\d+ is not free,|   ) but the read goes past its store to t\d+, which is not marked\." % TERM,
 ]
-WHY = [r"    No value of one operand settles %s: both must be free\." % op for op in ("=", "bvadd", "bvult")] + [
+WHY = [r"    No value of one operand settles %s: both must be free\." % op for op in ("=", "bvadd")] + [
     r"    A free operand would have settled it\.",
     r"    t\d+ is free, but it is %s: a free %s would have settled it\." % (VALUE, VALUE),
     r"    t\d+ is %s, but not free: only a free %s settles it\." % (VALUE, VALUE),
@@ -64,6 +66,9 @@ WHY = [r"    No value of one operand settles %s: both must be free\." % op for o
     r"    t\d+ is free, but it is \d+: a free \d+ or more would have settled it\.",
     r"    t\d+ is \d+, but not free: only a free \d+ or more settles it\.",
     r"    t\d+ is \d+, and not free: a free \d+ or more would have settled it\.",
+    r"t\d+ \(bvult .*\): .*\n    t\d+ is \d+, but not free: only a free [1-9]\d* settles it\.",
+    r"t\d+ \(bvult .*\): .*\n    .*\n    t\d+ is 0, but not free: only a free 0 settles it\.",
+    r"t\d+ \(bvult .*\): .*\n    .* a free [1-9]\d* would have settled it\.\n    .* a free 0 would have settled it\.",
     TERM + r"t\d+ is not free\.", TERM + r"t\d+ and t\d+ are not free\.",
     TERM + r"t\d+, the test, is not free\.", r"    Branches free and equal would have settled it:",
     r"    t\d+ is %s and (?:not )?free, t\d+ is %s and (?:not )?free\." % (VALUE, VALUE),

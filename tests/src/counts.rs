@@ -346,10 +346,10 @@ fn wanted_of_tables(keys: &mut Vec<Key>) {
         keys.extend(forbidden.iter().map(|&kind| (LIKE, op, kind)));
     }
     keys.extend([("refusal, operator", 7, CONSTANT), ("refusal, operator", 7, VARIABLE)]);
-    for op in [AND, OR, IMPLIES, VECTOR_AND, VECTOR_OR, PRODUCT, CHOICE] {
+    for op in [AND, OR, IMPLIES, VECTOR_AND, VECTOR_OR, PRODUCT, CHOICE, LESS] {
         keys.extend([0, 1].map(|operand| ("settled, operator, first free operand", op, operand)));
     }
-    for op in [CHOICE, VECTOR_AND, VECTOR_OR, PRODUCT, SHIFT, READ] {
+    for op in [CHOICE, VECTOR_AND, VECTOR_OR, PRODUCT, SHIFT, LESS, READ] {
         keys.extend((1..=32).map(|width| ("settled, operator, width", op, width)));
     }
     keys.extend((0..=16).map(|length| ("read, stores in its chain", length, 0)));

@@ -1,5 +1,5 @@
-//! Paper 01's bench examples, the texts of requests 01 and 02, and a case for each point that the papers leave open, with the
-//! expected answers.
+//! Paper 01's bench examples, the texts of requests 01 and 02, request 03's less, and a case for each point that the papers
+//! leave open, with the expected answers.
 
 mod typed;
 
@@ -51,6 +51,21 @@ const CHOSEN: [Term; 6] =
 /// x < 5 or not (x < 5), x marked.
 const TAUTOLOGY: [Term; 5] =
     [[1, 0, 8, 0, 1, 0], [0, 0, 8, 5, 0, 0], [14, 0, 0, 0, 1, 0], [2, 0, 0, 2, 0, 0], [4, 0, 0, 2, 3, 0]];
+
+/// The marked vector in slot 0 is less than a constant.
+const fn below(width: u32, constant: u32) -> [Term; 3] {
+    [[1, 0, width, 0, 1, 0], [0, 0, width, constant, 0, 0], [14, 0, 0, 0, 1, 0]]
+}
+
+/// The constant is less than the marked vector in slot 0.
+const fn above(width: u32, constant: u32) -> [Term; 3] {
+    [[1, 0, width, 0, 1, 0], [0, 0, width, constant, 0, 0], [14, 0, 0, 1, 0, 0]]
+}
+
+/// The vectors of slots 0 and 1, with these marks, under less.
+const fn compared(marks: [u32; 2]) -> [Term; 3] {
+    [[1, 0, 8, 0, marks[0], 0], [1, 0, 8, 1, marks[1], 0], [14, 0, 0, 0, 1, 0]]
+}
 
 /// Two constants under an operator, then equal to a third.
 const fn calculation(op: u32, x: u32, y: u32, is: u32) -> [Term; 5] {
@@ -116,6 +131,7 @@ fn printed(name: &'static str, terms: &[Term], lines: &[&str]) -> Example {
 pub fn all() -> Vec<Example> {
     let mut examples = bench();
     examples.extend(more_bench());
+    examples.extend(less());
     examples.extend(open_points());
     examples.extend(open_points_of_settings());
     examples.extend(texts());
@@ -157,7 +173,7 @@ fn more_bench() -> Vec<Example> {
     vec![
         refused("H with allowance 0", with(0), 23, 1),
         example("H with allowance 1", with(1), 0, [1, 1, 1, 0]),
-        finished("G finished", &G, [20, 18, 19], finished_g()),
+        finished("G finished", &G, [28, 26, 27], finished_g()),
         finished("H finished", &h, [21, 19, 20], finished_h()),
         admitted("16 stores", &stores(16, true)),
         not_admitted("17 stores", &stores(17, true), 9, 18),
@@ -165,8 +181,47 @@ fn more_bench() -> Vec<Example> {
     ]
 }
 
+/// What settles less, and what does not.
+fn less() -> Vec<Example> {
+    let shifted = [[1, 0, 8, 0, 1, 0], [13, 0, 8, 0, 0, 0], [6, 0, 0, 1, 1, 0]];
+    vec![
+        judged("nothing is below 0", &below(8, 0), &[5], false, true, 0),
+        judged("nothing is above all ones", &above(8, 255), &[5], false, true, 0),
+        judged("0 may be below", &above(8, 0), &[5], true, false, 0),
+        judged("0 is not below 0, but may be below", &above(8, 0), &[0], false, false, 0),
+        judged("all ones may be above", &below(8, 255), &[5], true, false, 0),
+        judged("all ones are not above all ones, but may be above", &below(8, 255), &[255], false, false, 0),
+        judged("0 is below 1", &below(8, 1), &[0], true, false, 0),
+        judged("nothing is below 0 of width 1", &below(1, 0), &[1], false, true, 0),
+        judged("nothing is above all ones of width 1", &above(1, 1), &[1], false, true, 0),
+        judged("nothing is above all ones of width 32", &above(32, u32::MAX), &[5], false, true, 0),
+        judged("255 is not all ones of width 9", &above(9, 255), &[5], false, false, 0),
+        judged("a marked 0 settles nothing", &compared([0, 1]), &[5, 0], false, false, 0),
+        judged("marked all ones settle nothing", &compared([1, 0]), &[255, 5], false, false, 0),
+        judged("an unmarked 0 settles", &compared([1, 0]), &[5, 0], false, true, 0),
+        judged("unmarked all ones settle", &compared([0, 1]), &[255, 5], false, true, 0),
+        finished("a shift's own less has no group", &shifted, [13, 11, 12], finished_shift(&shifted)),
+    ]
+}
+
+fn finished_shift(shifted: &[Term; 3]) -> Vec<u32> {
+    let added: [Term; 10] = [
+        [0, 0, 0, 1, 0, 0],
+        [0, 0, 0, 0, 0, 0],
+        [0, 0, 8, 8, 0, 0],
+        [14, 0, 0, 0, 5, 0],
+        [2, 0, 0, 6, 0, 0],
+        [3, 0, 0, 4, 7, 0],
+        [3, 0, 0, 4, 4, 0],
+        [4, 0, 0, 8, 9, 0],
+        [3, 0, 0, 10, 10, 0],
+        [3, 0, 0, 2, 11, 0],
+    ];
+    [shifted.concat(), added.concat()].concat()
+}
+
 fn finished_g() -> Vec<u32> {
-    let added: [Term; 13] = [
+    let added: [Term; 21] = [
         [0, 0, 0, 1, 0, 0],
         [0, 0, 0, 0, 0, 0],
         [0, 0, 8, 0, 0, 0],
@@ -178,8 +233,16 @@ fn finished_g() -> Vec<u32> {
         [3, 0, 0, 7, 8, 0],
         [4, 0, 0, 14, 15, 0],
         [3, 0, 0, 16, 7, 0],
+        [0, 0, 8, 255, 0, 0],
+        [6, 0, 0, 5, 18, 0],
+        [3, 0, 0, 7, 19, 0],
+        [0, 0, 8, 0, 0, 0],
+        [6, 0, 0, 4, 21, 0],
+        [3, 0, 0, 17, 22, 0],
+        [4, 0, 0, 20, 23, 0],
         [3, 0, 0, 7, 17, 0],
-        [3, 0, 0, 6, 18, 0],
+        [4, 0, 0, 24, 25, 0],
+        [3, 0, 0, 6, 26, 0],
     ];
     [G.concat(), added.concat()].concat()
 }
@@ -279,7 +342,7 @@ const TEXT_OF_G: [&str; 7] = [
     "(define-fun t6 () Bool (bvult t5 t4))",
 ];
 
-const TEXT_OF_G_FINISHED: [&str; 14] = [
+const TEXT_OF_G_FINISHED: [&str; 22] = [
     "(define-fun t7 () Bool true)",
     "(define-fun t8 () Bool false)",
     "(define-fun t9 () (_ BitVec 8) #b00000000)",
@@ -291,9 +354,17 @@ const TEXT_OF_G_FINISHED: [&str; 14] = [
     "(define-fun t15 () Bool (and t7 t8))",
     "(define-fun t16 () Bool (or t14 t15))",
     "(define-fun t17 () Bool (and t16 t7))",
-    "(define-fun t18 () Bool (and t7 t17))",
-    "(define-fun t19 () Bool (and t6 t18))",
-    "(assert t19)",
+    "(define-fun t18 () (_ BitVec 8) #b11111111)",
+    "(define-fun t19 () Bool (= t5 t18))",
+    "(define-fun t20 () Bool (and t7 t19))",
+    "(define-fun t21 () (_ BitVec 8) #b00000000)",
+    "(define-fun t22 () Bool (= t4 t21))",
+    "(define-fun t23 () Bool (and t17 t22))",
+    "(define-fun t24 () Bool (or t20 t23))",
+    "(define-fun t25 () Bool (and t7 t17))",
+    "(define-fun t26 () Bool (or t24 t25))",
+    "(define-fun t27 () Bool (and t6 t26))",
+    "(assert t27)",
 ];
 
 /// Tables that share a text with another, and one that does not.

@@ -42,7 +42,7 @@ pub fn fault(checker: &dyn Checker, judged: &Case) -> Option<String> {
     let wrong = [
         (finish.number != 0, "finishing is refused with room enough"),
         (last + 1 != terms, "the last term's number"),
-        (added > 3 + 8 * n + 9 * steps || added > 3 + 145 * n, "more terms added than allowed"),
+        (added > 3 + 9 * n + 9 * steps || added > 3 + 145 * n, "more terms added than allowed"),
         (evaluated.room.get(..n as usize) != verdict.room.get(..n as usize), "the values of the given terms"),
         ((value(n), value(n + 1)) != (1, 0), "the constants true and false"),
         (value(n - 1) != rule, "the rule"),

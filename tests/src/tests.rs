@@ -79,7 +79,8 @@ fn every_flaw_is_found_and_shrunk() {
 /// Errors that make the condition too weak break demand 3: the pairs alone show it, without a reference.
 #[test]
 fn pairs_alone_find_conditions_that_are_too_weak() {
-    for flaw in [Flaw::JoinsIndexes, Flaw::FactorAlone, Flaw::PickedBranch, Flaw::IndexUnasked] {
+    let less = [Flaw::LessExchanged, Flaw::LessOwnWidth, Flaw::LessAlone];
+    for flaw in [Flaw::JoinsIndexes, Flaw::FactorAlone, Flaw::PickedBranch, Flaw::IndexUnasked].into_iter().chain(less) {
         let flawed = Reference { flaw };
         let mut comparison = Comparison::new(&flawed, &flawed);
         let pair = |d: &Difference| matches!(d.check, Check::Pair(_));

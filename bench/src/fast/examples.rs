@@ -7,6 +7,19 @@ const G: [u32; 42] = [
     0, 0, 5, 4, 0,
 ];
 
+/// Of rule G, finished: from term 18 on.
+const GROUP_OF_LESS: [[u32; 6]; 9] = [
+    [0, 0, 8, 255, 0, 0],
+    [6, 0, 0, 5, 18, 0],
+    [3, 0, 0, 7, 19, 0],
+    [0, 0, 8, 0, 0, 0],
+    [6, 0, 0, 4, 21, 0],
+    [3, 0, 0, 17, 22, 0],
+    [4, 0, 0, 20, 23, 0],
+    [3, 0, 0, 7, 17, 0],
+    [4, 0, 0, 24, 25, 0],
+];
+
 /// t, a, c in slots 0, 1, 2 with these marks; 42 stored at a, read at c, equal to 42.
 fn h(t: u32, a: u32) -> Vec<u32> {
     [
@@ -44,11 +57,11 @@ fn rule_g() {
     assert_eq!(verdict(&G, &[1, 1, 0]), (1, 0));
     assert_eq!(verdict(&G, &[0, 5, 0]), (0, 1));
     assert_eq!(verdict(&G, &[1, 0, 1]), (1, 0));
-    let (mut room, mut answer) = (vec![9; 121], [0; 4]);
+    let (mut room, mut answer) = (vec![9; 169], [0; 4]);
     assert_eq!(finish(&G, &mut room, &mut answer), 0);
-    assert_eq!(answer, [20, 18, 19, 0]);
-    assert_eq!(room[114..], [3, 0, 0, 6, 18, 0, 9]);
-    assert_eq!((finish(&G, &mut room[..119], &mut answer), answer), (21, [20, 0, 0, 0]));
+    assert_eq!(answer, [28, 26, 27, 0]);
+    assert_eq!(room[6 * 18..], [&GROUP_OF_LESS.concat()[..], &[3, 0, 0, 6, 26, 0, 9]].concat());
+    assert_eq!((finish(&G, &mut room[..167], &mut answer), answer), (21, [28, 0, 0, 0]));
 }
 
 #[test]
@@ -119,6 +132,28 @@ fn operators() {
     let p12 = [[1, 0, 8, 0, 1, 0], [0, 0, 8, 5, 0, 0], [14, 0, 0, 0, 1, 0], [2, 0, 0, 2, 0, 0], [4, 0, 0, 2, 3, 0]];
     assert_eq!(verdict(&p12.concat(), &[3]), (1, 0));
     assert_eq!(verdict(&p12.concat(), &[9]), (1, 0));
+}
+
+/// Two vectors under less: nothing is above all ones, nothing is below 0.
+#[test]
+fn less() {
+    let compared = |width, marks: [u32; 2], values: [u32; 2]| {
+        let table = [[1, 0, width, 0, marks[0], 0], [1, 0, width, 1, marks[1], 0], [14, 0, 0, 0, 1, 0]];
+        verdict(&table.concat(), &values)
+    };
+    assert_eq!(compared(8, [1, 0], [5, 0]), (0, 1));
+    assert_eq!(compared(8, [0, 1], [255, 5]), (0, 1));
+    assert_eq!(compared(8, [0, 1], [0, 5]), (1, 0));
+    assert_eq!(compared(8, [1, 0], [5, 255]), (1, 0));
+    assert_eq!(compared(8, [1, 0], [0, 1]), (1, 0));
+    assert_eq!(compared(8, [0, 1], [5, 0]), (0, 0));
+    assert_eq!(compared(8, [1, 0], [255, 5]), (0, 0));
+    assert_eq!(compared(1, [0, 1], [1, 1]), (0, 1));
+    assert_eq!(compared(9, [0, 1], [255, 5]), (0, 0));
+    assert_eq!(compared(32, [0, 1], [u32::MAX, 5]), (0, 1));
+    let shifted = [1, 0, 8, 0, 1, 0, 13, 0, 8, 0, 0, 0, 6, 0, 0, 1, 1, 0];
+    let mut answer = [0; 4];
+    assert_eq!((finish(&shifted, &mut [0; 78], &mut answer), answer), (0, [13, 11, 12, 0]));
 }
 
 fn chain(stores: u32) -> Vec<u32> {

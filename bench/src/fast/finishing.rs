@@ -42,7 +42,7 @@ fn finished(table: &[u32], room: &mut [u32]) -> Result<[u64; 4], Refusal> {
 /// How many terms a group has.
 #[inline(always)]
 fn added(term: &Term, depth: &[u8; TERMS]) -> usize {
-    const ADDED: [u8; 17] = [0, 0, 0, 7, 5, 6, 1, 6, 0, 8, 8, 1, 8, 6, 1, 1, 0];
+    const ADDED: [u8; 17] = [0, 0, 0, 7, 5, 6, 1, 6, 0, 8, 8, 1, 8, 6, 9, 1, 0];
     let stores = if term[0] == READ { depth[term[3] as usize] } else { 0 };
     usize::from(ADDED[term[0] as usize]) + 9 * usize::from(stores)
 }
@@ -100,11 +100,12 @@ impl Groups<'_> {
             3 => self.group_and(p, q),
             4 => self.group_or(p, q),
             5 => self.group_implies(p, q),
-            6 | 11 | 14 => self.and(self.condition(p), self.condition(q)),
+            6 | 11 => self.and(self.condition(p), self.condition(q)),
             7 => self.group_choice(p, q, r),
             9 | 12 => self.group_absorbing(n, 0, p, q),
             10 => self.group_absorbing(n, ones(n), p, q),
             13 => self.group_shift(n, p, q),
+            14 => self.group_less(terms[p as usize][2], p, q),
             15 => self.group_read(terms, n, p, q),
             _ => no,
         }
@@ -140,13 +141,27 @@ impl Groups<'_> {
     /// Vector and, vector or, product: one value of an operand settles them.
     #[inline(always)]
     fn group_absorbing(&mut self, n: u32, value: u32, p: u32, q: u32) -> u32 {
-        let (c, d) = (self.condition(p), self.condition(q));
         let constant = self.push([0, 0, n, value, 0, 0]);
-        let equal_p = self.equal(p, constant);
-        let by_p = self.and(c, equal_p);
-        let equal_q = self.equal(q, constant);
-        let by_q = self.and(d, equal_q);
-        self.settled_or_both(by_p, by_q, c, d)
+        let by_p = self.free_and_equal(p, constant);
+        let by_q = self.free_and_equal(q, constant);
+        self.settled_or_both(by_p, by_q, self.condition(p), self.condition(q))
+    }
+
+    /// Less, of operands of n bits: all ones at the first settles it, 0 at the second.
+    #[inline(always)]
+    fn group_less(&mut self, n: u32, p: u32, q: u32) -> u32 {
+        let all_ones = self.push([0, 0, n, ones(n), 0, 0]);
+        let by_p = self.free_and_equal(p, all_ones);
+        let zero = self.push([0, 0, n, 0, 0, 0]);
+        let by_q = self.free_and_equal(q, zero);
+        self.settled_or_both(by_p, by_q, self.condition(p), self.condition(q))
+    }
+
+    /// An operand that has a constant's value, together with its condition.
+    #[inline(always)]
+    fn free_and_equal(&mut self, operand: u32, constant: u32) -> u32 {
+        let equal = self.equal(operand, constant);
+        self.and(self.condition(operand), equal)
     }
 
     #[inline(always)]

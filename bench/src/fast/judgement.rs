@@ -28,7 +28,7 @@ fn judged(table: &[u32], values: &[u32], cells: &[u32], allowance: u64, work: &m
         (work[t], truths[t]) = match term[0] {
             1 => (variable(term, values), term[4] ^ 1),
             15 => Chain { terms, cells, values, work, truths }.read(term),
-            _ => (operation(term, work), condition(term, work, truths)),
+            _ => (operation(term, work), condition(term, terms, work, truths)),
         };
     }
     let last = terms.len() - 1;
@@ -44,7 +44,7 @@ fn settled(c: u32, a: bool, d: u32, b: bool) -> u32 {
 
 /// The condition of any term but a variable or a read.
 #[inline(always)]
-fn condition(term: &Term, work: &[u32], truths: &[u32]) -> u32 {
+fn condition(term: &Term, terms: &[Term], work: &[u32], truths: &[u32]) -> u32 {
     let &[op, _, n, p, q, r] = term;
     let at = |k: u32| work[k as usize];
     let free = |k: u32| truths[k as usize];
@@ -54,13 +54,14 @@ fn condition(term: &Term, work: &[u32], truths: &[u32]) -> u32 {
         3 | 9 | 12 => settled(free(p), at(p) == 0, free(q), at(q) == 0),
         4 => settled(free(p), at(p) == 1, free(q), at(q) == 1),
         5 => settled(free(p), at(p) == 0, free(q), at(q) == 1),
-        6 | 11 | 14 => free(p) & free(q),
+        6 | 11 => free(p) & free(q),
         7 => {
             let taken = free(if at(p) == 1 { q } else { r });
             free(p) & taken | free(q) & free(r) & u32::from(at(q) == at(r))
         }
         10 => settled(free(p), at(p) == ones(n), free(q), at(q) == ones(n)),
         13 => free(q) & (u32::from(at(q) >= n) | free(p)),
+        14 => settled(free(p), at(p) == ones(terms[p as usize][2]), free(q), at(q) == 0),
         _ => 0,
     }
 }

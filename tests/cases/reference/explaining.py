@@ -64,7 +64,7 @@ def settling_operand(j, term):
     op, m, n, p, q, r = term
     if op == 13:
         return q
-    a, b = settles(op, n)
+    a, b = settles(op, j.terms[p][2])
     return p if j.free[p] and j.v[p] == a else q
 
 
@@ -154,11 +154,11 @@ def would_settle(j, term):
     op, m, n, p, q, r = term
     if op in (2, 8):
         return ["A free operand would have settled it."]
-    if op in (6, 11, 14):
+    if op in (6, 11):
         return ["No value of one operand settles %s: both must be free." % NAMES[op]]
     if op == 13:
         return [settling_line(j, q, j.v[q] >= n, "%d or more" % n)]
-    sides = dict.fromkeys(zip((p, q), settles(op, n)))
+    sides = dict.fromkeys(zip((p, q), settles(op, j.terms[p][2])))
     return [settling_line(j, x, j.v[x] == s, value_name(j.terms[x], s)) for x, s in sides]
 
 

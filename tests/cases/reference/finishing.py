@@ -40,12 +40,14 @@ class Finished:
             return self.F if q else self.T
         if op in (2, 8):
             return self.C[p]
-        if op in (6, 11, 14):
+        if op in (6, 11):
             return self.AND(self.C[p], self.C[q])
         if op in (3, 4, 5):
             return self.boolean(op, p, q)
         if op in (9, 10, 12):
             return self.vector(2 ** n - 1 if op == 10 else 0, n, p, q)
+        if op == 14:
+            return self.less(self.terms[p][2], p, q)
         if op == 7:
             return self.choice(p, q, r)
         if op == 13:
@@ -63,18 +65,30 @@ class Finished:
             second = self.AND(C[q], self.NOT(q))
         else:
             second = self.AND(C[q], q)
-        one = self.OR(first, second)
-        return self.OR(one, self.AND(C[p], C[q]))
+        return self.settled(p, first, q, second)
+
+    def settled(self, p, first, q, second):
+        """One of the operands settles the result, or both are free."""
+        return self.OR(self.OR(first, second), self.AND(self.C[p], self.C[q]))
+
+    def constant(self, value, n):
+        return self.add(0, value, sort=(0, n))
+
+    def equals(self, x, constant):
+        """An operand is free and has the value that settles the result."""
+        return self.AND(self.C[x], self.EQ(x, constant))
 
     def vector(self, settling, n, p, q):
-        C, constant = self.C, self.add(0, settling, sort=(0, n))
-        first = self.AND(C[p], self.EQ(p, constant))
-        second = self.AND(C[q], self.EQ(q, constant))
-        one = self.OR(first, second)
-        return self.OR(one, self.AND(C[p], C[q]))
+        constant = self.constant(settling, n)
+        return self.settled(p, self.equals(p, constant), q, self.equals(q, constant))
+
+    def less(self, n, p, q):
+        """Nothing is above all ones, and nothing is below 0; n is the operands' width."""
+        first = self.equals(p, self.constant(2 ** n - 1, n))
+        return self.settled(p, first, q, self.equals(q, self.constant(0, n)))
 
     def shift(self, n, p, q):
-        C, constant = self.C, self.add(0, n, sort=(0, n))
+        C, constant = self.C, self.constant(n, n)
         amount = self.AND(C[q], self.NOT(self.add(14, q, constant)))
         return self.OR(amount, self.AND(C[p], C[q]))
 

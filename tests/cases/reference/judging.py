@@ -19,9 +19,10 @@ VALUE = {
 }
 
 
-def settles(op, n):
-    """The values with which a free first, and a free second operand settles an operator."""
-    return {3: (0, 0), 4: (1, 1), 5: (0, 1), 9: (0, 0), 10: (largest(n), largest(n)), 12: (0, 0)}[op]
+def settles(op, width):
+    """The values with which a free first, and a free second operand of this width settles an operator."""
+    ones = largest(width)
+    return {3: (0, 0), 4: (1, 1), 5: (0, 1), 9: (0, 0), 10: (ones, ones), 12: (0, 0), 14: (ones, 0)}[op]
 
 
 class Setting:
@@ -77,7 +78,7 @@ class Setting:
             return op == 0 or q == 0
         if op in (2, 8):
             return c[p]
-        if op in (6, 11, 14):
+        if op in (6, 11):
             return c[p] and c[q]
         if op == 7:
             return (c[p] and (c[q] if v[p] else c[r])) or (c[q] and c[r] and v[q] == v[r])
@@ -87,7 +88,7 @@ class Setting:
             return self.read_condition(p, q)
         if op == 16:
             return None
-        a, b = settles(op, n)
+        a, b = settles(op, self.terms[p][2])
         return (c[p] and v[p] == a) or (c[q] and v[q] == b) or (c[p] and c[q])
 
     def read_condition(self, array, j):

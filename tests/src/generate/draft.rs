@@ -239,11 +239,12 @@ impl Draft {
 
     fn added(&self, term: &[u32; 6]) -> usize {
         match term[0] {
-            EQUAL | SUM | LESS => 1,
+            EQUAL | SUM => 1,
             AND => 7,
             OR => 5,
             IMPLIES | SHIFT | CHOICE => 6,
             VECTOR_AND | VECTOR_OR | PRODUCT => 8,
+            LESS => 9,
             READ => 1 + 9 * self.stores[term[3] as usize],
             _ => 0,
         }

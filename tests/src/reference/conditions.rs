@@ -15,6 +15,17 @@ pub fn conditions(table: &Table, values: &Values, flaw: Flaw) -> Vec<bool> {
     conditions.c
 }
 
+/// The width of less's operands, and the value of the first and of the second that settles it: nothing is above all ones,
+/// nothing is below 0.
+pub fn settles_less(table: &Table, less: &Term, flaw: Flaw) -> (u32, [u64; 2]) {
+    let width = if flaw == Flaw::LessOwnWidth { less.n } else { table.terms[less.p as usize].n };
+    let mut values = [(1 << width) - 1, 0];
+    if flaw == Flaw::LessExchanged {
+        values.reverse();
+    }
+    (width, values)
+}
+
 struct Conditions<'a> {
     table: &'a Table,
     values: &'a Values<'a>,
@@ -37,11 +48,14 @@ impl Conditions<'_> {
             VARIABLE => t.q == 0,
             STORE => false,
             NOT | VECTOR_NOT => self.of(p),
+            LESS if self.flaw != Flaw::LessUnsettled => {
+                let (_, [of_p, of_q]) = settles_less(self.table, t, self.flaw);
+                self.settled(t, value(p) == of_p, value(q) == of_q)
+            }
             EQUAL | SUM | LESS => self.of(p) && self.of(q),
             AND => self.settled(t, !holds(p), !holds(q)),
             OR => self.settled(t, holds(p), holds(q)),
             IMPLIES => self.settled(t, !holds(p), holds(q)),
-            PRODUCT if self.flaw == Flaw::FactorAlone => value(p) == 0 || value(q) == 0 || (self.of(p) && self.of(q)),
             VECTOR_AND | PRODUCT => self.settled(t, value(p) == 0, value(q) == 0),
             VECTOR_OR => self.settled(t, value(p) == ones, value(q) == ones),
             SHIFT => (self.of(q) && value(q) >= t.n.into()) || (self.of(p) && self.of(q)),
@@ -58,7 +72,8 @@ impl Conditions<'_> {
     /// An operand whose condition holds and whose value settles the result, or the conditions of both.
     fn settled(&self, t: &Term, by_p: bool, by_q: bool) -> bool {
         let (c, d) = (self.of(t.p), self.of(t.q));
-        (c && by_p) || (d && by_q) || (c && d)
+        let alone = matches!((self.flaw, t.op), (Flaw::FactorAlone, PRODUCT) | (Flaw::LessAlone, LESS));
+        ((c || alone) && by_p) || ((d || alone) && by_q) || (c && d)
     }
 
     /// The condition of a read of an array term at the index that is term j.

@@ -1,6 +1,7 @@
 //! The finished table: the conditions as terms.
 
 use super::admission::Table;
+use super::conditions::settles_less;
 use super::flaw::Flaw;
 use super::term::*;
 
@@ -73,6 +74,7 @@ impl Writer<'_> {
             VARIABLE => [self.yes, self.no][t.q as usize],
             STORE => return None,
             NOT | VECTOR_NOT => self.of(t.p),
+            LESS if self.flaw != Flaw::LessUnsettled => self.less(t),
             EQUAL | SUM | LESS => self.and(self.of(t.p), self.of(t.q)),
             AND | OR | IMPLIES => self.connective(t),
             VECTOR_AND | PRODUCT => self.absorbing(t, 0),
@@ -89,20 +91,35 @@ impl Writer<'_> {
         let first = self.and(cp, by_p);
         let by_q = if t.op == AND { self.not(q) } else { q };
         let second = self.and(cq, by_q);
-        let either = self.or(first, second);
-        let both = self.and(cp, cq);
-        self.or(either, both)
+        self.settled(t, first, second)
     }
 
     fn absorbing(&mut self, t: &Term, zero: u32) -> u32 {
-        let (cp, cq) = (self.of(t.p), self.of(t.q));
         let zero = self.add([CONSTANT, 0, t.n, zero, 0, 0]);
-        let p_is = self.equal(t.p, zero);
-        let first = self.and(cp, p_is);
-        let q_is = self.equal(t.q, zero);
-        let second = self.and(cq, q_is);
-        let either = self.or(first, second);
-        let both = self.and(cp, cq);
+        let first = self.free_and_equal(t.p, zero);
+        let second = self.free_and_equal(t.q, zero);
+        self.settled(t, first, second)
+    }
+
+    fn less(&mut self, t: &Term) -> u32 {
+        let (width, [of_p, of_q]) = settles_less(self.table, t, self.flaw);
+        let ones = self.add([CONSTANT, 0, width, of_p as u32, 0, 0]);
+        let first = self.free_and_equal(t.p, ones);
+        let zero = self.add([CONSTANT, 0, width, of_q as u32, 0, 0]);
+        let second = self.free_and_equal(t.q, zero);
+        self.settled(t, first, second)
+    }
+
+    /// An operand that has a constant's value, together with its condition.
+    fn free_and_equal(&mut self, operand: u32, constant: u32) -> u32 {
+        let equal = self.equal(operand, constant);
+        self.and(self.of(operand), equal)
+    }
+
+    /// One of the two terms by which an operand settles the result, or the conditions of both.
+    fn settled(&mut self, t: &Term, by_p: u32, by_q: u32) -> u32 {
+        let either = self.or(by_p, by_q);
+        let both = self.and(self.of(t.p), self.of(t.q));
         self.or(either, both)
     }
 

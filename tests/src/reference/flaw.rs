@@ -9,6 +9,14 @@ pub enum Flaw {
     ShiftsModulo,
     /// Testing a factor for zero without its condition.
     FactorAlone,
+    /// No value of one operand settles less.
+    LessUnsettled,
+    /// 0 at the first operand settles less, all ones at the second.
+    LessExchanged,
+    /// Less's constants of its own width, which is 0.
+    LessOwnWidth,
+    /// Testing an operand of less without its condition.
+    LessAlone,
     /// Looking only at the branch that a marked test picked.
     PickedBranch,
     /// Checking an array's mark and not the index's condition.
@@ -71,10 +79,14 @@ pub enum Flaw {
     RoomFirst,
 }
 
-pub const FLAWS: [(&str, Flaw); 33] = [
+pub const FLAWS: [(&str, Flaw); 37] = [
     ("joins-indexes", Flaw::JoinsIndexes),
     ("shifts-modulo", Flaw::ShiftsModulo),
     ("factor-alone", Flaw::FactorAlone),
+    ("less-unsettled", Flaw::LessUnsettled),
+    ("less-exchanged", Flaw::LessExchanged),
+    ("less-own-width", Flaw::LessOwnWidth),
+    ("less-alone", Flaw::LessAlone),
     ("picked-branch", Flaw::PickedBranch),
     ("index-unasked", Flaw::IndexUnasked),
     ("innermost-first", Flaw::InnermostFirst),

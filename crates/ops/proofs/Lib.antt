@@ -2,6 +2,7 @@ pub mod Lists
 pub mod Past
 pub mod Booleans
 pub mod Widths
+pub mod Halves
 pub mod Absorption
 pub mod Fitting
 pub mod Independence

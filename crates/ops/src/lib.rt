@@ -1,7 +1,7 @@
 // The operators on numbers: their values, as SMT-LIB 2.6 has them, and their conditions, as paper 01 does.
 ghost use mathlib.Core.Path.{_≡_};
 ghost use mathlib.Core.Bool.{true, false, not, cond, _&&_, _||_};
-ghost use Prim.Native.Nat.{_+_, _-_, _*_, _%_, _^_, _≤_};
+ghost use Prim.Native.Nat.{_+_, _-_, _*_, _/_, _%_, _^_, _≤_, _<_};
 ghost use lib.Dec.{eqb};
 ghost use Rattle.ops.specs.Numbers.{opOf};
 ghost use Rattle.ops.specs.Meaning.{bit, holds, valueOf, apply};
@@ -104,12 +104,52 @@ fn bvadd(n: u32, x: u32, y: u32) -> u32
     reduce(n, std::num::wrapping_add_u32(x, y))
 }
 
+// The halves of a word, of 16 bits each.
+fn low_half(x: u32) -> u32
+    ensures { λ r. ⌜ r ≡ x % 65536 ⌝ }
+{
+    x % 65536
+}
+
+fn high_half(x: u32) -> u32
+    ensures { λ r. ⌜ r ≡ x / 65536 ⌝ }
+{
+    x >> 16
+}
+
+// The low half, in the place of the high one.
+fn moved_up(x: u32) -> u32
+    ensures { λ r. ⌜ r ≡ x % 65536 * 65536 ⌝ }
+{
+    low_half(x) << 16
+}
+
+// The only multiplication: 16 by 16 bits.
+fn product_of_halves(a: u32, b: u32) -> u32
+    requires { ⌜ (a < 65536) × (b < 65536) ⌝ }
+    ensures { λ r. ⌜ r ≡ a * b ⌝ }
+{
+    a * b
+}
+
+// The product as it wraps at the word. The high halves' product lies above the word, and so do the high halves of the
+// cross products.
+fn wrapping_product(x: u32, y: u32) -> u32
+    ensures { λ r. ⌜ r ≡ (x * y) % 2 ^ 32 ⌝ }
+{
+    let xl = low_half(x);
+    let xh = high_half(x);
+    let yl = low_half(y);
+    let yh = high_half(y);
+    let cross = std::num::wrapping_add_u32(product_of_halves(xl, yh), product_of_halves(xh, yl));
+    std::num::wrapping_add_u32(product_of_halves(xl, yl), moved_up(cross))
+}
+
 fn bvmul(n: u32, x: u32, y: u32) -> u32
     requires { ⌜ n ≤ 32 ⌝ }
     ensures { λ r. ⌜ r ≡ (x * y) % 2 ^ n ⌝ }
 {
-    let product = (x as u64) * (y as u64);
-    reduce(n, (product % 4294967296) as u32)
+    reduce(n, wrapping_product(x, y))
 }
 
 fn bvshl(n: u32, x: u32, y: u32) -> u32

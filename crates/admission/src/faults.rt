@@ -29,11 +29,11 @@ pub fn chain(table: &[u32], k: u32) -> u32
     count
 }
 
-// 3: an op up to 16.
+// 3: an op up to the last.
 fn known(x: Term) -> bool
     ensures { λ r. ⌜ r ≡ known x ⌝ }
 {
-    x.op <= 16
+    x.op <= ops::LAST_OP
 }
 
 // 9: at most 16 stores from term `i`, `x`, inward. Only a store has any.

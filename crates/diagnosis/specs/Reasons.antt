@@ -5,6 +5,7 @@ use mathlib.Core.List.{List, [], _∷_}
 use Prim.Native.Nat.{ℕ, _-_, _%_, _^_}
 use lib.Dec.{eqb, ltb, leb}
 use lib.ListN.{length, getD}
+use Rattle.ops.specs.Numbers.{lastOp}
 use Rattle.ops.specs.Fits.{fits}
 use Rattle.table.specs.declared.words.Sort.{Sort}
 use Rattle.table.specs.declared.words.Term.{Term}
@@ -35,7 +36,7 @@ countLines t = line (not (ltb 512 (terms t))) (plain 3 (terms t) 0) ∷ []
 
 -- 3
 abbrev pub opLines : Term → List Line
-opLines x = line (known x) (plain 4 (x .op) 0) ∷ []
+opLines x = line (known x) (plain 4 (x .op) lastOp) ∷ []
 
 -- 4
 abbrev pub widthLines : Sort → List Line

@@ -41,7 +41,11 @@ pub struct Uses {
 fn op_told(x: Term) -> Diagnosis
     ensures { λ r. ⌜ r ≡ tell (opLines x) ⌝ }
 {
-    unless(x.op <= 16, plain(4, x.op as u64, 0), nothing())
+    unless(
+        x.op <= ops::LAST_OP,
+        plain(4, x.op as u64, ops::LAST_OP as u64),
+        nothing(),
+    )
 }
 
 // 4

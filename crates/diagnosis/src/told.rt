@@ -4,7 +4,7 @@ ghost use Rattle.diagnosis.specs.Telling.{ofField, plain, sized, nothing
 use table::Sort;
 
 // The reason by its number (0: none), the part of the term (0 itself, 1 p, 2 q, 3 r), the numbers and the sorts seen.
-//  1, 2: refusal 1. No numbers; a numbers.               3: 2. a terms.                4: 3. The op is a.
+//  1, 2: refusal 1. No numbers; a numbers.               3: 2. a terms.                4: 3. The op is a, the last b.
 //  5, 6, 7: 4. The index width is a; the width is a; the width of an array is 0.
 //  8, 9: 5. The operand is term a, not below b; the field is a, and it is none of the operator's.
 //  10 to 13: 6. The part (term a) is found, and asked is asked; a vector; an array; no array.

@@ -8,7 +8,7 @@ use Rattle.ops.specs.declared.Op.{Op}
 use Rattle.ops.specs.declared.Op.the-variants.{Constant, Variable, Apply, Ite, Select, Store, Unknown}
 use Rattle.ops.specs.Meaning as Ops
 use Rattle.ops.specs.Meaning.{Operation, operation, holds}
-use Rattle.ops.specs.Meaning.Operation.{unary, strict, absorbing, shift}
+use Rattle.ops.specs.Meaning.Operation.{unary, strict, absorbing, shift, fixed}
 use Rattle.ops.specs.Ranks.{FunctionRank, arity, functionRank}
 use Rattle.ops.specs.Ranks.Arity.{one, two}
 use Rattle.ops.specs.Ranks.FunctionRank.{boolUnary, boolBinary, equality, bvUnary, bvBinary, bvCompare}
@@ -49,6 +49,7 @@ module _ (v : ℕ → Value) (x : Term) (width width′ : ℕ) (val : ℕ → Va
   function-value (strict f) r h = let (n, p, q) = of-two r h in λ i. f (n i) (p i .num) (q i .num)
   function-value (absorbing f a b) r h = let (n, p, q) = of-two r h in λ i. f (n i) (p i .num) (q i .num)
   function-value (shift f b) r h = let (n, p, q) = of-two r h in λ i. f (n i) (p i .num) (q i .num)
+  function-value (fixed f a b) r h = let (n, p, q) = of-two r h in λ i. f (n i) (p i .num) (q i .num)
 
   pub applied-value : (I : Interpretation) (op : Op) → immediate op ≡ false → slotted op ≡ false → SameOperands (fieldsOf (rankOf op))
       → applied op width′ val ≡ valueBy I v width x op

@@ -6,8 +6,8 @@ use Prim.Native.Nat.{ℕ}
 use lib.Dec.{eqb}
 use Rattle.ops.specs.declared.Op.the-variants.{Constant, Variable, Apply, Ite, Select, Store, Unknown}
 use Rattle.ops.specs.Meaning.{Operation, holds, operation}
-use Rattle.ops.specs.Meaning.Operation.{unary, strict, absorbing, shift}
-use Rattle.ops.specs.Condition.{absorbed, shifted, chosen, conditionBy, settles}
+use Rattle.ops.specs.Meaning.Operation.{unary, strict, absorbing, shift, fixed}
+use Rattle.ops.specs.Condition.{absorbed, shifted, fixedBy, chosen, conditionBy, settles}
 use Rattle.ops.proofs.Booleans.{never}
 use Rattle.explain.specs.Laws.{FreeSettles}
 
@@ -28,6 +28,12 @@ second-shifts c true true hd hb = refl
 second-shifts c true false hd hb = never hb
 second-shifts c false b hd hb = never hd
 
+first-fixed : (c d a b : Bool) → c ≡ true → (a || b) ≡ true → fixedBy c d a b ≡ true
+first-fixed true d true b hc h = refl
+first-fixed true d false true hc h = refl
+first-fixed true d false false hc h = never h
+first-fixed false d a b hc h = never hc
+
 or-shut : (b : Bool) → (b || false) ≡ true → b ≡ true
 or-shut true h = refl
 or-shut false h = never h
@@ -42,6 +48,8 @@ by (absorbing f a b) n x y c d true free h = second-absorbs c (a n x) d (b n y) 
 by (absorbing f a b) n x y c d false free h = first-absorbs c (a n x) d (b n y) free (or-shut (a n x) (or-shut (a n x || false) h))
 by (shift f b) n x y c d true free h = second-shifts c d (b n y) free (or-shut (b n y) h)
 by (shift f b) n x y c d false free h = never h
+by (fixed f a b) n x y c d true free h = never h
+by (fixed f a b) n x y c d false free h = first-fixed c d (a n x) (b n x) free (or-shut (a n x || b n x) h)
 
 -- of a choice no operand alone
 no-choice : (test same : Bool) → chosen true test false false same ≡ true → ⊥

@@ -16,12 +16,12 @@ use Rattle.ops.specs.declared.Op.{Op}
 use Rattle.ops.specs.declared.Op.the-variants.{Constant, Variable, Apply, Ite, Select, Store}
 use Rattle.ops.specs.Numbers.{opOf}
 use Rattle.ops.specs.Meaning.{Operation, holds, operation, apply}
-use Rattle.ops.specs.Meaning.Operation.{unary, strict, absorbing, shift}
+use Rattle.ops.specs.Meaning.Operation.{unary, strict, absorbing, shift, fixed}
 use Rattle.ops.specs.Ranks.{Arity, FunctionRank, arity, functionRank}
 use Rattle.ops.specs.Ranks.Arity.{one as one-operand, two as two-operands}
 use Rattle.ops.specs.Ranks.FunctionRank.{boolUnary, boolBinary, equality, bvUnary, bvBinary, bvCompare}
-use Rattle.ops.specs.Condition.{absorbed, shifted, chosen, conditionBy as operationCondition, settles}
-use Rattle.ops.proofs.Booleans.{never, and-parts, or-parts, and-shut}
+use Rattle.ops.specs.Condition.{absorbed, shifted, fixedBy, chosen, conditionBy as operationCondition, settles}
+use Rattle.ops.proofs.Booleans.{never, and-parts, or-parts, and-shut, or-open}
 use Rattle.table.specs.declared.words.Term.{Term}
 use Rattle.table.specs.Terms.{terms, termAt, sortAt, array}
 use Rattle.table.specs.Ranks.{applied, rankOf, slotted, writes}
@@ -87,6 +87,14 @@ alone-by (absorbing g a b) n x y c d h e =
     (or-parts ((c && a n x) || (d && b n y)) (c && d) h)
 alone-by (shift g b) n x y c d h e =
     ⊎-elim (λ v. let parts = and-parts d (b n y) v in inr (ap₂ (λ (z r : Bool). z && shifted false true r) (parts .0) (parts .1))) (λ u. never (sym e ∙ u)) (or-parts (d && b n y) (c && d) h)
+alone-by (fixed g a b) n x y c d h e =
+    ⊎-elim
+    (λ u.
+    ⊎-elim (λ v. let parts = and-parts c (a n x) v in inl (ap₂ (λ (z r : Bool). z && fixedBy true false r (b n x)) (parts .0) (parts .1)))
+    (λ v. let parts = and-parts c (b n x) v in inl (ap₂ (λ (z r : Bool). z && fixedBy true false (a n x) r) (parts .0) (parts .1) ∙ ap (λ (z : Bool). z || false) (or-open (a n x))))
+    (or-parts (c && a n x) (c && b n x) u))
+    (λ u. never (sym e ∙ u))
+    (or-parts ((c && a n x) || (c && b n x)) (c && d) h)
 
 module _ (limit : ℕ) (w : List ℕ) (marked : Term → Bool) (I : Interpretation) (f : WellFormed limit w) where
   abbrev vs : List ℕ
@@ -438,6 +446,7 @@ module _ (limit : ℕ) (w : List ℕ) (marked : Term → Bool) (I : Interpretati
       function-told (strict o) r v places u = two-told r places u
       function-told (absorbing o x y) r v places u = two-told r places u
       function-told (shift o y) r v places u = two-told r places u
+      function-told (fixed o x y) r v places u = two-told r places u
 
     told-choice : (z : Bool) → told (cond z (Picked (record { first = t .p; second = picked vs t })) (Equal (record { first = t .q; second = t .r }))) ≡ true
     told-choice true = refl

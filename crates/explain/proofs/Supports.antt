@@ -15,12 +15,12 @@ use Rattle.ops.specs.declared.Op.{Op}
 use Rattle.ops.specs.declared.Op.the-variants.{Constant, Variable, Apply, Ite, Select, Store, Unknown}
 use Rattle.ops.specs.Numbers.{opOf}
 use Rattle.ops.specs.Meaning.{Operation, holds, operation}
-use Rattle.ops.specs.Meaning.Operation.{unary, strict, absorbing, shift}
+use Rattle.ops.specs.Meaning.Operation.{unary, strict, absorbing, shift, fixed}
 use Rattle.ops.specs.Ranks.{Arity, FunctionRank, arity, functionRank}
 use Rattle.ops.specs.Ranks.Arity.{one as one-operand, two as two-operands}
 use Rattle.ops.specs.Ranks.FunctionRank.{boolUnary, boolBinary, equality, bvUnary, bvBinary, bvCompare}
 use Rattle.ops.specs.Condition.{absorbed, shifted, chosen, conditionBy as operationCondition, settles}
-use Rattle.ops.proofs.Booleans.{never}
+use Rattle.ops.proofs.Booleans.{never, or-open}
 use Rattle.table.specs.declared.words.Term.{Term}
 use Rattle.table.specs.Terms.{terms, termAt, sortAt, boolean, scalar, array, vectorOf, sameSort}
 use Rattle.table.specs.Ranks.{applied, rankOf, slotted, writes}
@@ -177,6 +177,7 @@ module _ (limit : ℕ) (w : List ℕ) (I : Interpretation) (f : WellFormed limit
     operands-by (strict g) r h places = both-by (strict g) r h places (λ n x y. refl)
     operands-by (absorbing g a z) r h places = both-by (absorbing g a z) r h places (λ n x y. absorbed-free (a n x) (z n y))
     operands-by (shift g z) r h places = both-by (shift g z) r h places (λ n x y. shifted-free (z n y))
+    operands-by (fixed g a z) r h places = both-by (fixed g a z) r h places (λ n x y. or-open (a n x || z n x))
 
     pub data Made : Type 0 where
       literal : opOf (this .op) ≡ Constant → Made

@@ -18,7 +18,7 @@ use Rattle.table.specs.Faults.{isVariable, isStore}
 use Rattle.table.proofs.FoldLaws.{length-fold}
 use Rattle.judge.specs.Conditions.{ownMarks}
 use Rattle.groups.specs.declared.kinds.GroupKind.{GroupKind}
-use Rattle.groups.specs.declared.kinds.GroupKind.the-variants.{Literal, Input, Unary, Strict, Conjunction, Disjunction, Implication, Zero, Ones, Bounds, Shift, Choice, Read, Write}
+use Rattle.groups.specs.declared.kinds.GroupKind.the-variants.{Literal, Input, Unary, Strict, Conjunction, Disjunction, Implication, Zero, Ones, Bounds, SignedBounds, Fixed, Shift, Choice, Read, Write}
 use Rattle.groups.specs.Added.{andT, constantT}
 use Rattle.groups.specs.Groups.{storeGroup}
 use Rattle.groups.specs.FunctionGroups.{kindOf}
@@ -67,6 +67,8 @@ module _ (marked : Term → Bool) (yes no : ℕ) (plan : ℕ → Plan) (b width 
   quiet-by Zero = record { whole = refl; read = λ s j cj. refl }
   quiet-by Ones = record { whole = refl; read = λ s j cj. refl }
   quiet-by Bounds = record { whole = refl; read = λ s j cj. refl }
+  quiet-by SignedBounds = record { whole = refl; read = λ s j cj. refl }
+  quiet-by Fixed = record { whole = refl; read = λ s j cj. refl }
   quiet-by Shift = record { whole = refl; read = λ s j cj. refl }
   quiet-by Choice = record { whole = refl; read = λ s j cj. refl }
   quiet-by Read = record { whole = before (t .p) .read b (t .q) (cq marked yes no plan b width t); read = λ s j cj. refl }

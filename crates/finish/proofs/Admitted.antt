@@ -9,12 +9,13 @@ use native.Mathlib.Nat.{not-suc-le-zero, add-zero}
 use native.Mathlib.Omega.{arith}
 use lib.Dec.{eqb, ltb}
 use lib.ListN.{length, getD}
-use lib.Pow.{pow-pos, ones-lt}
+use lib.Pow.{pow-pos, ones-lt, pow-lt}
 use borrow.Author.Tests.{eqb-true, ltb-true, lt-ltb, le-leb, eq-eqb, ne-eqb}
 use Rattle.ops.specs.declared.Op.{Op}
 use Rattle.ops.specs.declared.Op.the-variants.{Constant, Variable, Apply, Ite, Select, Store, Unknown}
 use Rattle.ops.specs.Numbers.{opOf}
 use Rattle.ops.specs.Meaning.{Operation, ones, operation}
+use Rattle.ops.specs.Signed.{greatest, least}
 use Rattle.ops.specs.Ranks.{FunctionRank, arity, functionRank}
 use Rattle.ops.specs.Fits.{fits}
 use Rattle.ops.proofs.Booleans.{never, and-parts}
@@ -36,7 +37,7 @@ use Rattle.judge.specs.Conditions.{ownMarks}
 use Rattle.groups.specs.Added.{andT, constantT}
 use Rattle.groups.specs.Groups.{absorbingGroup, boundsGroup, shiftGroup, choiceGroup, storeGroup}
 use Rattle.groups.specs.FunctionGroups.{FunctionGroup, functionGroup, groupKind, kindOf}
-use Rattle.groups.specs.FunctionGroups.FunctionGroup.{unary, strict, conjunction, disjunction, implication, byZero, byOnes, byBounds, shift}
+use Rattle.groups.specs.FunctionGroups.FunctionGroup.{unary, strict, conjunction, disjunction, implication, byZero, byOnes, byBounds, bySigned, byFixed, shift}
 use Rattle.groups.specs.Plans.{Plan, lastOf, taken, grown, storeRead, planBy, planIn, groups, next, planOf, plans, planAt}
 use Rattle.groups.proofs.GroupSizes.{next-more}
 use Rattle.finish.specs.Finished.{conditionNumber}
@@ -137,6 +138,12 @@ below-power : (n : ℕ) → n < 2 ^ n
 below-power zero = omega arith
 below-power (suc n) = omega (arith, below-power n)
 
+least-lt : (n : ℕ) → 0 < n → least n < 2 ^ n
+least-lt n some = pow-lt {i = n - 1} {j = n} (omega arith)
+
+greatest-lt : (n : ℕ) → 0 < n → greatest n < 2 ^ n
+greatest-lt n some = omega (arith, least-lt n some)
+
 vector-sorted : (n : ℕ) → 0 < n → n ≤ 32 → sorted (constantT n 0 .sort) ≡ true
 vector-sorted n some most = rw (ne-eqb n 0 (λ z. omega arith), lt-ltb 0 n some, le-leb n 32 most)
 
@@ -221,20 +228,30 @@ module _ (f : List ℕ) (marked : Term → Bool) (n k b : ℕ) (plan : ℕ → P
       let wide = vector-width h in
       grown-planned (absorbing-good f b (o .0 .free) (o .1 .free) (wide .1) (o .1 .value) (o .0 .value) value fit has)
 
-  bounds-planned : (t .p < k) × (t .q < k) → typedBy BvCompare ≡ true
-      → Has f b (boundsGroup b width (ones width) 0 (t .p) (t .q) cp cq cq)
-      → Planned f b (t .sort) (grown marked n (n + 1) plan b width t (boundsGroup b width (ones width) 0 (t .p) (t .q) cp cq cq))
-  bounds-planned place h has =
+  -- the constants u and v fit the operands' width
+  bounds-planned : (u v : ℕ) → (0 < width → (u < 2 ^ width) × (v < 2 ^ width)) → (t .p < k) × (t .q < k) → typedBy BvCompare ≡ true
+      → Has f b (boundsGroup b width u v (t .p) (t .q) cp cq cq) → Planned f b (t .sort) (grown marked n (n + 1) plan b width t (boundsGroup b width u v (t .p) (t .q) cp cq cq))
+  bounds-planned u v fit place h has =
       let parts = three (boolean (t .sort)) (vector (sortAt f (t .p))) (sameSort (sortAt f (t .p)) (sortAt f (t .q))) h in
       let own = and-parts (eqb (sortAt f (t .p) .m) 0) (ltb 0 (sortAt f (t .p) .n)) (parts .1) in
       let same = same-sort (sortAt f (t .p)) (sortAt f (t .q)) (parts .2) in
       let is = width-is (place .0) in
       let some : 0 < sortAt f (t .p) .n = ltb-true 0 (sortAt f (t .p) .n) (own .1) in
+      let below = fit (omega arith) in
       let zero-m = eqb-true (sortAt f (t .p) .m) 0 (own .0) in
       let p = operand (t .p) width (place .0) zero-m is in
       let q = operand (t .q) width (place .1) (sym (same .m) ∙ zero-m) (sym (same .n) ∙ is) in
-      grown-planned (bounds-good f b (p .free) (q .free) (vector-sorted width (omega arith) width-most) (q .value) (p .value) (q .value) (q .free) (ones width) 0
-      (fits-below width (ones width) (ones-lt width)) (fits-below width 0 (pow-pos width)) has)
+      grown-planned (bounds-good f b (p .free) (q .free) (vector-sorted width (omega arith) width-most) (q .value) (p .value) (q .value) (q .free) u v
+      (fits-below width u (below .0)) (fits-below width v (below .1)) has)
+
+  fixed-planned : (t .p < k) × (t .q < k) → typedBy BvBinary ≡ true
+      → Has f b (boundsGroup b (t .sort .n) 0 (ones (t .sort .n)) (t .p) (t .p) cp cp cq)
+      → Planned f b (t .sort) (grown marked n (n + 1) plan b width t (boundsGroup b (t .sort .n) 0 (ones (t .sort .n)) (t .p) (t .p) cp cp cq))
+  fixed-planned place h has =
+      let o = two-vectors place h in
+      let wide = vector-width h in
+      grown-planned (bounds-good f b (o .0 .free) (o .1 .free) (wide .1) (o .1 .value) (o .0 .value) (o .0 .value) (o .0 .free) 0 (ones (t .sort .n))
+      (fits-below (t .sort .n) 0 (pow-pos (t .sort .n))) (fits-below (t .sort .n) (ones (t .sort .n)) (ones-lt (t .sort .n))) has)
 
   shift-planned : (t .p < k) × (t .q < k) → typedBy BvBinary ≡ true
       → Has f b (shiftGroup b (t .sort .n) (t .q) cp cq)
@@ -319,7 +336,9 @@ module _ (f : List ℕ) (marked : Term → Bool) (n k b : ℕ) (plan : ℕ → P
       grown-planned (implication-good f b (e .0 .free) (e .1 .free) (e .0 .value) (e .1 .value) has)
   function-planned o r byZero h place has = absorbing-planned 0 (fits-below (t .sort .n) 0 (pow-pos (t .sort .n))) (place .0, place .1) h has
   function-planned o r byOnes h place has = absorbing-planned (ones (t .sort .n)) (fits-below (t .sort .n) (ones (t .sort .n)) (ones-lt (t .sort .n))) (place .0, place .1) h has
-  function-planned o r byBounds h place has = bounds-planned (place .0, place .1) h has
+  function-planned o r byBounds h place has = bounds-planned (ones width) 0 (λ some. (ones-lt width, pow-pos width)) (place .0, place .1) h has
+  function-planned o r bySigned h place has = bounds-planned (greatest width) (least width) (λ some. (greatest-lt width some, least-lt width some)) (place .0, place .1) h has
+  function-planned o r byFixed h place has = fixed-planned (place .0, place .1) h has
   function-planned o r shift h place has = shift-planned (place .0, place .1) h has
 
   planned-by : (op : Op) → isKnown op ≡ true → typedBy (rankOf op) ≡ true → placedAs (fieldsOf (rankOf op)) k t ≡ true

@@ -14,6 +14,7 @@ use Rattle.ops.specs.declared.Op.{Op}
 use Rattle.ops.specs.declared.Op.the-variants.{Constant, Variable, Apply, Ite, Select, Store, Unknown}
 use Rattle.ops.specs.Numbers.{opOf}
 use Rattle.ops.specs.Meaning.{Operation, bit, holds, ones, operation, apply}
+use Rattle.ops.specs.Signed.{greatest, least}
 use Rattle.ops.specs.Condition.{conditionBy as operationCondition, settles}
 use Rattle.ops.specs.Ranks.{FunctionRank, arity, functionRank}
 use Rattle.ops.specs.Ranks.Arity.{two}
@@ -34,13 +35,13 @@ use Rattle.table.proofs.OperandSorts.{isKnown, same-sort, boolean-scalar, same-
 use Rattle.judge.specs.Conditions.{Condition, plain, storeFree, conditionBy, conditionIn, conditions, conditionAt, ownMarks}
 use Rattle.judge.proofs.Alike.{condition-below}
 use Rattle.groups.specs.FunctionGroups.{FunctionGroup, functionGroup, groupKind, kindOf}
-use Rattle.groups.specs.FunctionGroups.FunctionGroup.{unary, strict, conjunction, disjunction, implication, byZero, byOnes, byBounds, shift}
+use Rattle.groups.specs.FunctionGroups.FunctionGroup.{unary, strict, conjunction, disjunction, implication, byZero, byOnes, byBounds, bySigned, byFixed, shift}
 use Rattle.groups.specs.Plans.{Plan, lastOf, taken, storeRead, planBy, planIn, planOf, next, plans, planAt}
 use Rattle.groups.specs.Groups.{variableGroup, storeGroup}
 use Rattle.finish.specs.Finished.{conditionNumber}
 use Rattle.finish.proofs.Layouts.{Has, has-left, has-right, Layout, true-at, false-at, group-has, last-at}
 use Rattle.judge.proofs.Meaning.{holds-bit}
-use Rattle.finish.proofs.GroupValues.{Known, and-num, constant-num, strict-group, and-group, or-group, implies-group, absorbing-group, bounds-group, shift-group, choice-group, store-group}
+use Rattle.finish.proofs.GroupValues.{Known, and-num, constant-num, strict-group, and-group, or-group, implies-group, absorbing-group, bounds-group, fixed-group, shift-group, choice-group, store-group}
 
 -- The value of a term depends on the terms below alone
 
@@ -173,6 +174,10 @@ module _ (f : List ℕ) (I : Interpretation) (val : ℕ → Value) (law : (k : �
         let e = both r h place in
         plain-agrees (absorbing-group f I val law b (e .0) (e .1) (t .sort .n) (ones (t .sort .n)) (ones (sorts (t .p) .n)) (ap ones (vector-width h)) has)
     agree-function o r byBounds h place has = let e = both r h place in plain-agrees (bounds-group f I val law b (e .0) (e .1) (sorts (t .p) .n) (ones (sorts (t .p) .n)) 0 has)
+    agree-function o r bySigned h place has = let e = both r h place in plain-agrees (bounds-group f I val law b (e .0) (e .1) (sorts (t .p) .n) (greatest (sorts (t .p) .n)) (least (sorts (t .p) .n)) has)
+    agree-function o r byFixed h place has =
+        let e = both r h place in
+        plain-agrees (fixed-group f I val law b (e .0) (e .1) (t .sort .n) (ones (t .sort .n)) (ones (sorts (t .p) .n)) (ap ones (vector-width h)) has)
     agree-function o r shift h place has = let e = both r h place in plain-agrees (shift-group f I val law b (e .0) (e .1) (t .sort .n) (sorts (t .p) .n) (vector-width h) has)
 
     -- the term, by its operator

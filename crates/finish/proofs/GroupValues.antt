@@ -9,7 +9,7 @@ use native.Mathlib.Omega.{arith}
 use lib.Dec.{eqb, ltb, leb, lit<}
 use borrow.Author.Tests.{lt-ltb, le-ltb, le-leb, lt-leb}
 use Rattle.ops.specs.Meaning.{bit, holds, apply}
-use Rattle.ops.specs.Condition.{absorbed, shifted, chosen}
+use Rattle.ops.specs.Condition.{absorbed, shifted, fixedBy, chosen}
 use Rattle.table.specs.declared.words.Term.{Term}
 use Rattle.table.specs.Terms.{termAt}
 use Rattle.setting.specs.Interpretation.{Value, Interpretation}
@@ -111,6 +111,13 @@ module _ (f : List ℕ) (I : Interpretation) (val : ℕ → Value) (law : (k : �
         let start = has-first f b (boundsGroup b n u v p q cp cq cq) h (lit< tt) in
         simp (or-num (h 8 (lit< tt)), and-num (h 7 (lit< tt)), or-num (h 6 (lit< tt)), and-num (h 5 (lit< tt)), equal-num (h 4 (lit< tt)), constant-num (h 3 (lit< tt)), and-num (h 2 (lit< tt)), equal-num (h 1 (lit< tt)), constant-num start)
         (simp (first .value, first .free, second .value, second .free, holds-bit))
+
+    -- 0 and u are the constants, both of the first operand
+    pub fixed-group : (n z u : ℕ) → z ≡ u → Has f b (boundsGroup b n 0 z p p cp cp cq) → val (b + 8) .num ≡ bit (fixedBy c d (eqb x 0) (eqb x u))
+    fixed-group n z u e h =
+        let start = has-first f b (boundsGroup b n 0 z p p cp cp cq) h (lit< tt) in
+        simp (or-num (h 8 (lit< tt)), and-num (h 7 (lit< tt)), or-num (h 6 (lit< tt)), and-num (h 5 (lit< tt)), equal-num (h 4 (lit< tt)), constant-num (h 3 (lit< tt)) ∙ e, and-num (h 2 (lit< tt)), equal-num (h 1 (lit< tt)), constant-num start)
+        (simp (first .value, first .free, second .free, holds-bit))
 
     -- u is the width
     pub shift-group : (n u : ℕ) → n ≡ u → Has f b (shiftGroup b n q cp cq) → val (b + 5) .num ≡ bit (shifted c d (leb u y))

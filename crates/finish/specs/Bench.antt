@@ -42,13 +42,27 @@ unmarkedRule = term 1 0 0 0 0 0 (term 1 0 0 1 1 0 (term 3 0 0 0 1 0 (term 2 0 0 
 abbrev pub shiftRule : List ℕ
 shiftRule = term 1 0 8 0 1 0 (term 13 0 8 0 0 0 (term 6 0 0 1 1 0 []))
 
--- rule G; rule H; a rule whose condition is T; a shift
+-- signed less of a marked and an unmarked vector, and their right shift (slots 0, 1)
+abbrev pub signedLessRule : List ℕ
+signedLessRule = term 1 0 8 0 1 0 (term 1 0 8 1 0 0 (term 19 0 0 0 1 0 []))
+
+abbrev pub rightShiftRule : List ℕ
+rightShiftRule = term 1 0 8 0 1 0 (term 1 0 8 1 0 0 (term 20 0 8 0 1 0 (term 6 0 0 2 2 0 [])))
+
+-- the difference of the two is the negation of the first
+abbrev pub negationRule : List ℕ
+negationRule = term 1 0 8 0 1 0 (term 1 0 8 1 0 0 (term 18 0 8 1 0 0 (term 17 0 8 0 0 0 (term 6 0 0 2 3 0 []))))
+
+-- rule G; rule H; a rule whose condition is T; a shift; the signed operators
 pub rows : List Row
 rows =
     record { table = ruleG; count = 28; condition = 26; last = term 3 0 0 6 26 0 [] }
     ∷ record { table = ruleH; count = 21; condition = 19; last = term 3 0 0 6 19 0 [] }
     ∷ record { table = unmarkedRule; count = 14; condition = 4; last = term 3 0 0 3 4 0 [] }
     ∷ record { table = shiftRule; count = 13; condition = 11; last = term 3 0 0 2 11 0 [] }
+    ∷ record { table = signedLessRule; count = 15; condition = 13; last = term 3 0 0 2 13 0 [] }
+    ∷ record { table = rightShiftRule; count = 17; condition = 15; last = term 3 0 0 3 15 0 [] }
+    ∷ record { table = negationRule; count = 10; condition = 8; last = term 3 0 0 4 8 0 [] }
     ∷ []
 
 -- by computation
@@ -120,3 +134,45 @@ finishedH =
 pub finished-H : finished ruleH ≡ finishedH
 unfolding finished flat fold planBy groups
 finished-H = refl
+
+-- Signed less: T is 3 and F is 4; its group is 5 to 13
+pub finished-signed-less : finished signedLessRule
+    ≡ term 1 0 8 0 1 0
+    (term 1 0 8 1 0 0
+    (term 19 0 0 0 1 0
+    (term 0 0 0 1 0 0
+    (term 0 0 0 0 0 0
+    (term 0 0 8 127 0 0
+    (term 6 0 0 0 5 0
+    (term 3 0 0 4 6 0
+    (term 0 0 8 128 0 0
+    (term 6 0 0 1 8 0
+    (term 3 0 0 3 9 0
+    (term 4 0 0 7 10 0
+    (term 3 0 0 4 3 0
+    (term 4 0 0 11 12 0
+    (term 3 0 0 2 13 0 []))))))))))))))
+unfolding finished flat fold planBy groups
+finished-signed-less = refl
+
+-- The right shift: T is 4 and F is 5; its group is 6 to 14, both tests of the shifted vector; the equality's is 15
+pub finished-right-shift : finished rightShiftRule
+    ≡ term 1 0 8 0 1 0
+    (term 1 0 8 1 0 0
+    (term 20 0 8 0 1 0
+    (term 6 0 0 2 2 0
+    (term 0 0 0 1 0 0
+    (term 0 0 0 0 0 0
+    (term 0 0 8 0 0 0
+    (term 6 0 0 0 6 0
+    (term 3 0 0 5 7 0
+    (term 0 0 8 255 0 0
+    (term 6 0 0 0 9 0
+    (term 3 0 0 5 10 0
+    (term 4 0 0 8 11 0
+    (term 3 0 0 5 4 0
+    (term 4 0 0 12 13 0
+    (term 3 0 0 14 14 0
+    (term 3 0 0 3 15 0 []))))))))))))))))
+unfolding finished flat fold planBy groups
+finished-right-shift = refl

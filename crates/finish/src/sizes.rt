@@ -23,6 +23,8 @@ fn size_of(table: &[u32], x: Term) -> u32
         GroupKind::Zero => 8,
         GroupKind::Ones => 8,
         GroupKind::Bounds => 9,
+        GroupKind::SignedBounds => 9,
+        GroupKind::Fixed => 9,
         GroupKind::Shift => 6,
         GroupKind::Choice => 6,
         GroupKind::Read => 1 + 9 * admission::chain(table, x.p),

@@ -26,7 +26,7 @@ use Rattle.evaluate.specs.Steps.{stepsOf, steps}
 use Rattle.table.proofs.OperandSorts.{isKnown, op-at, two-placed, three-placed}
 use Rattle.judge.specs.Conditions.{ownMarks}
 use Rattle.groups.specs.FunctionGroups.{FunctionGroup, functionGroup, groupKind, kindOf}
-use Rattle.groups.specs.FunctionGroups.FunctionGroup.{unary, strict, conjunction, disjunction, implication, byZero, byOnes, byBounds, shift}
+use Rattle.groups.specs.FunctionGroups.FunctionGroup.{unary, strict, conjunction, disjunction, implication, byZero, byOnes, byBounds, bySigned, byFixed, shift}
 use Rattle.groups.specs.Groups.{storeGroup}
 use Rattle.groups.specs.Plans.{Plan, lastOf, taken, cq, cr, planBy, planIn, planOf, groups, next, plans, planAt}
 use Rattle.groups.specs.Sizes.{sizeBy, sizeOf, sizes}
@@ -104,6 +104,8 @@ module _ (marked : Term → Bool) (yes no : ℕ) (plan : ℕ → Plan) (b width 
   sized-function byZero = record { whole = refl; read = λ s j cj. refl }
   sized-function byOnes = record { whole = refl; read = λ s j cj. refl }
   sized-function byBounds = record { whole = refl; read = λ s j cj. refl }
+  sized-function bySigned = record { whole = refl; read = λ s j cj. refl }
+  sized-function byFixed = record { whole = refl; read = λ s j cj. refl }
   sized-function shift = record { whole = refl; read = λ s j cj. refl }
 
   sized-by : (op : Op) → isKnown op ≡ true → placedAs (fieldsOf (rankOf op)) i t ≡ true → Sized (planBy marked yes no plan b width t (kindOf op)) (sizeBy (kindOf op) c) (1 + 9 * cond (writes op) (suc c) 0)
@@ -183,6 +185,8 @@ function-most implication c = omega arith
 function-most byZero c = omega arith
 function-most byOnes c = omega arith
 function-most byBounds c = omega arith
+function-most bySigned c = omega arith
+function-most byFixed c = omega arith
 function-most shift c = omega arith
 
 size-most : (op : Op) (c : ℕ) → sizeBy (kindOf op) c ≤ cond (reads op) (1 + 9 * c) 9

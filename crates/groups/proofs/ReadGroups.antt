@@ -23,7 +23,7 @@ use Rattle.judge.specs.Conditions.{ownMarks}
 use Rattle.groups.specs.declared.groups.Written.{Written}
 use Rattle.groups.specs.Code.Writing.{placedAll, conditionNumbers, Numbered, after}
 use Rattle.groups.specs.FunctionGroups.{FunctionGroup, functionGroup, groupKind, kindOf}
-use Rattle.groups.specs.FunctionGroups.FunctionGroup.{unary, strict, conjunction, disjunction, implication, byZero, byOnes, byBounds, shift}
+use Rattle.groups.specs.FunctionGroups.FunctionGroup.{unary, strict, conjunction, disjunction, implication, byZero, byOnes, byBounds, bySigned, byFixed, shift}
 use Rattle.groups.specs.Groups.{variableGroup, storeGroup}
 use Rattle.groups.specs.Plans.{Plan, lastOf, taken, planBy, planIn, planOf, next, plans, planAt}
 use Rattle.groups.proofs.GroupSizes.{plan-below, read-most}
@@ -52,6 +52,8 @@ module _ (marked : Term → Bool) (yes no : ℕ) (plan : ℕ → Plan) (b width 
   function-end byZero = refl
   function-end byOnes = refl
   function-end byBounds = refl
+  function-end bySigned = refl
+  function-end byFixed = refl
   function-end shift = refl
 
   end-by : (op : Op) → isKnown op ≡ true → writes op ≡ false

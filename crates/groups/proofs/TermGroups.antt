@@ -23,9 +23,9 @@ use Rattle.table.proofs.OperandSorts.{two-placed}
 use Rattle.judge.specs.Conditions.{ownMarks}
 use Rattle.groups.specs.declared.groups.Written.{Written}
 use Rattle.groups.specs.declared.kinds.GroupKind.{GroupKind}
-use Rattle.groups.specs.declared.kinds.GroupKind.the-variants.{Literal, Input, Unary, Strict, Conjunction, Disjunction, Implication, Zero, Ones, Bounds, Shift, Choice, Read, Write}
+use Rattle.groups.specs.declared.kinds.GroupKind.the-variants.{Literal, Input, Unary, Strict, Conjunction, Disjunction, Implication, Zero, Ones, Bounds, SignedBounds, Fixed, Shift, Choice, Read, Write}
 use Rattle.groups.specs.FunctionGroups.{FunctionGroup, functionGroup, groupKind, kindOf}
-use Rattle.groups.specs.FunctionGroups.FunctionGroup.{unary, strict, conjunction, disjunction, implication, byZero, byOnes, byBounds, shift}
+use Rattle.groups.specs.FunctionGroups.FunctionGroup.{unary, strict, conjunction, disjunction, implication, byZero, byOnes, byBounds, bySigned, byFixed, shift}
 use Rattle.groups.specs.Groups.{choiceGroup}
 use Rattle.groups.specs.Code.Writing.{placedAll, placedFrom, Numbered, after, written}
 use Rattle.groups.specs.Plans.{Plan, lastOf, planBy, planIn, next, plans, planAt}
@@ -43,6 +43,8 @@ isRead Implication = false
 isRead Zero = false
 isRead Ones = false
 isRead Bounds = false
+isRead SignedBounds = false
+isRead Fixed = false
 isRead Shift = false
 isRead Choice = false
 isRead Read = true
@@ -58,6 +60,8 @@ function-unread implication = refl
 function-unread byZero = refl
 function-unread byOnes = refl
 function-unread byBounds = refl
+function-unread bySigned = refl
+function-unread byFixed = refl
 function-unread shift = refl
 
 read-op : (op : Op) → isRead (kindOf op) ≡ true → op ≡ Select

@@ -1,4 +1,5 @@
--- Which kind of group an operator has: the lines of paper 01's "The condition of each term", of less that of paper 02's request 03.
+-- Which kind of group an operator has: the lines of paper 01's "The condition of each term", of less and
+-- the signed operators those of paper 02's requests 03 and 05.
 -- Assumes nothing.
 use mathlib.Core.Bool.{not}
 use Prim.Native.Nat.{ℕ}
@@ -6,14 +7,15 @@ use lib.Dec.{eqb, leb}
 use Rattle.ops.specs.declared.Op.{Op}
 use Rattle.ops.specs.declared.Op.the-variants.{Constant, Variable, Apply, Ite, Select, Store, Unknown}
 use Rattle.ops.specs.declared.Function.{Function}
-use Rattle.ops.specs.declared.Function.the-variants.{Not, And, Or, Implies, Equal, BvNot, BvAnd, BvOr, BvAdd, BvMul, BvShl, BvUlt}
+use Rattle.ops.specs.declared.Function.the-variants.{Not, And, Or, Implies, Equal, BvNot, BvAnd, BvOr, BvAdd, BvMul, BvShl, BvUlt, BvNeg, BvSub, BvSlt, BvAshr}
 use Rattle.ops.specs.Meaning.{Operation, holds, ones, operation}
-use Rattle.ops.specs.Meaning.Operation.{unary as one-operand, strict as never-settled, absorbing, shift as second-settled}
+use Rattle.ops.specs.Meaning.Operation.{unary as one-operand, strict as never-settled, absorbing, shift as second-settled, fixed as first-settled}
+use Rattle.ops.specs.Signed.{greatest, least}
 use Rattle.ops.specs.Ranks.{FunctionRank, arity, functionRank}
 use Rattle.ops.specs.Ranks.Arity.{one, two}
 use Rattle.ops.specs.Ranks.FunctionRank.{boolBinary, bvBinary, bvCompare}
 use Rattle.groups.specs.declared.kinds.GroupKind.{GroupKind}
-use Rattle.groups.specs.declared.kinds.GroupKind.the-variants.{Literal, Input, Unary, Strict, Conjunction, Disjunction, Implication, Zero, Ones, Bounds, Shift, Choice, Read, Write}
+use Rattle.groups.specs.declared.kinds.GroupKind.the-variants.{Literal, Input, Unary, Strict, Conjunction, Disjunction, Implication, Zero, Ones, Bounds, SignedBounds, Fixed, Shift, Choice, Read, Write}
 
 -- The groups of functions: each is right for the functions that these values settle, of this rank.
 pub data FunctionGroup : (o : Operation) → FunctionRank (arity o) → Type 0 where
@@ -30,6 +32,10 @@ pub data FunctionGroup : (o : Operation) → FunctionRank (arity o) → Type 0 w
   byOnes : {f : ℕ → ℕ → ℕ → ℕ} → FunctionGroup (absorbing f (λ n x. eqb x (ones n)) (λ n y. eqb y (ones n))) bvBinary
   -- all ones on the left, 0 on the right
   byBounds : {f : ℕ → ℕ → ℕ → ℕ} → FunctionGroup (absorbing f (λ n x. eqb x (ones n)) (λ n y. eqb y 0)) bvCompare
+  -- the greatest on the left, the least on the right
+  bySigned : {f : ℕ → ℕ → ℕ → ℕ} → FunctionGroup (absorbing f (λ n x. eqb x (greatest n)) (λ n y. eqb y (least n))) bvCompare
+  -- 0 or all ones on the left
+  byFixed : {f : ℕ → ℕ → ℕ → ℕ} → FunctionGroup (first-settled f (λ n x. eqb x 0) (λ n x. eqb x (ones n))) bvBinary
   -- the width or more on the right
   shift : {f : ℕ → ℕ → ℕ → ℕ} → FunctionGroup (second-settled f (λ n y. leb n y)) bvBinary
 
@@ -46,6 +52,10 @@ functionGroup BvAdd = strict
 functionGroup BvMul = byZero
 functionGroup BvShl = shift
 functionGroup BvUlt = byBounds
+functionGroup BvNeg = unary
+functionGroup BvSub = strict
+functionGroup BvSlt = bySigned
+functionGroup BvAshr = byFixed
 
 abbrev pub groupKind : {o : Operation} {r : FunctionRank (arity o)} → FunctionGroup o r → GroupKind
 groupKind unary = Unary
@@ -56,6 +66,8 @@ groupKind implication = Implication
 groupKind byZero = Zero
 groupKind byOnes = Ones
 groupKind byBounds = Bounds
+groupKind bySigned = SignedBounds
+groupKind byFixed = Fixed
 groupKind shift = Shift
 
 abbrev pub kindOf : Op → GroupKind

@@ -6,7 +6,7 @@ use Prim.Native.Nat.{ℕ, _+_}
 use Rattle.table.specs.declared.words.Term.{Term}
 use Rattle.groups.specs.Added.{notT, andT, orT, equalT, choiceT, lessT, constantT, readT}
 
--- Equal, sum: and(C(p), C(q)).
+-- Equal, sum, difference: and(C(p), C(q)).
 abbrev pub strictGroup : ℕ → ℕ → List Term
 strictGroup cp cq = andT cp cq ∷ []
 
@@ -58,8 +58,9 @@ absorbingGroup b n value p q cp cq =
     ∷ []
 
 -- Less (paper 02, request 03): constant 2^n - 1 at the operands' width; equal(p, it); and(C(p), it); constant 0; equal(q, it);
--- and(C(q), it); or of the third and sixth; and(C(p), C(q)); or of the last two. 9. The constants are u and v; s and cs are what
--- stands for q and C(q) in the fifth and sixth.
+-- and(C(q), it); or of the third and sixth; and(C(p), C(q)); or of the last two. 9. Signed less (request 05): the greatest and
+-- the least in the places of all ones and 0. Right shift: 0, then all ones, and p for q in the fifth and sixth. So u and v are the
+-- constants, s and cs what stands in the fifth and sixth.
 abbrev pub boundsGroup : ℕ → ℕ → ℕ → ℕ → ℕ → ℕ → ℕ → ℕ → ℕ → List Term
 boundsGroup b n u v p s cp cs cq =
     constantT n u

@@ -6,11 +6,12 @@ use Prim.Native.Nat.{ℕ, pred, _+_}
 use lib.ListN.{length, getD}
 use Rattle.ops.specs.Numbers.{opOf}
 use Rattle.ops.specs.Meaning.{ones}
+use Rattle.ops.specs.Signed.{greatest, least}
 use Rattle.table.specs.declared.words.Term.{Term}
 use Rattle.table.specs.Folds.{fold}
 use Rattle.table.specs.Terms.{terms, termAt, sortAt}
 use Rattle.groups.specs.declared.kinds.GroupKind.{GroupKind}
-use Rattle.groups.specs.declared.kinds.GroupKind.the-variants.{Literal, Input, Unary, Strict, Conjunction, Disjunction, Implication, Zero, Ones, Bounds, Shift, Choice, Read, Write}
+use Rattle.groups.specs.declared.kinds.GroupKind.the-variants.{Literal, Input, Unary, Strict, Conjunction, Disjunction, Implication, Zero, Ones, Bounds, SignedBounds, Fixed, Shift, Choice, Read, Write}
 use Rattle.groups.specs.FunctionGroups.{kindOf}
 use Rattle.groups.specs.Groups.{strictGroup, andGroup, orGroup, impliesGroup, absorbingGroup, boundsGroup, shiftGroup, choiceGroup, variableGroup, storeGroup}
 
@@ -62,6 +63,8 @@ module _ (marked : Term → Bool) (yes no : ℕ) (plan : ℕ → Plan) (b width 
   planBy Zero = grown (absorbingGroup b (t .sort .n) 0 (t .p) (t .q) cp cq)
   planBy Ones = grown (absorbingGroup b (t .sort .n) (ones (t .sort .n)) (t .p) (t .q) cp cq)
   planBy Bounds = grown (boundsGroup b width (ones width) 0 (t .p) (t .q) cp cq cq)
+  planBy SignedBounds = grown (boundsGroup b width (greatest width) (least width) (t .p) (t .q) cp cq cq)
+  planBy Fixed = grown (boundsGroup b (t .sort .n) 0 (ones (t .sort .n)) (t .p) (t .p) cp cp cq)
   planBy Shift = grown (shiftGroup b (t .sort .n) (t .q) cp cq)
   planBy Choice = grown (choiceGroup b (t .p) (t .q) (t .r) cp cq cr)
   planBy Read = grown (plan (t .p) .readGroup b (t .q) cq)

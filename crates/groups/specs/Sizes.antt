@@ -7,7 +7,7 @@ use Rattle.table.specs.declared.words.Term.{Term}
 use Rattle.table.specs.Terms.{termAt}
 use Rattle.table.specs.Faults.{chain, size}
 use Rattle.groups.specs.declared.kinds.GroupKind.{GroupKind}
-use Rattle.groups.specs.declared.kinds.GroupKind.the-variants.{Literal, Input, Unary, Strict, Conjunction, Disjunction, Implication, Zero, Ones, Bounds, Shift, Choice, Read, Write}
+use Rattle.groups.specs.declared.kinds.GroupKind.the-variants.{Literal, Input, Unary, Strict, Conjunction, Disjunction, Implication, Zero, Ones, Bounds, SignedBounds, Fixed, Shift, Choice, Read, Write}
 use Rattle.groups.specs.FunctionGroups.{kindOf}
 
 -- the terms of a group; stores is the count of stores in a read's chain
@@ -22,6 +22,8 @@ sizeBy Implication stores = 6
 sizeBy Zero stores = 8
 sizeBy Ones stores = 8
 sizeBy Bounds stores = 9
+sizeBy SignedBounds stores = 9
+sizeBy Fixed stores = 9
 sizeBy Shift stores = 6
 sizeBy Choice stores = 6
 sizeBy Read stores = 1 + 9 * stores

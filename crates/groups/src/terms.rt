@@ -4,11 +4,11 @@ ghost use mathlib.Core.Bool.{cond};
 ghost use Prim.Native.Nat.{_+_, _≤_, _<_};
 ghost use lib.ListN.{length};
 ghost use Rattle.ops.specs.Meaning.{ones};
+ghost use Rattle.ops.specs.Signed.{greatest, least};
 ghost use Rattle.table.specs.Terms.{terms, sortAt};
 ghost use Rattle.table.specs.WellFormed.{WellFormed};
 ghost use Rattle.judge.specs.Conditions.{ownMarks};
-ghost use Rattle.groups.specs.Groups.{boundsGroup};
-ghost use Rattle.groups.specs.Code.Writing.{placedAll, Numbered, after, written};
+ghost use Rattle.groups.specs.Code.Writing.{placedAll, Numbered, lessGroup, after, written};
 ghost use Rattle.groups.specs.Plans.{next, plans, planAt};
 use crate::groups::Written;
 use crate::groups::absorbing;
@@ -43,19 +43,48 @@ fn input(x: Term, yes: u32) -> u32
     if x.q == 1 { yes + 1 } else { yes }
 }
 
-// The group of less: the constants have the operands' width.
-fn less(table: &[u32], room: &mut [u32], b: u32, x: Term, cp: u32, cq: u32) -> Written
+// The value that settles less as its first operand, of width `n`: nothing is above it; of signed less in the signed order.
+fn highest(signed: bool, n: u32) -> u32
+    requires { ⌜ n ≤ 32 ⌝ }
+    ensures { λ r. ⌜ r ≡ cond signed (greatest n) (ones n) ⌝ }
+{
+    if signed {
+        ops::greatest(n)
+    } else {
+        ops::ones(n)
+    }
+}
+
+// As its second operand: nothing is below it.
+fn lowest(signed: bool, n: u32) -> u32
+    requires { ⌜ n ≤ 32 ⌝ }
+    ensures { λ r. ⌜ r ≡ cond signed (least n) 0 ⌝ }
+{
+    if signed { ops::least(n) } else { 0 }
+}
+
+// The group of less, or of signed less: the constants have the operands' width.
+fn less(table: &[u32], room: &mut [u32], b: u32, x: Term, cp: u32, cq: u32, signed: bool) -> Written
     requires { ⌜ WellFormed 512 (now table) ⌝ }
     requires { ⌜ b ≤ 80000 ⌝ }
-    ensures { λ r. ⌜ r ≡ after b (boundsGroup b (sortAt (now (table .entry)) (x .p) .n)
-        (ones (sortAt (now (table .entry)) (x .p) .n)) 0 (x .p) (x .q) cp cq cq) ⌝ }
+    ensures { λ r. ⌜ r ≡ after b (lessGroup b (sortAt (now (table .entry)) (x .p) .n) signed x cp cq) ⌝ }
     ensures { λ r. ⌜ now (room .exit)
-        ≡ placedAll (now (room .entry)) b (boundsGroup b (sortAt (now (table .entry)) (x .p) .n)
-        (ones (sortAt (now (table .entry)) (x .p) .n)) 0 (x .p) (x .q) cp cq cq) ⌝ }
+        ≡ placedAll (now (room .entry)) b (lessGroup b (sortAt (now (table .entry)) (x .p) .n) signed x cp cq) ⌝ }
 {
     let sort = table::sort_at(table, x.p);
     let n = sort.n;
-    bounds(room, b, n, ops::ones(n), 0, x.p, x.q, cp, cq, cq)
+    bounds(
+        room,
+        b,
+        n,
+        highest(signed, n),
+        lowest(signed, n),
+        x.p,
+        x.q,
+        cp,
+        cq,
+        cq,
+    )
 }
 
 // The group of term `i`, from number `b` on; conditions has the numbers of the conditions before it.
@@ -89,7 +118,9 @@ pub fn write_group(
         GroupKind::Implication => implication(room, b, x.p, x.q, cp, cq),
         GroupKind::Zero => absorbing(room, b, n, 0, x.p, x.q, cp, cq),
         GroupKind::Ones => absorbing(room, b, n, ops::ones(n), x.p, x.q, cp, cq),
-        GroupKind::Bounds => less(table, room, b, x, cp, cq),
+        GroupKind::Bounds => less(table, room, b, x, cp, cq, false),
+        GroupKind::SignedBounds => less(table, room, b, x, cp, cq, true),
+        GroupKind::Fixed => bounds(room, b, n, 0, ops::ones(n), x.p, x.p, cp, cp, cq),
         GroupKind::Shift => shift(room, b, n, x.q, cp, cq),
         GroupKind::Choice => choice(room, b, x.p, x.q, x.r, cp, cq, number_at(conditions, x.r)),
         GroupKind::Read => read_group(table, conditions, room, b, x.p, x.q, cq),

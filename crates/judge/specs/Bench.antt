@@ -55,9 +55,38 @@ below c = term 1 0 8 0 1 0 (term 0 0 8 c 0 0 (term 14 0 0 0 1 0 []))
 abbrev above : ℕ → List ℕ
 above c = term 1 0 8 0 1 0 (term 0 0 8 c 0 0 (term 14 0 0 1 0 0 []))
 
+-- a marked vector of width n (slot 0), an unmarked one (slot 1), and an operator on them: 18 to 20, whose term is 2; 17 on the first
+abbrev signedly : ℕ → ℕ → List ℕ
+signedly op n = term 1 0 n 0 1 0 (term 1 0 n 1 0 0 (term op 0 n 0 1 0 (term 6 0 0 2 2 0 [])))
+
+abbrev negated : ℕ → List ℕ
+negated n = term 1 0 n 0 0 0 (term 17 0 n 0 0 0 (term 6 0 0 1 1 0 []))
+
+-- an unmarked vector shifted to the right by a marked amount (slots 0, 1)
+abbrev shiftedRight : List ℕ
+shiftedRight = term 1 0 8 0 0 0 (term 1 0 8 1 1 0 (term 20 0 8 0 1 0 (term 6 0 0 2 2 0 [])))
+
+-- signed less at width n, first operand marked or second
+abbrev signedLess : ℕ → ℕ → ℕ → List ℕ
+signedLess n first second = term 1 0 n 0 first 0 (term 1 0 n 1 second 0 (term 19 0 0 0 1 0 []))
+
+-- the web's tension error, measured less target, is above -5 (slots 0, 1), or a marked alarm (slot 2, read as signed) is below a limit
+-- (slot 3)
+abbrev tension : List ℕ
+tension =
+    term 1 0 8 0 0 0
+    (term 1 0 8 1 0 0
+    (term 1 0 8 2 1 0
+    (term 1 0 8 3 0 0
+    (term 18 0 8 0 1 0
+    (term 0 0 8 251 0 0
+    (term 19 0 0 5 4 0
+    (term 19 0 0 2 3 0
+    (term 4 0 0 6 7 0 []))))))))
+
 -- P1 to P4: rule G, values a, x, b. P5, P6: a sum and a product. P7, P8: rule H, values t (all of it), a, c. P9, P10: a shift.
 -- P11: a choice, equal branches and others. P12: in two settings. Then a read of a store at a marked index. Last, a marked 7 beside bounds:
--- nothing is below 0, nothing above all ones; no other bound settles a less.
+-- nothing is below 0, nothing above all ones; no other bound settles a less. After these the signed operators (request 05).
 pub rows : List Row
 rows =
     -- P1
@@ -97,6 +126,33 @@ rows =
     ∷ record { table = above 254; values = 7 ∷ []; cells = []; at = 2; value = 0; condition = false; spent = 0 }
     ∷ record { table = below 255; values = 7 ∷ []; cells = []; at = 2; value = 1; condition = false; spent = 0 }
     ∷ record { table = above 0; values = 7 ∷ []; cells = []; at = 2; value = 1; condition = false; spent = 0 }
+    -- request 05: values at width 8 and 1
+    ∷ record { table = negated 8; values = 1 ∷ []; cells = []; at = 1; value = 255; condition = true; spent = 0 }
+    ∷ record { table = negated 8; values = 128 ∷ []; cells = []; at = 1; value = 128; condition = true; spent = 0 }
+    ∷ record { table = negated 1; values = 1 ∷ []; cells = []; at = 1; value = 1; condition = true; spent = 0 }
+    ∷ record { table = signedly 18 8; values = 3 ∷ 5 ∷ []; cells = []; at = 2; value = 254; condition = false; spent = 0 }
+    ∷ record { table = signedly 20 8; values = 128 ∷ 3 ∷ []; cells = []; at = 2; value = 240; condition = false; spent = 0 }
+    ∷ record { table = signedly 20 8; values = 64 ∷ 3 ∷ []; cells = []; at = 2; value = 8; condition = false; spent = 0 }
+    ∷ record { table = signedly 20 8; values = 128 ∷ 9 ∷ []; cells = []; at = 2; value = 255; condition = false; spent = 0 }
+    ∷ record { table = signedly 20 1; values = 1 ∷ 1 ∷ []; cells = []; at = 2; value = 1; condition = false; spent = 0 }
+    -- what settles: the first operand of a right shift is 0 or all ones, and free; it is marked here, so nothing does
+    ∷ record { table = signedly 20 8; values = 255 ∷ 1 ∷ []; cells = []; at = 2; value = 255; condition = false; spent = 0 }
+    ∷ record { table = signedly 20 8; values = 0 ∷ 1 ∷ []; cells = []; at = 2; value = 0; condition = false; spent = 0 }
+    -- free it does, whatever the amount; the amount settles nothing
+    ∷ record { table = shiftedRight; values = 0 ∷ 3 ∷ []; cells = []; at = 2; value = 0; condition = true; spent = 0 }
+    ∷ record { table = shiftedRight; values = 255 ∷ 3 ∷ []; cells = []; at = 2; value = 255; condition = true; spent = 0 }
+    ∷ record { table = shiftedRight; values = 254 ∷ 3 ∷ []; cells = []; at = 2; value = 255; condition = false; spent = 0 }
+    -- nothing is above the greatest, nothing below the least; a marked bound settles nothing
+    ∷ record { table = signedLess 8 0 1; values = 127 ∷ 200 ∷ []; cells = []; at = 2; value = 0; condition = true; spent = 0 }
+    ∷ record { table = signedLess 8 1 0; values = 200 ∷ 128 ∷ []; cells = []; at = 2; value = 0; condition = true; spent = 0 }
+    ∷ record { table = signedLess 8 0 1; values = 255 ∷ 0 ∷ []; cells = []; at = 2; value = 1; condition = false; spent = 0 }
+    ∷ record { table = signedLess 8 1 0; values = 200 ∷ 0 ∷ []; cells = []; at = 2; value = 1; condition = false; spent = 0 }
+    ∷ record { table = signedLess 8 1 0; values = 127 ∷ 5 ∷ []; cells = []; at = 2; value = 0; condition = false; spent = 0 }
+    ∷ record { table = signedLess 1 0 1; values = 0 ∷ 1 ∷ []; cells = []; at = 2; value = 0; condition = true; spent = 0 }
+    ∷ record { table = signedLess 1 1 0; values = 0 ∷ 1 ∷ []; cells = []; at = 2; value = 0; condition = true; spent = 0 }
+    -- the tension error -3 is above -5: passes whatever the alarm reads; -6 is not, and the alarm decides
+    ∷ record { table = tension; values = 97 ∷ 100 ∷ 7 ∷ 0 ∷ []; cells = []; at = 8; value = 1; condition = true; spent = 0 }
+    ∷ record { table = tension; values = 94 ∷ 100 ∷ 200 ∷ 0 ∷ []; cells = []; at = 8; value = 1; condition = false; spent = 0 }
     ∷ []
 
 -- by computation

@@ -7,7 +7,7 @@ use Prim.Native.Nat.{ℕ, zero, suc, _+_, _≤_, _<_}
 use native.Mathlib.Omega.{arith}
 use lib.Dec.{eqb, ltb}
 use borrow.Author.Tests.{eq-eqb, ne-eqb, eqb-true, eqb-false, ltb-true, lt-ltb}
-use Rattle.ops.specs.Numbers.{opOf}
+use Rattle.ops.specs.Numbers.{opOf, lastOp}
 use Rattle.ops.proofs.Booleans.{never}
 use Rattle.smtlib.specs.Bytes.{part}
 use Rattle.table.specs.Refusals.{between}
@@ -51,7 +51,7 @@ data Begins (names levels : ℕ) (s : State) : Head → Type 0 where
   stop : {v : State} → Faulty v → Begins names levels s (Done v)
   name : {v : State} → v .fault ≡ 0 → v .count ≡ s .count → (s .count ≤ 512 → names ≤ s .count → v .root < s .count) → Begins names levels s (Done v)
   constant : {n v next : ℕ} → n ≤ 32 → Begins names levels s (Constant n v next)
-  call : {op next : ℕ} → (levels ≡ 0 → ⊥) → 2 ≤ op → op ≤ 16 → Begins names levels s (Call op next)
+  call : {op next : ℕ} → (levels ≡ 0 → ⊥) → 2 ≤ op → op ≤ lastOp → Begins names levels s (Call op next)
 
 module _ (text : List ℕ) (names : ℕ) (s : State) (levels : ℕ) where
   named-begins : (t : Token) → Begins names levels s (Done (named text names s t))
@@ -200,7 +200,7 @@ module _ (text : List ℕ) (names levels : ℕ) where
   unfolding closedState
   stays l h = rw (ne-eqb (l .state .fault) 0 h)
 
-  closed-read : (c op : ℕ) → 2 ≤ op → op ≤ 16 → (u : Listing) → Listings names c (operandsOf op) u → Outcome names c (closedBy text names levels op u)
+  closed-read : (c op : ℕ) → 2 ≤ op → op ≤ lastOp → (u : Listing) → Listings names c (operandsOf op) u → Outcome names c (closedBy text names levels op u)
   closed-read c op low high u (stopped b) = stopped
       (go (closedState text names levels (u .listed)) (stays (u .listed) (not-clean (u .listed .state) b)))
     where
@@ -222,7 +222,7 @@ module _ (text : List ℕ) (names levels : ℕ) where
 
 module _ (text : List ℕ) (names : ℕ) where
   begun-read : (levels : ℕ) (list : ℕ → ℕ → Work) (s : State) (room : List ℕ) → Table names (s .count) room
-      → ((op next : ℕ) → (levels ≡ 0 → ⊥) → 2 ≤ op → op ≤ 16 → Outcome names (s .count) (list op next))
+      → ((op next : ℕ) → (levels ≡ 0 → ⊥) → 2 ≤ op → op ≤ lastOp → Outcome names (s .count) (list op next))
       → (h : Head) → Begins names levels s h → Outcome names (s .count) (begun list s room h)
   begun-read levels list s room t later (Done v) (stop b) = stopped b
   begun-read levels list s room t later (Done v) (name f e r) =

@@ -7,7 +7,7 @@ use Prim.Native.Nat.{ℕ, zero, suc, _≤_, _<_}
 use native.Mathlib.Omega.{arith}
 use lib.Dec.{eqb}
 use borrow.Author.Tests.{le-leb, lt-ltb, ne-eqb, eqb-true}
-use Rattle.ops.specs.Numbers.{opOf}
+use Rattle.ops.specs.Numbers.{opOf, lastOp}
 use Rattle.ops.proofs.Booleans.{never, and-shut}
 use Rattle.table.specs.declared.ranks.Rank.{Rank}
 use Rattle.table.specs.declared.ranks.Rank.the-variants as rank
@@ -84,12 +84,12 @@ fields-there Three c op s l h e = rw (lt-ltb _ _ (h .first (omega arith)), lt-lt
 no-variable : (op : ℕ) → 2 ≤ op → slotted (opOf op) ≡ true → ⊥
 no-variable op h e = omega (arith, eqb-true op 1 (number-of slotted 1 refl refl op ∙ e))
 
-pub list-clean : {names c : ℕ} {room : List ℕ} → Table names c room → c ≤ 512 → (op : ℕ) (l : Listed) → 2 ≤ op → op ≤ 16 → Held c l
+pub list-clean : {names c : ℕ} {room : List ℕ} → Table names c room → c ≤ 512 → (op : ℕ) (l : Listed) → 2 ≤ op → op ≤ lastOp → Held c l
     → l .n ≡ operandsOf op → Clean c (termOf room op l)
 unfolding termOf
 list-clean {c = c} {room} t few op l low high h e =
     record {
-      numbered = le-leb op 16 high;
+      numbered = le-leb op lastOp high;
       sorts = sort-sorted (rankOf (opOf op)) (sortAt room (l .p)) (sortAt room (l .q)) (λ i. t .clean few (l .p) (h .first (omega arith)) .sorts)
           (λ i. t .clean few (l .q) (h .second (omega arith)) .sorts);
       fielded = fields-there (fieldsOf (rankOf (opOf op))) c op (sortBy (rankOf (opOf op)) (sortAt room (l .p)) (sortAt room (l .q))) l h e;

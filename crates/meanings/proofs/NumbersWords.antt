@@ -3,12 +3,13 @@
 use mathlib.Core.Path.{_≡_, refl}
 use mathlib.Core.Bool.{Bool, true, false, cond, not, _&&_}
 use mathlib.Core.List.{List, [], _∷_}
-use Prim.Native.Nat.{ℕ, _≤_, _<_}
+use Prim.Native.Nat.{ℕ, _≤_, _<_, suc}
 use Prim.{tt}
 use native.Mathlib.Omega.{arith}
 use lib.Dec.{eqb, ltb, leb}
 use lib.ListN.{length, getD}
 use borrow.Author.Tests.{ltb-true, leb-true}
+use Rattle.ops.specs.Numbers.{lastOp}
 use Rattle.smtlib.specs.Bytes.{bytes, part, sameBytes, placeIn, isIn}
 use Rattle.smtlib.specs.Numerals.{valueOf}
 use Rattle.smtlib.specs.Symbols.{operators, operatorOf}
@@ -26,7 +27,7 @@ abbrev pub Bounded : Word → Type 0
 Bounded Open = Unit {0}
 Bounded Close = Unit {0}
 Bounded (Keyword k) = Unit {0}
-Bounded (Operator op) = (2 ≤ op) × (op ≤ 16)
+Bounded (Operator op) = (2 ≤ op) × (op ≤ lastOp)
 Bounded (Literal n v) = n ≤ 32
 Bounded (Width n) = n ≤ 32
 Bounded (Name k) = Unit {0}
@@ -40,8 +41,8 @@ operator-bounded [] e = absurd (omega (arith, ltb-true 0 0 e))
 operator-bounded (b ∷ y) e = go (isIn operators (b ∷ y)) refl (ltb-true 0 (operatorOf (b ∷ y)) e)
   where
     go : (t : Bool) → isIn operators (b ∷ y) ≡ t → 0 < cond t (placeIn operators (b ∷ y)) 0
-        → (2 ≤ cond t (placeIn operators (b ∷ y)) 0) × (cond t (placeIn operators (b ∷ y)) 0 ≤ 16)
-    go true f h = (omega arith, omega (arith, ltb-true (placeIn operators (b ∷ y)) 17 f))
+        → (2 ≤ cond t (placeIn operators (b ∷ y)) 0) × (cond t (placeIn operators (b ∷ y)) 0 ≤ lastOp)
+    go true f h = (omega arith, omega (arith, ltb-true (placeIn operators (b ∷ y)) (suc lastOp) f))
     go false f h = absurd (omega arith)
 
 plain-bounded : (w : List ℕ) → Bounded (plainOf w)

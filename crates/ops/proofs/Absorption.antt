@@ -2,22 +2,27 @@
 -- Assumes nothing.
 use mathlib.Core.Path.{_≡_, refl, sym, ap, _∙_}
 use mathlib.Core.Bool.{Bool, true, false, not, _&&_, _||_}
-use Prim.Native.Nat.{ℕ, suc, _+_, _*_, _%_, _^_, _<_}
+use mathlib.Core.Logic.{⊎-elim}
+use Prim.Native.Nat.{ℕ, _+_, _*_, _%_, _^_, _<_}
 use native.Mathlib.Nat.{zero-mul, mul-zero, zero-mod, mod-eq-of-lt, add-right-cancel}
-use native.Mathlib.Decide.{decLt}
 use native.Mathlib.Omega.{arith}
 use lib.Bits.{bitAnd, bitOr, and-zero-l, and-zero-r, and-comm, and-mask, or-comm, or-mod, or-add-and}
 use lib.Dec.{eqb, ltb, leb}
-use lib.Pow.{pow-pos, ones-lt, ones-sub-lt, le-ones}
-use borrow.Author.Tests.{eqb-true, ltb-true, leb-true, lt-ltb, le-ltb}
-use Rattle.ops.specs.declared.Function.the-variants.{Not, And, Or, Implies, Equal, BvNot, BvAnd, BvOr, BvAdd, BvMul, BvShl, BvUlt}
+use lib.IntN.{negℤ, _-ℤ_}
+use lib.Pow.{ones-lt, ones-sub-lt, le-ones}
+use lib.Signed.{ltZ, shrZ}
+use borrow.Author.Tests.{eqb-true, ltb-true, leb-true, le-ltb}
+use Rattle.ops.specs.declared.Function.the-variants.{Not, And, Or, Implies, Equal, BvNot, BvAnd, BvOr, BvAdd, BvMul, BvShl, BvUlt, BvNeg, BvSub, BvSlt, BvAshr}
 use Rattle.ops.specs.declared.Function.{Function}
+use Rattle.ops.specs.Signed.{greatest, least, signed}
 use Rattle.ops.specs.Meaning.{bit, holds, ones, operation, valueOf}
 use Rattle.ops.specs.Ranks.{functionRank, rankWidth}
 use Rattle.ops.specs.Fits.{fits}
-use Rattle.ops.specs.Laws.{first, second, operandFits, Absorbs, Absorption, LessSettled}
-use Rattle.ops.proofs.Booleans.{never, and-shut, or-open}
+use Rattle.ops.specs.Laws.{first, second, operandFits, Absorbs, Absorption}
+use Rattle.ops.proofs.Booleans.{never, or-parts, and-shut, or-open}
 use Rattle.ops.proofs.Widths.{mod-below, shifted-out, fits-below, fits-mod, fits-bit}
+use Rattle.ops.proofs.Wraps.{fits-wrap}
+use Rattle.ops.proofs.Signed.{turned, less-turned, turned-greatest, turned-least, shift-zero, shift-ones}
 
 -- truths
 
@@ -67,12 +72,21 @@ module _ (n : ℕ) where
   out x x′ y e = shifted-out n x y (leb-true n y e) ∙ sym (shifted-out n x′ y (leb-true n y e))
 
   -- no vector is above all ones
-  none-above : (x y : ℕ) → eqb x (ones n) ≡ true → ltb y (2 ^ n) ≡ true → ltb x y ≡ false
-  none-above x y e h = ap (λ (u : ℕ). ltb u y) (eqb-true x (ones n) e) ∙ le-ltb (ones n) y (le-ones n (ltb-true y (2 ^ n) h))
+  none-above : (x y : ℕ) → x ≡ ones n → y < 2 ^ n → ltb x y ≡ false
+  none-above x y e h = ap (λ (u : ℕ). ltb u y) e ∙ le-ltb (ones n) y (le-ones n h)
 
 -- and none is below 0
-none-below : (x y : ℕ) → eqb y 0 ≡ true → ltb x y ≡ false
-none-below x y e = ap (ltb x) (eqb-true y 0 e) ∙ le-ltb x 0 (omega arith)
+none-below : (x y : ℕ) → y ≡ 0 → ltb x y ≡ false
+none-below x y e = ap (ltb x) e ∙ le-ltb x 0 (omega arith)
+
+-- the same of the greatest and the least in the signed order
+module _ (n x y : ℕ) where
+  none-above-greatest : eqb x (greatest n) ≡ true → ltZ (signed n x) (signed n y) ≡ false
+  none-above-greatest e =
+      less-turned n x y ∙ none-above n (turned n x) (turned n y) (ap (turned n) (eqb-true x (greatest n) e) ∙ turned-greatest n) (mod-below n (y + least n))
+
+  none-below-least : eqb y (least n) ≡ true → ltZ (signed n x) (signed n y) ≡ false
+  none-below-least e = less-turned n x y ∙ none-below (turned n x) (turned n y) (ap (turned n) (eqb-true y (least n) e) ∙ turned-least n)
 
 -- What is shown function by function: where one operand settles the result the other cannot change it, and the value fits.
 pub record Lawful (f : Function) (n : ℕ) : Type 0 where
@@ -121,30 +135,21 @@ lawful BvShl n = absorbing BvShl n (λ x y. fits-mod n _) (λ x y y′ p. never 
 lawful BvUlt n =
     record {
       absorbed = record {
-        by-first = λ x y y′ h h′ p. ap bit (none-above n x y p h ∙ sym (none-above n x y′ p h′));
-        by-second = λ x x′ y h h′ p. ap bit (none-below x y p ∙ sym (none-below x′ y p));
+        by-first = λ x y y′ h h′ p. let e = eqb-true x (ones n) p in ap bit (none-above n x y e (ltb-true y (2 ^ n) h) ∙ sym (none-above n x y′ e (ltb-true y′ (2 ^ n) h′)));
+        by-second = λ x x′ y h h′ p. let e = eqb-true y 0 p in ap bit (none-below x y e ∙ sym (none-below x′ y e));
       };
       fitted = λ x y. fits-bit (ltb x y);
     }
-
--- of less no other value does: its successor is above it, and 0 is below it
-told-apart : {a b : Bool} → bit a ≡ bit b → a ≡ true → b ≡ false → ⊥
-told-apart e p q = let z : _≡_ {A = ℕ} 1 0 = sym (ap bit p) ∙ e ∙ ap bit q in omega arith
-
-pub less-settled : LessSettled
-less-settled n u h =
-    record {
-      as-first = λ same. go (decLt (suc u) (2 ^ n)) same;
-      as-second = λ same. up (decLt 0 u) same;
-    }
-  where
-    go : Dec (suc u < 2 ^ n) → ((y y′ : ℕ) → y < 2 ^ n → y′ < 2 ^ n → valueOf BvUlt n u y ≡ valueOf BvUlt n u y′) → u ≡ ones n
-    go (yes l) same = absurd (told-apart (same (suc u) u l h) (lt-ltb u (suc u) (omega arith)) (le-ltb u u (omega arith)))
-    go (no l) same = omega arith
-
-    up : Dec (0 < u) → ((x x′ : ℕ) → x < 2 ^ n → x′ < 2 ^ n → valueOf BvUlt n x u ≡ valueOf BvUlt n x′ u) → u ≡ 0
-    up (yes l) same = absurd (told-apart (same 0 u (pow-pos n) h) (lt-ltb 0 u l) (le-ltb u u (omega arith)))
-    up (no l) same = omega arith
+lawful BvNeg n = unsettled BvNeg n (λ x y. fits-wrap n (negℤ (signed n x))) (λ x. refl) (λ y. refl)
+lawful BvSub n = unsettled BvSub n (λ x y. fits-wrap n (signed n x -ℤ signed n y)) (λ x. refl) (λ y. refl)
+lawful BvSlt n =
+    absorbing BvSlt n (λ x y. fits-bit (ltZ (signed n x) (signed n y)))
+    (λ x y y′ p. ap bit (none-above-greatest n x y p ∙ sym (none-above-greatest n x y′ p)))
+    (λ x x′ y p. ap bit (none-below-least n x y p ∙ sym (none-below-least n x′ y p)))
+lawful BvAshr n =
+    absorbing BvAshr n (λ x y. fits-wrap n (shrZ (signed n x) (2 ^ y)))
+    (λ x y y′ p. ⊎-elim (one-first (valueOf BvAshr n) 0 (shift-zero n) x y y′) (one-first (valueOf BvAshr n) (ones n) (shift-ones n) x y y′) (or-parts (eqb x 0) (eqb x (ones n)) p))
+    (λ x x′ y p. never p)
 
 pub absorption : Absorption
 absorption f n = lawful f n .absorbed

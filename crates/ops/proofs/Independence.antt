@@ -7,11 +7,11 @@ use Prim.Native.Nat.{ℕ}
 use lib.Dec.{eqb}
 use borrow.Author.Tests.{eqb-true}
 use Rattle.ops.specs.Meaning.{Operation, operation, valueBy}
-use Rattle.ops.specs.Meaning.Operation.{unary, strict, absorbing, shift}
+use Rattle.ops.specs.Meaning.Operation.{unary, strict, absorbing, shift, fixed}
 use Rattle.ops.specs.Ranks.{FunctionRank, arity, functionRank}
-use Rattle.ops.specs.Condition.{absorbed, shifted, conditionBy}
+use Rattle.ops.specs.Condition.{absorbed, shifted, fixedBy, conditionBy}
 use Rattle.ops.specs.Laws.{first, second, operandFits, OperandsFit, Agree, Independence, ChoiceIndependence}
-use Rattle.ops.proofs.Booleans.{and-parts, or-parts, and-same, or-same}
+use Rattle.ops.proofs.Booleans.{and-parts, or-parts, or-open, and-same, or-same}
 use Rattle.ops.proofs.Absorption.{absorption}
 
 module _ {x x′ y y′ : ℕ} {c c′ d d′ : Bool} (p : Agree c c′ x x′) (q : Agree d d′ y y′) where
@@ -46,6 +46,14 @@ module _ {x x′ y y′ : ℕ} {c c′ d d′ : Bool} (p : Agree c c′ x x′) 
           condition = or-same (and-same (q .condition) (λ h. ap B (q .value h))) both-condition;
           value = λ h. ⊎-elim (second-value by-second) (both-value f) (or-parts (d && B y) (c && d) h);
         }
+
+  -- A and B test x
+  fixed-agree : (f : ℕ → ℕ → ℕ) (A B : ℕ → Bool) → ((A x || B x) ≡ true → f x y ≡ f x y′) → Agree (fixedBy c d (A x) (B x)) (fixedBy c′ d′ (A x′) (B x′)) (f x y) (f x′ y′)
+  fixed-agree f A B by-first =
+      record {
+        condition = or-same (or-same (and-same (p .condition) (λ h. ap A (p .value h))) (and-same (p .condition) (λ h. ap B (p .value h)))) both-condition;
+        value = λ h. ⊎-elim (λ k. ⊎-elim (first-value f A B (λ e. by-first (ap (λ (t : Bool). t || B x) e))) (first-value f B A (λ e. by-first (ap (λ (t : Bool). A x || t) e ∙ or-open (A x)))) (or-parts (c && A x) (c && B x) k)) (both-value f) (or-parts ((c && A x) || (c && B x)) (c && d) h);
+      }
 
 pub choice-independence : ChoiceIndependence
 choice-independence test test′ y y′ z z′ c c′ d d′ e e′ free same q r =
@@ -89,6 +97,7 @@ operation-agree (strict f) r n fit fit′ p q by-first by-second = record { cond
 operation-agree (absorbing f a b) r n fit fit′ p q by-first by-second =
     absorbed-agree p q (f n) (a n) (b n) (by-first (fit .1) (fit′ .1)) (by-second (fit .0) (fit′ .0))
 operation-agree (shift f b) r n fit fit′ p q by-first by-second = shifted-agree p q (f n) (b n) (b n) (by-second (fit .0) (fit′ .0))
+operation-agree (fixed f a b) r n fit fit′ p q by-first by-second = fixed-agree p q (f n) (a n) (b n) (by-first (fit .1) (fit′ .1))
 
 pub independence : Independence
 independence f n x x′ y y′ c c′ d d′ fit fit′ p q =

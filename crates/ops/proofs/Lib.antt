@@ -3,7 +3,10 @@ pub mod Past
 pub mod Booleans
 pub mod Widths
 pub mod Halves
+pub mod Wraps
+pub mod Signed
 pub mod Absorption
+pub mod Bounds
 pub mod Fitting
 pub mod Independence
 pub mod Monotone

@@ -6,7 +6,7 @@ use Prim.Native.Nat.{ℕ}
 use lib.Dec.{eqb}
 use Rattle.ops.specs.declared.Op.the-variants.{Constant, Variable, Apply, Ite, Select, Store, Unknown}
 use Rattle.ops.specs.Meaning.{Operation, holds, operation}
-use Rattle.ops.specs.Meaning.Operation.{unary, strict, absorbing, shift}
+use Rattle.ops.specs.Meaning.Operation.{unary, strict, absorbing, shift, fixed}
 use Rattle.ops.specs.Condition.{conditionBy, settles}
 use Rattle.ops.specs.Laws.{Implied, Monotone, ChoiceMonotone}
 use Rattle.ops.proofs.Booleans.{never}
@@ -43,6 +43,10 @@ operation-monotone (absorbing f a b) n x y c c′ d d′ p q =
     (and-implied c c′ d d′ p q)
 operation-monotone (shift f b) n x y c c′ d d′ p q =
     or-implied (d && b n y) (d′ && b n y) (c && d) (c′ && d′) (and-implied d d′ (b n y) (b n y) q (same (b n y))) (and-implied c c′ d d′ p q)
+operation-monotone (fixed f a b) n x y c c′ d d′ p q =
+    or-implied ((c && a n x) || (c && b n x)) ((c′ && a n x) || (c′ && b n x)) (c && d) (c′ && d′)
+    (or-implied (c && a n x) (c′ && a n x) (c && b n x) (c′ && b n x) (and-implied c c′ (a n x) (a n x) p (same (a n x))) (and-implied c c′ (b n x) (b n x) p (same (b n x))))
+    (and-implied c c′ d d′ p q)
 
 pub monotone : Monotone
 unfolding settles

@@ -38,6 +38,10 @@ mod-ones n v = le-ones n (mod-below n v)
 pub no-ones : (n x : ℕ) → 32 < n → x < 2 ^ 32 → eqb x (2 ^ n - 1) ≡ false
 no-ones n x h b = ne-eqb x (2 ^ n - 1) (λ e. absurd (omega (arith, e, b, pow-lt h)))
 
+-- nor a top bit beyond them
+pub no-top-bit : (n x : ℕ) → 32 < n → x < 2 ^ 32 → eqb x (2 ^ (n - 1)) ≡ false
+no-top-bit n x h b = let l = below-whole (n - 1) x (omega arith) b in ne-eqb x (2 ^ (n - 1)) (omega arith)
+
 -- the whole product of two numbers
 pub product-below : (k : ℕ) {a b : ℕ} → a < 2 ^ k → b < 2 ^ k → a * b < 2 ^ (k + k)
 product-below k {a} {b} ha hb =

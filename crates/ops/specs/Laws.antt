@@ -1,17 +1,20 @@
--- What is proved of every operator, as named statements. The proofs are in proofs/Fitting, proofs/Absorption,
--- proofs/Independence and proofs/Monotone.
+-- What is proved of every operator, as named statements. The proofs are in proofs/Fitting, proofs/Signed,
+-- proofs/Absorption, proofs/Bounds, proofs/Independence and proofs/Monotone.
 -- Assumes nothing.
 use mathlib.Core.Path.{_≡_}
-use mathlib.Core.Bool.{Bool, true, false, cond}
-use Prim.Native.Nat.{ℕ, _-_, _^_, _<_}
+use mathlib.Core.Bool.{Bool, true, false, _||_, cond}
+use Prim.Native.Nat.{ℕ, _-_, _/_, _%_, _^_, _≤_, _<_}
 use lib.Bits.{bitAnd, bitOr}
 use lib.Dec.{eqb, ltb}
+use lib.IntN.{ℤ}
+use lib.Signed.{mag, shrZ}
 use Rattle.ops.specs.declared.Op.{Op}
 use Rattle.ops.specs.declared.Op.the-variants.{Constant, Variable, Apply, Ite, Select, Store, Unknown}
 use Rattle.ops.specs.declared.Function.{Function}
-use Rattle.ops.specs.declared.Function.the-variants.{BvNot, BvAnd, BvOr, BvUlt}
+use Rattle.ops.specs.declared.Function.the-variants.{BvNot, BvAnd, BvOr, BvAdd, BvUlt, BvNeg, BvSub, BvSlt, BvAshr}
+use Rattle.ops.specs.Signed.{greatest, least, signed, wrap}
 use Rattle.ops.specs.Meaning.{Operation, ones, operation, valueOf, apply}
-use Rattle.ops.specs.Meaning.Operation.{unary, strict, absorbing, shift}
+use Rattle.ops.specs.Meaning.Operation.{unary, strict, absorbing, shift, fixed}
 use Rattle.ops.specs.Ranks.{Arity, FunctionRank, arity, functionRank, rankWidth}
 use Rattle.ops.specs.Ranks.Arity.{one, two}
 use Rattle.ops.specs.Ranks.FunctionRank.{boolUnary, boolBinary, equality, bvUnary, bvBinary, bvCompare}
@@ -53,18 +56,45 @@ pub record BitByBit (n x y : ℕ) : Type 0 where
 abbrev pub Bitwise : Type 0
 Bitwise = (n x y : ℕ) → x < 2 ^ n → y < 2 ^ n → BitByBit n x y
 
+-- The signed operators by the others, whatever the numbers.
+pub record ByOthers (n x y : ℕ) : Type 0 where
+  -- not plus one; the sum with the negation
+  pub bvneg : valueOf BvNeg n x y ≡ valueOf BvAdd n (valueOf BvNot n x y) 1
+  pub bvsub : valueOf BvSub n x y ≡ valueOf BvAdd n x (valueOf BvNeg n y x)
+  -- less, with the top bits turned: adding 2^(n-1) turns them
+  pub bvslt : valueOf BvSlt n x y ≡ valueOf BvUlt n (valueOf BvAdd n x (least n)) (valueOf BvAdd n y (least n))
+  -- with the top bit 0 a division by a power of two, with the top bit 1 that between two nots
+  pub bvashr : valueOf BvAshr n x y ≡ cond (ltb (x % 2 ^ n) (least n)) (x % 2 ^ n / 2 ^ y) (valueOf BvNot n (valueOf BvNot n x y / 2 ^ y) y)
+
+abbrev pub SignedByOthers : Type 0
+SignedByOthers = (n x y : ℕ) → ByOthers n x y
+
+-- Of vectors of width n, above 0.
+pub record SignedFacts (n x y : ℕ) : Type 0 where
+  -- reading and wrapping undo each other, on the vectors and on the integers from -2^(n-1) to 2^(n-1) - 1
+  pub wrap-signed : wrap n (signed n x) ≡ x
+  pub signed-wrap : (z : ℤ) → mag z < least n → signed n (wrap n z) ≡ z
+  -- the shift to the right divides the integer by 2^y, rounded down; by the width or more it leaves the sign
+  pub divided : signed n (valueOf BvAshr n x y) ≡ shrZ (signed n x) (2 ^ y)
+  pub shifted-out : n ≤ y → valueOf BvAshr n x y ≡ cond (ltb x (least n)) 0 (ones n)
+
+abbrev pub SignedReading : Type 0
+SignedReading = (n x y : ℕ) → 0 < n → x < 2 ^ n → SignedFacts n x y
+
 -- the tests of an operator: which values of the first and of the second operand settle the result
 abbrev pub first : Operation → ℕ → ℕ → Bool
 first (unary f) n x = false
 first (strict f) n x = false
 first (absorbing f a b) n x = a n x
 first (shift f b) n x = false
+first (fixed f a b) n x = a n x || b n x
 
 abbrev pub second : Operation → ℕ → ℕ → Bool
 second (unary f) n y = false
 second (strict f) n y = false
 second (absorbing f a b) n y = b n y
 second (shift f b) n y = b n y
+second (fixed f a b) n y = false
 
 -- the values of an operand, by its function's rank: 0 or 1; of the width n; below 2^n
 abbrev pub operandFits : {a : Arity} → FunctionRank a → ℕ → ℕ → Bool
@@ -90,13 +120,16 @@ pub record Absorbs (f : Function) (n : ℕ) : Type 0 where
 abbrev pub Absorption : Type 0
 Absorption = (f : Function) (n : ℕ) → Absorbs f n
 
--- Of less these are all: a value of the first operand that settles it is all ones, one of the second is 0.
-pub record OnlyBounds (n u : ℕ) : Type 0 where
-  pub as-first : ((y y′ : ℕ) → y < 2 ^ n → y′ < 2 ^ n → valueOf BvUlt n u y ≡ valueOf BvUlt n u y′) → u ≡ ones n
-  pub as-second : ((x x′ : ℕ) → x < 2 ^ n → x′ < 2 ^ n → valueOf BvUlt n x u ≡ valueOf BvUlt n x′ u) → u ≡ 0
+-- Of less these are all: a value of the first operand that settles it is the top of the order, one of the second the bottom.
+pub record OnlyBounds (f : Function) (n top bottom u : ℕ) : Type 0 where
+  pub as-first : ((y y′ : ℕ) → y < 2 ^ n → y′ < 2 ^ n → valueOf f n u y ≡ valueOf f n u y′) → u ≡ top
+  pub as-second : ((x x′ : ℕ) → x < 2 ^ n → x′ < 2 ^ n → valueOf f n x u ≡ valueOf f n x′ u) → u ≡ bottom
 
 abbrev pub LessSettled : Type 0
-LessSettled = (n u : ℕ) → u < 2 ^ n → OnlyBounds n u
+LessSettled = (n u : ℕ) → u < 2 ^ n → OnlyBounds BvUlt n (ones n) 0 u
+
+abbrev pub SignedLessSettled : Type 0
+SignedLessSettled = (n u : ℕ) → 0 < n → u < 2 ^ n → OnlyBounds BvSlt n (greatest n) (least n) u
 
 -- Two runs agree on a term: one condition, and where it is true one value.
 pub record Agree (c c′ : Bool) (x x′ : ℕ) : Type 0 where

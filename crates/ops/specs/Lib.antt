@@ -1,4 +1,5 @@
 pub mod Numbers
+pub mod Signed
 pub mod Meaning
 pub mod Ranks
 pub mod Condition

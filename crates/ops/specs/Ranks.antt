@@ -1,10 +1,10 @@
--- The functions' ranks (SMT-LIB's word: the sorts of the operands and of the value): paper 01's table of operators.
+-- The functions' ranks (SMT-LIB's word: the sorts of the operands and of the value): paper 01's table of operators; request 05.
 -- Assumes nothing.
 use Prim.Native.Nat.{ℕ}
 use Rattle.ops.specs.declared.Function.{Function}
-use Rattle.ops.specs.declared.Function.the-variants.{Not, And, Or, Implies, Equal, BvNot, BvAnd, BvOr, BvAdd, BvMul, BvShl, BvUlt}
+use Rattle.ops.specs.declared.Function.the-variants.{Not, And, Or, Implies, Equal, BvNot, BvAnd, BvOr, BvAdd, BvMul, BvShl, BvUlt, BvNeg, BvSub, BvSlt, BvAshr}
 use Rattle.ops.specs.Meaning.{Operation, operation}
-use Rattle.ops.specs.Meaning.Operation.{unary, strict, absorbing, shift}
+use Rattle.ops.specs.Meaning.Operation.{unary, strict, absorbing, shift, fixed}
 
 -- the count of operands
 pub data Arity : Type 0 where
@@ -16,6 +16,7 @@ arity (unary f) = one
 arity (strict f) = two
 arity (absorbing f a b) = two
 arity (shift f b) = two
+arity (fixed f a b) = two
 
 pub data FunctionRank : Arity → Type 0 where
   -- Booleans to a Boolean
@@ -42,6 +43,10 @@ functionRank BvAdd = bvBinary
 functionRank BvMul = bvBinary
 functionRank BvShl = bvBinary
 functionRank BvUlt = bvCompare
+functionRank BvNeg = bvUnary
+functionRank BvSub = bvBinary
+functionRank BvSlt = bvCompare
+functionRank BvAshr = bvBinary
 
 -- the width of the value (0: a Boolean), from the width n of the first operand
 abbrev pub rankWidth : {a : Arity} → FunctionRank a → ℕ → ℕ

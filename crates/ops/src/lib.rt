@@ -3,9 +3,12 @@ ghost use mathlib.Core.Path.{_≡_};
 ghost use mathlib.Core.Bool.{true, false, not, cond, _&&_, _||_};
 ghost use Prim.Native.Nat.{_+_, _-_, _*_, _/_, _%_, _^_, _≤_, _<_};
 ghost use lib.Dec.{eqb};
+ghost use lib.IntN.{negℤ, _-ℤ_};
+ghost use lib.Signed.{ltZ, shrZ};
 ghost use Rattle.ops.specs.Numbers.{opOf};
+ghost use Rattle.ops.specs.Signed.{greatest, least, signed, wrap};
 ghost use Rattle.ops.specs.Meaning.{bit, holds, valueOf, apply};
-ghost use Rattle.ops.specs.Condition.{absorbed, shifted, chosen, conditionOf, settles};
+ghost use Rattle.ops.specs.Condition.{absorbed, shifted, fixedBy, chosen, conditionOf, settles};
 ghost use Rattle.ops.specs.Fits.{fits};
 
 // The functions on numbers, by SMT-LIB's names (Core, FixedSizeBitVectors).
@@ -22,6 +25,10 @@ pub enum Function {
     BvMul,
     BvShl,
     BvUlt,
+    BvNeg,
+    BvSub,
+    BvSlt,
+    BvAshr,
 }
 
 // What a term is: a function of its operands, one of the others, or a number that has no operator.
@@ -34,6 +41,9 @@ pub enum Op {
     Store,
     Unknown,
 }
+
+// The last op number.
+pub const LAST_OP: u32 = 20;
 
 // The operator of an op number.
 pub fn op_of(number: u32) -> Op
@@ -57,6 +67,10 @@ pub fn op_of(number: u32) -> Op
         14 => Op::Apply(Function::BvUlt),
         15 => Op::Select,
         16 => Op::Store,
+        17 => Op::Apply(Function::BvNeg),
+        18 => Op::Apply(Function::BvSub),
+        19 => Op::Apply(Function::BvSlt),
+        20 => Op::Apply(Function::BvAshr),
         _ => Op::Unknown,
     }
 }
@@ -159,6 +173,83 @@ fn bvshl(n: u32, x: u32, y: u32) -> u32
     if y < n { reduce(n, x << y) } else { 0 }
 }
 
+fn bvneg(n: u32, x: u32) -> u32
+    requires { ⌜ n ≤ 32 ⌝ }
+    ensures { λ r. ⌜ r ≡ wrap n (negℤ (signed n x)) ⌝ }
+{
+    bvadd(n, bvnot(n, x), 1)
+}
+
+fn bvsub(n: u32, x: u32, y: u32) -> u32
+    requires { ⌜ n ≤ 32 ⌝ }
+    ensures { λ r. ⌜ r ≡ wrap n (signed n x -ℤ signed n y) ⌝ }
+{
+    bvadd(n, x, bvneg(n, y))
+}
+
+// The place of the top bit; width 0 has none.
+fn top(n: u32) -> u32
+    ensures { λ r. ⌜ r ≡ n - 1 ⌝ }
+{
+    if n == 0 { 0 } else { n - 1 }
+}
+
+// The bounds of the signed order: all bits but the top one, and the top bit alone.
+pub fn greatest(n: u32) -> u32
+    requires { ⌜ n ≤ 32 ⌝ }
+    ensures { λ r. ⌜ r ≡ greatest n ⌝ }
+{
+    ones(top(n))
+}
+
+pub fn least(n: u32) -> u32
+    requires { ⌜ n ≤ 32 ⌝ }
+    ensures { λ r. ⌜ r ≡ least n ⌝ }
+{
+    greatest(n) + 1
+}
+
+// Whether `x` is the top bit alone; over 32 it is none.
+fn is_least(n: u32, x: u32) -> bool
+    ensures { λ r. ⌜ r ≡ eqb x (least n) ⌝ }
+{
+    if n <= 32 { x == least(n) } else { false }
+}
+
+// The vector with its top bit turned: the signed order becomes the unsigned one.
+fn turned(n: u32, x: u32) -> u32
+    requires { ⌜ n ≤ 32 ⌝ }
+    ensures { λ r. ⌜ r ≡ (x + least n) % 2 ^ n ⌝ }
+{
+    bvadd(n, x, least(n))
+}
+
+fn bvslt(n: u32, x: u32, y: u32) -> bool
+    requires { ⌜ n ≤ 32 ⌝ }
+    ensures { λ r. ⌜ r ≡ ltZ (signed n x) (signed n y) ⌝ }
+{
+    turned(n, x) < turned(n, y)
+}
+
+fn shift_right(x: u32, y: u32) -> u32
+    ensures { λ r. ⌜ r ≡ x / 2 ^ y ⌝ }
+{
+    if y < 32 { x >> y } else { 0 }
+}
+
+// A vector whose top bit is 1 is shifted between two nots, so that ones come in.
+fn bvashr(n: u32, x: u32, y: u32) -> u32
+    requires { ⌜ n ≤ 32 ⌝ }
+    ensures { λ r. ⌜ r ≡ wrap n (shrZ (signed n x) (2 ^ y)) ⌝ }
+{
+    let u = reduce(n, x);
+    ite(
+        u < least(n),
+        shift_right(u, y),
+        bvnot(n, shift_right(bvnot(n, x), y)),
+    )
+}
+
 pub fn ite(test: bool, y: u32, z: u32) -> u32
     ensures { λ r. ⌜ r ≡ cond test y z ⌝ }
 {
@@ -183,6 +274,10 @@ fn value_of(f: Function, n: u32, x: u32, y: u32) -> u32
         Function::BvMul => bvmul(n, x, y),
         Function::BvShl => bvshl(n, x, y),
         Function::BvUlt => bit(x < y),
+        Function::BvNeg => bvneg(n, x),
+        Function::BvSub => bvsub(n, x, y),
+        Function::BvSlt => bit(bvslt(n, x, y)),
+        Function::BvAshr => bvashr(n, x, y),
     }
 }
 
@@ -197,6 +292,13 @@ fn shifted(c: bool, d: bool, out: bool) -> bool
     ensures { λ r. ⌜ r ≡ shifted c d out ⌝ }
 {
     (d & out) | (c & d)
+}
+
+// A first operand that is free and one of two values, or both operands free.
+fn fixed_by(c: bool, d: bool, a: bool, b: bool) -> bool
+    ensures { λ r. ⌜ r ≡ fixedBy c d a b ⌝ }
+{
+    ((c & a) | (c & b)) | (c & d)
 }
 
 // A free test picks the branch that must be free; else both branches are free and equal.
@@ -223,6 +325,10 @@ fn condition_of(f: Function, n: u32, x: u32, y: u32, c: bool, d: bool) -> bool
         Function::BvMul => absorbed(c, x == 0, d, y == 0),
         Function::BvShl => shifted(c, d, n <= y),
         Function::BvUlt => absorbed(c, all_ones(n, x), d, y == 0),
+        Function::BvNeg => c,
+        Function::BvSub => c & d,
+        Function::BvSlt => absorbed(c, all_ones(top(n), x), d, is_least(n, y)),
+        Function::BvAshr => fixed_by(c, d, x == 0, all_ones(n, x)),
     }
 }
 

@@ -11,7 +11,7 @@ use native.Mathlib.Omega.{arith}
 use lib.Dec.{leb, lit≤}
 use lib.ListN.{length, length-append}
 use borrow.Author.Tests.{eqb-true, leb-true}
-use Rattle.ops.specs.Numbers.{opOf}
+use Rattle.ops.specs.Numbers.{opOf, lastOp}
 use Rattle.ops.specs.declared.Op.the-variants.{Constant}
 use Rattle.smtlib.specs.Bytes.{bytes, each}
 use Rattle.smtlib.specs.Numerals.{digit, numeral, bits}
@@ -107,8 +107,8 @@ operands-within t names (k ∷ l) b = loose (7 * suc (length l)) (these (bytes "
 operator-within : (x : Term) → known x ≡ true → length (operatorName (x .op)) + 7 * length (operands (fields x) x) ≤ 26
 unfolding passes
 operator-within x h =
-    let few : x .op ≤ 16 = leb-true (x .op) 16 h in
-    leb-true _ 26 (passed 17 (λ k. leb (length (operatorName k) + 7 * length (operands (fieldsOf (rankOf (opOf k))) x)) 26) (x .op) refl (omega arith))
+    let few : x .op ≤ lastOp = leb-true (x .op) lastOp h in
+    leb-true _ 26 (passed (suc lastOp) (λ k. leb (length (operatorName k) + 7 * length (operands (fieldsOf (rankOf (opOf k))) x)) 26) (x .op) refl (omega arith))
 
 -- lines of at most c bytes each
 each-within : (c : ℕ) (f : ℕ → List Command) (n : ℕ) → ((k : ℕ) → k < n → Within c (commandsText (f k))) → Within (c * n) (commandsText (each f n))

@@ -9,7 +9,7 @@ use lib.Dec.{eqb}
 use borrow.Author.Tests.{eqb-true, eqb-false, leb-true}
 use Rattle.ops.specs.declared.Op.{Op}
 use Rattle.ops.specs.declared.Op.the-variants.{Constant, Variable}
-use Rattle.ops.specs.Numbers.{opOf}
+use Rattle.ops.specs.Numbers.{opOf, lastOp}
 use Rattle.ops.specs.Fits.{fits}
 use Rattle.smtlib.specs.Bytes.{each}
 use Rattle.smtlib.specs.Laws.{Named}
@@ -66,7 +66,7 @@ module _ (t : List ℕ) (k : ℕ) (sound : Sound t k) where
   operator-named v c =
       let zero-not = eqb-false (x .op) 0 (number-of immediate 0 refl refl (x .op) ∙ c) in
       let one-not = eqb-false (x .op) 1 (number-of slotted 1 refl refl (x .op) ∙ v) in
-      let known : x .op ≤ 16 = leb-true (x .op) 16 (sound .is-known) in
+      let known : x .op ≤ lastOp = leb-true (x .op) lastOp (sound .is-known) in
       (omega (arith, zero-not, one-not), omega arith)
 
   body-sound : isVariable x ≡ false → SoundBody (x .sort .n) (body t x)

@@ -6,11 +6,12 @@ use Prim.Native.Nat.{ℕ, _≤_}
 use lib.Dec.{ltb}
 use Rattle.ops.specs.Numbers.{opOf}
 use Rattle.ops.specs.Meaning.{ones}
+use Rattle.ops.specs.Signed.{greatest, least}
 use Rattle.explain.specs.Operands.{wouldSettle}
 
--- the first of 0, 1, the width n and all ones that a test is true of; all ones where it is of none
+-- the first of 0, 1, the width n, all ones and the greatest that a test is true of; the least in the signed order where it is of none
 abbrev pub firstOf : (ℕ → Bool) → ℕ → ℕ
-firstOf test n = cond (test 0) 0 (cond (test 1) 1 (cond (test n || ltb 32 n) n (ones n)))
+firstOf test n = cond (test 0) 0 (cond (test 1) 1 (cond (test n || ltb 32 n) n (cond (test (ones n)) (ones n) (cond (test (greatest n)) (greatest n) (least n)))))
 
 -- of the first operand, or of the second, of the operator of a number
 abbrev pub settlingValue : ℕ → Bool → ℕ → ℕ
@@ -24,9 +25,9 @@ settled op second n = wouldSettle (opOf op) n (settlingValue op second n) second
 abbrev pub either : ℕ → ℕ → Bool
 either op n = settled op false n && settled op true n
 
--- What the program names does settle: and, or, implies, vector and, vector or, the product and less, by either operand; the shift by its
--- second.
+-- What the program names does settle: and, or, implies, vector and, vector or, the product, less and signed less, by either operand; the
+-- shift to the left by its second, that to the right by its first.
 abbrev pub SettlingSettles : Type 0
 SettlingSettles =
     (n : ℕ) → n ≤ 32
-    → (either 3 n && (either 4 n && (either 5 n && (either 9 n && (either 10 n && (either 12 n && (either 14 n && settled 13 true n))))))) ≡ true
+    → (either 3 n && (either 4 n && (either 5 n && (either 9 n && (either 10 n && (either 12 n && (either 14 n && (either 19 n && (settled 13 true n && settled 20 false n))))))))) ≡ true

@@ -61,6 +61,7 @@ $Why the condition is false, from the rule down:$
 &,$    but store + holds + there, which is free.$
 &,$    but +, which store + holds, is free and equal to what is beneath.$
 &,$    but the read goes past its store to +, which is not marked.$
+? or ?
 ",
         n,
         numbers,
@@ -114,18 +115,36 @@ fn line_of(state: Operand) -> u32 {
     }
 }
 
+// All ones of a width, as far as there is such a number.
+fn all_ones(width: u32) -> u32 {
+    if width <= 32 { ops::ones(width) } else { 0 }
+}
+
+// For &: the value that would have settled a term; where 0 and all ones would, both; where more would, the least.
+fn settling_words(op: u32, second: bool, width: u32) -> Numbers {
+    let f = ops::op_of(op);
+    let least = settling(op, second, width);
+    let more = explain::would_settle(f, width, wrapping_add_u32(least, 1), second);
+    let all = all_ones(width);
+    let both = (least == 0) & (all != 0) & explain::would_settle(f, width, all, second);
+    let boolean = width == 0;
+    let line = ops::ite(both, 40, ops::ite(more, 13, 12));
+    page::five(
+        line as u64,
+        page::value(boolean, least),
+        page::value(boolean, all),
+        0,
+        0,
+    )
+}
+
 // What an operand is, and the value that would have settled its term, or the least of those that would.
 fn operand_told(op: u32, second: bool, width: u32, k: u64, value: u32, state: Operand) -> Numbers {
-    let least = settling(op, second, width);
-    let above = wrapping_add_u32(least, 1);
-    let more = explain::would_settle(ops::op_of(op), width, above, second);
     let boolean = width == 0;
-    page::five(
-        line_of(state) as u64,
-        k,
-        page::value(boolean, value),
-        ops::ite(more, 13, 12) as u64,
-        page::value(boolean, least),
+    let asked = settling_words(op, second, width);
+    push(
+        line_of(state),
+        push_long(k, push_long(page::value(boolean, value), asked)),
     )
 }
 
@@ -154,6 +173,9 @@ fn settling_told(
     i: u32,
 ) -> Numbers {
     if (i == 1) & !apart(x, width) {
+        return none();
+    }
+    if (i == 2) & !settled(x.op, true, width) {
         return none();
     }
     if (i == 1) | (i == 2) {

@@ -2,7 +2,8 @@
 ghost use mathlib.Core.Path.{_≡_};
 ghost use Rattle.reasons.specs.Settling.{settlingValue, settled};
 
-// The value of the first or second operand that settles an operator, the least that does.
+// The value of the first or second operand that settles an operator: the first that does of 0, 1, the width, all ones and
+// the bounds of the signed order.
 pub fn settling(op: u32, second: bool, width: u32) -> u32
     ensures { λ r. ⌜ r ≡ settlingValue op second width ⌝ }
 {
@@ -16,7 +17,15 @@ pub fn settling(op: u32, second: bool, width: u32) -> u32
     if explain::would_settle(f, width, width, second) | (32 < width) {
         return width;
     }
-    ops::ones(width)
+    let all = ops::ones(width);
+    if explain::would_settle(f, width, all, second) {
+        return all;
+    }
+    let top = ops::greatest(width);
+    if explain::would_settle(f, width, top, second) {
+        return top;
+    }
+    ops::least(width)
 }
 
 // Whether any does.

@@ -16,7 +16,7 @@ fn say(page: &mut [u8], at: usize, names: &[u8], n: u32, numbers: Numbers) -> us
 the table has no numbers
 the table has # numbers, not six for each term
 the table has # terms, at most 512 are allowed
-the op is #, at most 16 is allowed
+the op is #, at most # is allowed
 the index width is #, at most 32 is allowed
 the width is #, at most 32 is allowed
 the width is 0, and an array's is 1 to 32
@@ -68,7 +68,7 @@ const TOLD: [u32; 28] = [
     0,
     1,
     1,
-    1,
+    2,
     1,
     1,
     0,

@@ -8,6 +8,7 @@ use native.Mathlib.Omega.{arith}
 use lib.Dec.{eqb, ltb, leb, eqb·suc-zero}
 use lib.ListN.{take, drop, getD, List·getD-eq-default}
 use borrow.Author.Tests.{leb-true, ltb-true, ltb-false, lt-ltb, le-ltb}
+use Rattle.ops.specs.Numbers.{lastOp}
 use Rattle.smtlib.specs.Bytes.{bytes, sameBytes, placeIn, cuts}
 use Rattle.smtlib.specs.Symbols.{operators, operatorName, operatorOf}
 use Rattle.smtlib.proofs.Cuts.{and-left, and-right}
@@ -27,35 +28,35 @@ passed (suc n) f (suc k) p h = passed n (λ j. f (suc j)) k (and-right (f 0) (pa
 -- The operators' words in one row
 
 abbrev pub starts : List ℕ
-starts = 0 ∷ 0 ∷ 0 ∷ 3 ∷ 6 ∷ 8 ∷ 10 ∷ 11 ∷ 14 ∷ 19 ∷ 24 ∷ 28 ∷ 33 ∷ 38 ∷ 43 ∷ 48 ∷ 54 ∷ 59 ∷ []
+starts = 0 ∷ 0 ∷ 0 ∷ 3 ∷ 6 ∷ 8 ∷ 10 ∷ 11 ∷ 14 ∷ 19 ∷ 24 ∷ 28 ∷ 33 ∷ 38 ∷ 43 ∷ 48 ∷ 54 ∷ 59 ∷ 64 ∷ 69 ∷ 74 ∷ 80 ∷ []
 
 abbrev pub row : List ℕ
-row = bytes "notandor=>=itebvnotbvandbvorbvaddbvmulbvshlbvultselectstore"
+row = bytes "notandor=>=itebvnotbvandbvorbvaddbvmulbvshlbvultselectstorebvnegbvsubbvsltbvashr"
 
 abbrev pub from : ℕ → ℕ
 from op = getD starts op 0
 
 right : ℕ → Bool
-right op = leb (from op) (from (op + 1)) && (leb (from (op + 1)) 59 && sameBytes (take (from (op + 1) - from op) (drop (from op) row)) (operatorName op))
+right op = leb (from op) (from (op + 1)) && (leb (from (op + 1)) 80 && sameBytes (take (from (op + 1) - from op) (drop (from op) row)) (operatorName op))
 
-all-right : (op : ℕ) → op < 17 → right op ≡ true
+all-right : (op : ℕ) → op ≤ lastOp → right op ≡ true
 unfolding passes right sameBytes
-all-right op h = passed 17 right op refl h
+all-right op h = passed (suc lastOp) right op refl (omega arith)
 
-pub word-there : (op : ℕ) → op ≤ 16 → (from op ≤ from (op + 1)) × (from (op + 1) ≤ 59)
+pub word-there : (op : ℕ) → op ≤ lastOp → (from op ≤ from (op + 1)) × (from (op + 1) ≤ 80)
 unfolding right
 word-there op h =
-    let e = all-right op (omega arith) in
+    let e = all-right op h in
     let f = and-right (leb (from op) (from (op + 1))) _ e in
-    (leb-true _ _ (and-left (leb (from op) (from (op + 1))) _ e), leb-true _ _ (and-left (leb (from (op + 1)) 59) _ f))
+    (leb-true _ _ (and-left (leb (from op) (from (op + 1))) _ e), leb-true _ _ (and-left (leb (from (op + 1)) 80) _ f))
 
-pub word-is : (op : ℕ) → op ≤ 16 → take (from (op + 1) - from op) (drop (from op) row) ≡ operatorName op
+pub word-is : (op : ℕ) → op ≤ lastOp → take (from (op + 1) - from op) (drop (from op) row) ≡ operatorName op
 unfolding right
 word-is op h =
-    let f = and-right (leb (from op) (from (op + 1))) _ (all-right op (omega arith)) in
-    same-is _ _ (and-right (leb (from (op + 1)) 59) _ f)
+    let f = and-right (leb (from op) (from (op + 1))) _ (all-right op h) in
+    same-is _ _ (and-right (leb (from (op + 1)) 80) _ f)
 
-pub no-word : (op : ℕ) → 16 < op → [] ≡ operatorName op
+pub no-word : (op : ℕ) → lastOp < op → [] ≡ operatorName op
 no-word op h = sym (List·getD-eq-default operators [] h)
 
 -- A word that is looked up in the row, where the first name is at 1
@@ -74,23 +75,23 @@ nothing-first = refl
 
 pub record Looked (w : List ℕ) (k : ℕ) : Type 0 where
   pub low : 1 ≤ k
-  pub high : k ≤ 17
+  pub high : k ≤ suc lastOp
   pub is : k - 1 ≡ operatorOf w
 
-pub not-named : (w : List ℕ) (k : ℕ) → k ≡ placeIn (cuts row 0 starts) w → eqb k 0 || ltb 17 k ≡ true → 0 ≡ operatorOf w
+pub not-named : (w : List ℕ) (k : ℕ) → k ≡ placeIn (cuts row 0 starts) w → eqb k 0 || ltb (suc lastOp) k ≡ true → 0 ≡ operatorOf w
 unfolding placeIn sameBytes
 not-named [] k is e = refl
 not-named (b ∷ y) k is e =
     let m = placeIn operators (b ∷ y) in
     let f : k ≡ suc m = is ∙ ap (λ (xs : List (List ℕ)). placeIn xs (b ∷ y)) row-is ∙ first-is operators b y in
-    let g : ltb 17 (suc m) ≡ true = rw (f, eqb·suc-zero m) at e in
-    rw (le-ltb m 17 (omega (arith, ltb-true 17 (suc m) g)))
+    let g : ltb (suc lastOp) (suc m) ≡ true = rw (f, eqb·suc-zero m) at e in
+    rw (le-ltb m (suc lastOp) (omega (arith, ltb-true (suc lastOp) (suc m) g)))
 
-pub named-at : (w : List ℕ) (k : ℕ) → k ≡ placeIn (cuts row 0 starts) w → eqb k 0 || ltb 17 k ≡ false → Looked w k
+pub named-at : (w : List ℕ) (k : ℕ) → k ≡ placeIn (cuts row 0 starts) w → eqb k 0 || ltb (suc lastOp) k ≡ false → Looked w k
 named-at [] k is e = absurd (let f : true ≡ false = rw (is, nothing-first) at e in let z : _≡_ {A = ℕ} 0 1 = cc in omega arith)
 named-at (b ∷ y) k is e =
     let m = placeIn operators (b ∷ y) in
     let f : k ≡ suc m = is ∙ ap (λ (xs : List (List ℕ)). placeIn xs (b ∷ y)) row-is ∙ first-is operators b y in
-    let g : ltb 17 (suc m) ≡ false = rw (f, eqb·suc-zero m) at e in
-    let h : suc m ≤ 17 = ltb-false 17 (suc m) g in
-    record { low = omega arith; high = omega arith; is = rw (lt-ltb m 17 (omega arith)) (omega arith) }
+    let g : ltb (suc lastOp) (suc m) ≡ false = rw (f, eqb·suc-zero m) at e in
+    let h : suc m ≤ suc lastOp = ltb-false (suc lastOp) (suc m) g in
+    record { low = omega arith; high = omega arith; is = rw (lt-ltb m (suc lastOp) (omega arith)) (omega arith) }

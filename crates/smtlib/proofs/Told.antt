@@ -8,6 +8,7 @@ use native.Mathlib.Omega.{arith}
 use lib.ListN.{getD}
 use lib.Dec.{eqb, ltb, leb, eqb·suc-zero}
 use borrow.Author.Tests.{eqb-true, leb-true, ltb-true, lt-ltb, le-ltb}
+use Rattle.ops.specs.Numbers.{lastOp}
 use Rattle.ops.specs.Fits.{fits}
 use Rattle.smtlib.specs.Bytes.{bytes, sameBytes, placeIn, isIn}
 use Rattle.smtlib.specs.Numerals.{numeral, bits}
@@ -57,21 +58,21 @@ sort-told (suc m) n (suc m′) n′ r s e =
 right : ℕ → Bool
 right op = ltb op 2 || (eqb (placeIn operators (operatorName op)) op && above 41 (operatorName op))
 
-all-right : (op : ℕ) → 2 ≤ op → op ≤ 16 → eqb (placeIn operators (operatorName op)) op && above 41 (operatorName op) ≡ true
+all-right : (op : ℕ) → 2 ≤ op → op ≤ lastOp → eqb (placeIn operators (operatorName op)) op && above 41 (operatorName op) ≡ true
 unfolding passes sameBytes placeIn above right
-all-right op low high = rw (le-ltb op 2 low) at (passed 17 right op refl (omega arith))
+all-right op low high = rw (le-ltb op 2 low) at (passed (suc lastOp) right op refl (omega arith))
 
 -- what a name is looked up as
 pub operators-read : OperatorsRead
 operators-read op h =
     let e = eqb-true (placeIn operators (operatorName op)) op (and-left _ (above 41 (operatorName op)) (all-right op (h .0) (omega (arith, h .1)))) in
-    rw (e, lt-ltb op 17 (h .1))
+    rw (e, lt-ltb op (suc lastOp) (h .1))
 
 pub operators-named : OperatorsNamed
 operators-named w h = go (isIn operators w) refl h
   where
     go : (t : Bool) → isIn operators w ≡ t → 0 < cond t (placeIn operators w) 0 → getD operators (cond t (placeIn operators w) 0) [] ≡ w
-    go true e k = word-at operators w (ltb-true (placeIn operators w) 17 e)
+    go true e k = word-at operators w (ltb-true (placeIn operators w) (suc lastOp) e)
     go false e k = absurd (omega arith)
 
 pub operators-told : OperatorsTold
@@ -81,10 +82,10 @@ pub operators-above : OperatorsAbove
 operators-above op h = and-right (eqb (placeIn operators (operatorName op)) op) _ (all-right op (h .0) (omega (arith, h .1)))
 
 -- the same, for a number up to the last
-pub operator-told : (a b : ℕ) → 2 ≤ a → a ≤ 16 → 2 ≤ b → b ≤ 16 → operatorName a ≡ operatorName b → a ≡ b
+pub operator-told : (a b : ℕ) → 2 ≤ a → a ≤ lastOp → 2 ≤ b → b ≤ lastOp → operatorName a ≡ operatorName b → a ≡ b
 operator-told a b h k l m e = operators-told a b (h, omega arith) (l, omega arith) e
 
-pub operator-above : (op : ℕ) → 2 ≤ op → op ≤ 16 → above 41 (operatorName op) ≡ true
+pub operator-above : (op : ℕ) → 2 ≤ op → op ≤ lastOp → above 41 (operatorName op) ≡ true
 operator-above op h k = operators-above op (h, omega arith)
 
 -- Constants

@@ -1,4 +1,4 @@
--- SMT-LIB's names: of operators, by paper 01's numbers; of sorts, by their widths; of constants, by width and value.
+-- SMT-LIB's names: of operators, by their numbers in the papers; of sorts, by their widths; of constants, by width and value.
 -- Assumes nothing.
 use mathlib.Core.Bool.{cond}
 use mathlib.Core.List.{List, [], _∷_}
@@ -12,7 +12,7 @@ abbrev pub operators : List (List ℕ)
 operators =
     [] ∷ [] ∷ bytes "not" ∷ bytes "and" ∷ bytes "or" ∷ bytes "=>" ∷ bytes "=" ∷ bytes "ite"
     ∷ bytes "bvnot" ∷ bytes "bvand" ∷ bytes "bvor" ∷ bytes "bvadd" ∷ bytes "bvmul" ∷ bytes "bvshl" ∷ bytes "bvult"
-    ∷ bytes "select" ∷ bytes "store"
+    ∷ bytes "select" ∷ bytes "store" ∷ bytes "bvneg" ∷ bytes "bvsub" ∷ bytes "bvslt" ∷ bytes "bvashr"
     ∷ []
 
 abbrev pub operatorName : ℕ → List ℕ

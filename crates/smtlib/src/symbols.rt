@@ -9,11 +9,17 @@ use crate::bytes::numeral;
 use crate::bytes::word;
 use crate::lookup::place_in;
 
+// The last operator's number, and how many there are.
+const LAST: usize = 20;
+
+const COUNT: usize = 21;
+
 // The operators' names in a row.
-const NAMES: [u8; 59] = *b"notandor=>=itebvnotbvandbvorbvaddbvmulbvshlbvultselectstore";
+const NAMES: [u8; 80] =
+    *b"notandor=>=itebvnotbvandbvorbvaddbvmulbvshlbvultselectstorebvnegbvsubbvsltbvashr";
 
 // Where the name of each operator begins among all, by its number, and where the last ends.
-const STARTS: [usize; 18] = [
+const STARTS: [usize; 22] = [
     0,
     0,
     0,
@@ -32,6 +38,10 @@ const STARTS: [usize; 18] = [
     48,
     54,
     59,
+    64,
+    69,
+    74,
+    80,
 ];
 
 // The part of a text from one place to another.
@@ -48,7 +58,7 @@ pub fn operator(room: &mut [u8], at: usize, op: u32) -> usize
     ensures { λ r. ⌜ Wrote (page (now (room .entry)) at) (operatorName op) (page (now (room .exit)) r) ⌝ }
 {
     let k = op as usize;
-    if 16 < k {
+    if LAST < k {
         return at;
     }
     let all = &NAMES;
@@ -60,7 +70,7 @@ pub fn operator_of(word: &[u8]) -> u32
     ensures { λ r. ⌜ r ≡ operatorOf (now (word .entry)) ⌝ }
 {
     let k = place_in(&NAMES, &STARTS, word);
-    if (k == 0) | (17 < k) {
+    if (k == 0) | (COUNT < k) {
         return 0;
     }
     (k - 1) as u32

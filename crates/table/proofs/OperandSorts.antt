@@ -12,7 +12,7 @@ use lib.ListN.{length, getD}
 use borrow.Author.Tests.{eqb-true, ltb-true, leb-true, le-ltb, eq-eqb}
 use Rattle.ops.specs.declared.Op.{Op}
 use Rattle.ops.specs.declared.Op.the-variants.{Constant, Variable, Apply, Ite, Select, Store, Unknown}
-use Rattle.ops.specs.Numbers.{ops, opOf}
+use Rattle.ops.specs.Numbers.{ops, opOf, lastOp}
 use Rattle.ops.specs.Ranks.{Arity, FunctionRank, functionRank}
 use Rattle.ops.specs.Ranks.Arity.{one, two}
 use Rattle.ops.specs.Ranks.FunctionRank.{boolUnary, boolBinary, equality, bvUnary, bvBinary, bvCompare}
@@ -26,7 +26,7 @@ use Rattle.table.specs.Ranks.{applied, rankOf, fieldsOf, slotted, immedi
 use Rattle.table.specs.Faults.{known, placedAs, typedAs, typed}
 use Rattle.table.specs.WellFormed.{Sound}
 
--- an op up to 16 is one of the list
+-- an op up to the last is one of the list
 
 unfoldable pub isKnown : Op → Bool
 isKnown Constant = true
@@ -45,7 +45,7 @@ all-at f (x ∷ l) d h (suc i) b = all-at f l d (and-parts (f x) (every f l) h .
 
 pub op-known : (x : Term) → known x ≡ true → isKnown (opOf (x .op)) ≡ true
 unfolding every isKnown
-op-known x h = all-at isKnown ops Unknown refl (x .op) (let b : x .op ≤ 16 = leb-true (x .op) 16 h in omega arith)
+op-known x h = all-at isKnown ops Unknown refl (x .op) (let b : x .op ≤ lastOp = leb-true (x .op) lastOp h in omega arith)
 
 -- sorts
 

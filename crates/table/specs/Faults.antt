@@ -4,7 +4,7 @@ use mathlib.Core.Bool.{Bool, true, false, cond, not, _&&_, _||_}
 use mathlib.Core.List.{List}
 use Prim.Native.Nat.{ℕ, zero, suc}
 use lib.Dec.{eqb, ltb, leb}
-use Rattle.ops.specs.Numbers.{opOf}
+use Rattle.ops.specs.Numbers.{opOf, lastOp}
 use Rattle.ops.specs.Fits.{fits}
 use Rattle.table.specs.declared.ranks.Rank.{Rank}
 use Rattle.table.specs.declared.ranks.Rank.the-variants.{Literal, Input, BoolUnary, BoolBinary, Equality, Choice, BvUnary, BvBinary, BvCompare, Read, Write, Other}
@@ -36,7 +36,7 @@ isStore x = writes (opOf (x .op))
 
 -- 3 op over 16
 abbrev pub known : Term → Bool
-known x = leb (x .op) 16
+known x = leb (x .op) lastOp
 
 -- 4 not one of the three sorts
 abbrev pub width : ℕ → Bool

@@ -52,6 +52,10 @@ pub fn rank_of(op: u32) -> Rank
         14 => Rank::BvCompare,
         15 => Rank::Read,
         16 => Rank::Write,
+        17 => Rank::BvUnary,
+        18 => Rank::BvBinary,
+        19 => Rank::BvCompare,
+        20 => Rank::BvBinary,
         _ => Rank::Other,
     }
 }

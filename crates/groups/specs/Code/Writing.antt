@@ -1,14 +1,18 @@
 -- What writing the groups keeps and answers.
 -- Assumes nothing.
 use mathlib.Core.Path.{_≡_}
+use mathlib.Core.Bool.{Bool, cond}
 use mathlib.Core.List.{List, [], _∷_, map}
 use Prim.Native.Nat.{ℕ, pred, suc, _+_, _≤_}
 use lib.ListN.{length}
+use Rattle.ops.specs.Meaning.{ones}
+use Rattle.ops.specs.Signed.{greatest, least}
 use Rattle.table.specs.declared.words.Term.{Term}
 use Rattle.table.specs.Terms.{terms}
 use Rattle.table.specs.Code.Writing.{placed}
 use Rattle.judge.specs.Conditions.{ownMarks}
 use Rattle.groups.specs.declared.groups.Written.{Written}
+use Rattle.groups.specs.Groups.{boundsGroup}
 use Rattle.groups.specs.Plans.{lastOf, next, plans, planAt}
 
 -- terms written into a room one after the other, as terms b + i, b + i + 1, ..
@@ -27,6 +31,10 @@ conditionNumbers w k = map (λ x. x .condition) (plans w ownMarks k)
 pub record Numbered (w conditions : List ℕ) : Type 0 where
   pub within : length conditions ≤ terms w
   pub is : conditions ≡ conditionNumbers w (length conditions)
+
+-- the group of less, or of signed less, of term x from b on, at the operands' width n
+abbrev pub lessGroup : ℕ → ℕ → Bool → Term → ℕ → ℕ → List Term
+lessGroup b n signed x cp cq = boundsGroup b n (cond signed (greatest n) (ones n)) (cond signed (least n) 0) (x .p) (x .q) cp cq cq
 
 -- after a group from b on: the number of its last term, and the number after it
 abbrev pub after : ℕ → List Term → Written

@@ -8,8 +8,8 @@ use Rattle.ops.proofs.op_of.Statement.{statement}
 use Rattle.ops.proofs.op_of.Tie as tie
 
 -- a number that none of the arms has
-returns-18 : tie.Need-returns-18
-returns-18 c = sym (List·getD-eq-default ops Unknown (past 17 (c .match .rest)))
+returns-22 : tie.Need-returns-22
+returns-22 c = sym (List·getD-eq-default ops Unknown (past 21 (c .match .rest)))
 
 pub op-of-spec : {M : Type 1} → statement M
 op-of-spec =
@@ -32,4 +32,8 @@ op-of-spec =
     (λ c. rw (c .match .keys15))
     (λ c. rw (c .match .keys16))
     (λ c. rw (c .match .keys17))
-    returns-18)
+    (λ c. rw (c .match .keys18))
+    (λ c. rw (c .match .keys19))
+    (λ c. rw (c .match .keys20))
+    (λ c. rw (c .match .keys21))
+    returns-22)

@@ -6,4 +6,4 @@ returns : tie.Need-returns
 returns c = rw (c .unless .ensures, c .before .nothing .ensures, c .before .before .plain .ensures)
 
 pub op-told-spec : {M : Type 1} → statement M
-op-told-spec = tie.close (tie.spec (λ c. search needs) (λ c κs. tt) (λ c κs. tt) (λ c κs. tt) returns)
+op-told-spec = tie.close (tie.spec (λ c. search needs) (λ c. search needs) (λ c κs. tt) (λ c κs. tt) (λ c κs. tt) returns)

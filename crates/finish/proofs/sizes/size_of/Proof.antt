@@ -4,7 +4,7 @@ use native.Mathlib.Omega.{arith}
 use Rattle.table.specs.Faults.{size}
 use Rattle.evaluate.proofs.Sums.{chain-most}
 use Rattle.groups.specs.declared.kinds.GroupKind.{GroupKind}
-use Rattle.groups.specs.declared.kinds.GroupKind.the-variants.{Literal, Input, Unary, Strict, Conjunction, Disjunction, Implication, Zero, Ones, Bounds, Shift, Choice, Read, Write}
+use Rattle.groups.specs.declared.kinds.GroupKind.the-variants.{Literal, Input, Unary, Strict, Conjunction, Disjunction, Implication, Zero, Ones, Bounds, SignedBounds, Fixed, Shift, Choice, Read, Write}
 use Rattle.groups.specs.Sizes.{sizeBy, sizeOf}
 use borrow.Author.Needs.{needs}
 use Rattle.finish.proofs.sizes.size_of.Statement.{statement}
@@ -41,6 +41,8 @@ size-of-spec =
     (λ c. search needs)
     (λ c. search needs)
     (λ c. search needs)
+    (λ c. search needs)
+    (λ c. search needs)
     (λ c κs. search needs)
     mul-result
     add-result
@@ -55,7 +57,9 @@ size-of-spec =
     (λ c. sized (c .before .before) Zero (c .enum-told8 .given .1))
     (λ c. sized (c .before .before) Ones (c .enum-told9 .given .1))
     (λ c. sized (c .before .before) Bounds (c .enum-told10 .given .1))
-    (λ c. sized (c .before .before) Shift (c .enum-told11 .given .1))
-    (λ c. sized (c .before .before) Choice (c .enum-told12 .given .1))
-    (λ c. ap (λ (n : ℕ). 1 + 9 * n) (c .chain .ensures) ∙ sized (c .before .before .before) Read (c .before .enum-told13 .given .1))
-    (λ c. sized (c .before .before) Write (c .enum-told14 .given .1)))
+    (λ c. sized (c .before .before) SignedBounds (c .enum-told11 .given .1))
+    (λ c. sized (c .before .before) Fixed (c .enum-told12 .given .1))
+    (λ c. sized (c .before .before) Shift (c .enum-told13 .given .1))
+    (λ c. sized (c .before .before) Choice (c .enum-told14 .given .1))
+    (λ c. ap (λ (n : ℕ). 1 + 9 * n) (c .chain .ensures) ∙ sized (c .before .before .before) Read (c .before .enum-told15 .given .1))
+    (λ c. sized (c .before .before) Write (c .enum-told16 .given .1)))

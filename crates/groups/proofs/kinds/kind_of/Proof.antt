@@ -3,6 +3,7 @@ use Rattle.groups.specs.declared.kinds.GroupKind.the-variants.{Literal, 
 use Rattle.ops.proofs.Lists.{getD-default}
 use Rattle.ops.specs.Numbers.{ops}
 use Rattle.ops.specs.declared.Op.the-variants.{Unknown}
+use native.Mathlib.Omega.{arith}
 use lib.ListN.{List·getD-eq-default, List·getD-map}
 use mathlib.Core.List.{map}
 use mathlib.Core.Path.{sym, ap, _∙_}
@@ -11,7 +12,7 @@ use Rattle.groups.proofs.kinds.kind_of.Statement.{statement}
 use Rattle.groups.proofs.kinds.kind_of.Tie as tie
 
 returns : tie.Need-returns
-returns c = getD-default (map kindOf ops) (c .before .before .args .op) Literal Write (c .before .if1 .taken) ∙ List·getD-map kindOf ops (c .before .before .args .op) Unknown
+returns c = getD-default (map kindOf ops) (c .before .before .args .op) Literal Write (omega (arith, c .before .if1 .taken)) ∙ List·getD-map kindOf ops (c .before .before .args .op) Unknown
 
 returns-2 : tie.Need-returns-2
 returns-2 c = ap kindOf (sym (List·getD-eq-default ops Unknown (c .if1 .left)))

@@ -1,13 +1,15 @@
 use Prim.Native.Nat.{ℕ}
 use mathlib.Core.Path.{_≡_, refl, ap, _∙_}
+use mathlib.Core.Bool.{true, false}
 use mathlib.Core.List.{List}
 use native.Mathlib.Nat.{le-trans}
 use lib.Dec.{lit≤}
 use Rattle.table.specs.declared.words.Term.{Term}
 use Rattle.ops.specs.Meaning.{ones}
 use Rattle.table.specs.Terms.{sortAt}
-use Rattle.groups.specs.declared.kinds.GroupKind.the-variants.{Literal, Input, Unary, Strict, Conjunction, Disjunction, Implication, Zero, Ones, Bounds, Shift, Choice, Read, Write}
+use Rattle.groups.specs.declared.kinds.GroupKind.the-variants.{Literal, Input, Unary, Strict, Conjunction, Disjunction, Implication, Zero, Ones, Bounds, SignedBounds, Fixed, Shift, Choice, Read, Write}
 use Rattle.groups.specs.Groups.{strictGroup, andGroup, orGroup, impliesGroup, absorbingGroup, boundsGroup, shiftGroup}
+use Rattle.groups.specs.Code.Writing.{lessGroup}
 use Rattle.groups.specs.Plans.{planBy}
 use Rattle.groups.proofs.TermGroups.{Here, both-are, grows, binary, stays, unary-is, choice-is, read-below, read-is, width-most}
 use borrow.Author.Needs.{needs}
@@ -38,8 +40,17 @@ ones-requires c κs = width-most (here (c .before .before .before))
 less-requires : tie.Need-less-requires
 less-requires c κs = let s = start (c .before .before .before) in (s .pre .0, le-trans (s .pre .1 .1 .1 .1) (lit≤ tt))
 
+less-requires-2 : tie.Need-less-requires-2
+less-requires-2 c κs = let s = start (c .before .before .before) in (s .pre .0, le-trans (s .pre .1 .1 .1 .1) (lit≤ tt))
+
+ones-requires-2 : tie.Need-ones-requires-2
+ones-requires-2 c κs = width-most (here (c .before .before .before))
+
+bounds-requires : tie.Need-bounds-requires
+bounds-requires c κs = let s = start (c .before .before .before .before) in le-trans (s .pre .1 .1 .1 .1) (lit≤ tt)
+
 read-group-requires : tie.Need-read-group-requires
-read-group-requires c κs = let d = c .before .before .before in let s = start d in (s .pre .0, (s .pre .1 .0, (read-below (here d) (c .before .enum-told13 .given .1), s .pre .1 .1 .1 .1)))
+read-group-requires c κs = let d = c .before .before .before in let s = start d in (s .pre .0, (s .pre .1 .0, (read-below (here d) (c .before .enum-told15 .given .1), s .pre .1 .1 .1 .1)))
 
 returns : tie.Need-returns
 unfolding planBy
@@ -116,7 +127,7 @@ returns-10 c =
     let d = c .before .before .before .before .before .before in
     let s = start d in
     let x = d .before .before .before .term-at .result in
-    binary (here d) Bounds (c .before .before .before .before .enum-told10 .given .1) (λ m n. boundsGroup (s .args .b) (sortAt (s .args .table .now) (x .p) .n) (ones (sortAt (s .args .table .now) (x .p) .n)) 0 (x .p) (x .q) m n n) refl refl
+    binary (here d) Bounds (c .before .before .before .before .enum-told10 .given .1) (λ m n. lessGroup (s .args .b) (sortAt (s .args .table .now) (x .p) .n) false x m n) refl refl
     (d .before .before .number-at .ensures) (d .before .number-at2 .ensures) (s .args .room .now) (c .before .before .less .ensures)
 
 returns-11 : tie.Need-returns-11
@@ -125,26 +136,47 @@ returns-11 c =
     let d = c .before .before .before .before .before .before in
     let s = start d in
     let x = d .before .before .before .term-at .result in
-    binary (here d) Shift (c .before .before .before .before .enum-told11 .given .1) (λ m n. shiftGroup (s .args .b) (x .sort .n) (x .q) m n) refl refl
-    (d .before .before .number-at .ensures) (d .before .number-at2 .ensures) (s .args .room .now) (c .before .before .shift .ensures)
+    binary (here d) SignedBounds (c .before .before .before .before .enum-told11 .given .1) (λ m n. lessGroup (s .args .b) (sortAt (s .args .table .now) (x .p) .n) true x m n) refl refl
+    (d .before .before .number-at .ensures) (d .before .number-at2 .ensures) (s .args .room .now) (c .before .before .less2 .ensures)
 
 returns-12 : tie.Need-returns-12
 unfolding planBy
 returns-12 c =
     let d = c .before .before .before .before .before .before .before in
-    grows (here d) Choice (c .before .before .before .before .before .enum-told12 .given .1) (choice-is (here d) (d .before .before .number-at .ensures) (d .before .number-at2 .ensures) (c .before .before .before .number-at3 .ensures)) refl
-    (start d .args .room .now) (c .before .before .choice .ensures)
+    let s = start d in
+    let x = d .before .before .before .term-at .result in
+    let group : ℕ → ℕ → ℕ → List Term = λ v m n. boundsGroup (s .args .b) (x .sort .n) 0 v (x .p) (x .p) m m n in
+    grows (here d) Fixed (c .before .before .before .before .before .enum-told12 .given .1)
+    (ap (λ (v : ℕ). group v (d .before .before .number-at .result) (d .before .number-at2 .result)) (c .before .before .before .ones2 .ensures)
+    ∙ both-are (here d) (group (ones (x .sort .n))) (d .before .before .number-at .ensures) (d .before .number-at2 .ensures)) refl
+    (s .args .room .now) (c .before .before .bounds .ensures)
 
 returns-13 : tie.Need-returns-13
 unfolding planBy
 returns-13 c =
     let d = c .before .before .before .before .before .before in
-    let kind = c .before .before .before .before .enum-told13 .given .1 in
-    grows (here d) Read kind (read-is (here d) kind (d .before .number-at2 .ensures)) refl (start d .args .room .now) (c .before .before .read-group .ensures)
+    let s = start d in
+    let x = d .before .before .before .term-at .result in
+    binary (here d) Shift (c .before .before .before .before .enum-told13 .given .1) (λ m n. shiftGroup (s .args .b) (x .sort .n) (x .q) m n) refl refl
+    (d .before .before .number-at .ensures) (d .before .number-at2 .ensures) (s .args .room .now) (c .before .before .shift .ensures)
 
 returns-14 : tie.Need-returns-14
 unfolding planBy
-returns-14 c = let d = c .before .before .before in stays (here d) Write (c .before .enum-told14 .given .1) refl refl (start d .args .room .now) (c .taken4 .ensures)
+returns-14 c =
+    let d = c .before .before .before .before .before .before .before in
+    grows (here d) Choice (c .before .before .before .before .before .enum-told14 .given .1) (choice-is (here d) (d .before .before .number-at .ensures) (d .before .number-at2 .ensures) (c .before .before .before .number-at3 .ensures)) refl
+    (start d .args .room .now) (c .before .before .choice .ensures)
+
+returns-15 : tie.Need-returns-15
+unfolding planBy
+returns-15 c =
+    let d = c .before .before .before .before .before .before in
+    let kind = c .before .before .before .before .enum-told15 .given .1 in
+    grows (here d) Read kind (read-is (here d) kind (d .before .number-at2 .ensures)) refl (start d .args .room .now) (c .before .before .read-group .ensures)
+
+returns-16 : tie.Need-returns-16
+unfolding planBy
+returns-16 c = let d = c .before .before .before in stays (here d) Write (c .before .enum-told16 .given .1) refl refl (start d .args .room .now) (c .taken4 .ensures)
 
 pub write-group-spec : {M : Type 1} → statement M
 write-group-spec =
@@ -177,6 +209,11 @@ write-group-spec =
     (λ c. search needs)
     less-requires
     (λ c. search needs)
+    less-requires-2
+    (λ c. search needs)
+    ones-requires-2
+    bounds-requires
+    (λ c. search needs)
     (λ c κs. search needs)
     (λ c. search needs)
     (λ c κs. search needs)
@@ -208,4 +245,8 @@ write-group-spec =
     returns-12
     (λ c. search needs)
     returns-13
-    returns-14)
+    (λ c. search needs)
+    returns-14
+    (λ c. search needs)
+    returns-15
+    returns-16)

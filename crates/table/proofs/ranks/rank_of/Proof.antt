@@ -9,8 +9,8 @@ use Rattle.table.proofs.ranks.rank_of.Statement.{statement}
 use Rattle.table.proofs.ranks.rank_of.Tie as tie
 
 -- a number that none of the arms has
-returns-18 : tie.Need-returns-18
-returns-18 c = ap rankOf (sym (List·getD-eq-default ops Unknown (past 17 (c .match .rest))))
+returns-22 : tie.Need-returns-22
+returns-22 c = ap rankOf (sym (List·getD-eq-default ops Unknown (past 21 (c .match .rest))))
 
 pub rank-of-spec : {M : Type 1} → statement M
 rank-of-spec =
@@ -33,4 +33,8 @@ rank-of-spec =
     (λ c. search needs)
     (λ c. search needs)
     (λ c. search needs)
-    returns-18)
+    (λ c. search needs)
+    (λ c. search needs)
+    (λ c. search needs)
+    (λ c. search needs)
+    returns-22)

@@ -44,12 +44,16 @@
  *   14  bvult     operand      operand                Boolean            p, q of one vector sort; unsigned
  *   15  select    array        index                  vector n           p array (m, n), q vector m; the term's own m is 0
  *   16  store     array        index        value     array (m, n)       p of the term's sort, q vector m, r vector n; 16 at most
+ *   17  bvneg     operand                             vector             p of the term's sort
+ *   18  bvsub     operand      operand                vector             p, q of the term's sort
+ *   19  bvslt     operand      operand                Boolean            p, q of one vector sort; signed
+ *   20  bvashr    operand      amount                 vector             p, q of the term's sort; the sign comes in from the left
  *
  * The refusals:
  *
  *   1 table length 0 or not a multiple of six      11 cell row not a multiple of three
  *   2 over 512 terms (evaluate, print: 80,000)    12 slot outside the value row
- *   3 op over 16                                   13 value too wide
+ *   3 op over 20                                   13 value too wide
  *   4 not one of the three sorts                   14 a cell's slot is no array variable's
  *   5 an operand not below, an unused field not 0  15 a cell's index or value too wide
  *   6 sorts not as the operator asks               21 the table's room is too short (place: terms needed)
@@ -78,9 +82,9 @@
  * parse. Patch: what is declared here stayed as it was. The library has no version of its own to ask for: take header and library
  * from one state of the repository. */
 #define HIRANTHOK_VERSION_MAJOR 0
-#define HIRANTHOK_VERSION_MINOR 13
+#define HIRANTHOK_VERSION_MINOR 14
 #define HIRANTHOK_VERSION_PATCH 0
-#define HIRANTHOK_VERSION "0.13.0"
+#define HIRANTHOK_VERSION "0.14.0"
 
 /* The numbers of a term and of a cell. */
 #define HIRANTHOK_TERM_WORDS 6
@@ -202,7 +206,7 @@ static inline const char *hiranthok_refusal_text(uint32_t number)
     case 0: return "not refused";
     case 1: return "the table has no numbers, or not six for each term";
     case 2: return "too many terms: at most 512, and 80000 for evaluate and print";
-    case 3: return "no operator has this number: op is over 16";
+    case 3: return "no operator has this number: op is over 20";
     case 4: return "not a sort: (0, 0), (0, n) or (m, n), widths 1 to 32";
     case 5: return "an operand not below the term, or an unused field not 0";
     case 6: return "the sorts are not as the operator asks";

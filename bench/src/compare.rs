@@ -101,7 +101,7 @@ fn altered(input: &Input, random: &mut Random) -> Input {
     row[place] = match random.below(4) {
         0 => row[place].wrapping_add(1),
         1 => row[place].wrapping_sub(1),
-        2 => random.below(20) as u32,
+        2 => random.below(22) as u32,
         _ => 1 << random.below(32),
     };
     altered

@@ -1,4 +1,4 @@
-//! The tables and settings that are measured. The same at each run.
+//! The tables and settings that are measured, and one that is compared only. The same at each run.
 
 /// A table with a setting, or a typed rule.
 #[derive(Clone, Default)]
@@ -28,9 +28,11 @@ impl Random {
     }
 }
 
-/// What follows the first variables, over and over. Between them the two have every operator.
+/// What follows the first variables, over and over. Between them the first two have every operator of paper 01; the third, which
+/// is not timed, has those of request 05.
 const PLAIN: [u32; 20] = [12, 11, 14, 3, 8, 6, 7, 9, 4, 10, 13, 1, 2, 11, 5, 0, 14, 9, 3, 12];
 const WITH_ARRAYS: [u32; 20] = [16, 15, 16, 14, 11, 15, 3, 16, 12, 15, 6, 16, 4, 7, 15, 0, 16, 1, 13, 15];
+const SIGNED: [u32; 10] = [18, 19, 17, 20, 3, 18, 20, 19, 6, 4];
 
 /// A table being written. Vectors are 8 bits wide, arrays 8 bits from 8 bits.
 struct Writer {
@@ -99,10 +101,10 @@ impl Writer {
                 let d = self.boolean();
                 self.truth([op, 0, 0, c, d, 0]);
             }
-            6 | 14 => self.truth([op, 0, 0, p, q, 0]),
+            6 | 14 | 19 => self.truth([op, 0, 0, p, q, 0]),
             15 | 16 => self.array_operator(op, p, q),
             7 => self.number([7, 0, 8, c, p, q]),
-            8 => self.number([8, 0, 8, p, 0, 0]),
+            8 | 17 => self.number([op, 0, 8, p, 0, 0]),
             _ => self.number([op, 0, 8, p, q, 0]),
         }
     }
@@ -142,6 +144,15 @@ impl Writer {
 
 /// Operators in turn, with or without arrays and 16 cells.
 pub fn mixed(terms: usize, arrays: bool) -> Input {
+    in_turn(terms, arrays, if arrays { &WITH_ARRAYS } else { &PLAIN })
+}
+
+/// The signed operators in turn, with some others.
+pub fn signed(terms: usize) -> Input {
+    in_turn(terms, false, &SIGNED)
+}
+
+fn in_turn(terms: usize, arrays: bool, cycle: &[u32]) -> Input {
     let mut writer = Writer::new(terms as u64);
     if arrays {
         writer.variable(8, 8);
@@ -149,8 +160,7 @@ pub fn mixed(terms: usize, arrays: bool) -> Input {
     writer.variable(0, 8);
     writer.variable(0, 8);
     writer.variable(0, 0);
-    let cycle = if arrays { WITH_ARRAYS } else { PLAIN };
-    for op in cycle.into_iter().cycle().take(terms - 1 - writer.table.len() / 6) {
+    for &op in cycle.iter().cycle().take(terms - 1 - writer.table.len() / 6) {
         writer.operator(op);
     }
     let (p, q) = (writer.vector(), writer.vectors[writer.vectors.len() - 1]);

@@ -2,7 +2,7 @@
 
 use crate::compare::{compare, compare_altered, compare_misprinted};
 use crate::finished;
-use crate::inputs::{Input, Random, chained, mixed, reads_among, variables};
+use crate::inputs::{Input, Random, chained, mixed, reads_among, signed, variables};
 use crate::measure::improve;
 use crate::sides::{Library, ROUTINES, Routine, Rust, Side};
 use crate::typed;
@@ -157,13 +157,15 @@ fn print_growth(Section { heading, unit, lines }: &Section) {
 }
 
 fn print_altered(random: &mut Random) {
-    let inputs = [false, true].map(|arrays| [8, 64, 512].map(|terms| mixed(terms, arrays))).concat();
+    let sizes = [8, 64, 512];
+    let inputs =
+        [sizes.map(|terms| mixed(terms, false)), sizes.map(|terms| mixed(terms, true)), sizes.map(signed)].concat();
     let refused: usize = inputs.iter().map(|input| compare_altered(input, ALTERED, random)).sum();
     let calls = inputs.len() * ALTERED * ROUTINES.len();
     println!("Both sides gave equal results on each input below before it was timed, and on {calls} calls with one");
     println!("number altered, of which {refused} were refused.");
-    let texts: Vec<Input> =
-        typed_sections().into_iter().flat_map(|section| section.lines).map(|line| line.input).collect();
+    let measured = typed_sections().into_iter().flat_map(|section| section.lines).map(|line| line.input);
+    let texts: Vec<Input> = measured.chain([typed::signed()]).collect();
     let refused: usize = texts.iter().map(|text| compare_misprinted(text, ALTERED, random)).sum();
     println!("So they did on {} misprinted texts, of which {refused} were refused.", texts.len() * ALTERED);
 }

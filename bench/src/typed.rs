@@ -1,4 +1,4 @@
-//! The typed rules that are measured. The same at each run.
+//! The typed rules that are measured, and one that is compared only. The same at each run.
 
 use crate::inputs::Input;
 
@@ -64,6 +64,16 @@ fn filled(expression: &str, names: usize, used: &mut usize) -> String {
         other => other.to_string(),
     };
     expression.chars().map(&mut word).collect()
+}
+
+/// The signed operators.
+pub fn signed() -> Input {
+    let lines = [
+        declaration(0, VECTOR),
+        declaration(1, VECTOR),
+        format!("(assert (bvslt (bvneg {0}) (bvashr (bvsub {1} {0}) {1})))\n", name(0), name(1)),
+    ];
+    input(&lines)
 }
 
 /// So many names, each used once, two in an assert.

@@ -73,7 +73,8 @@ def facts(name, lines):
 
 def without_op(printed):
     """The op is not in the text: it is held to the operator's name."""
-    names = "constant variable not and or => = ite bvnot bvand bvor bvadd bvmul bvshl bvult select store".split()
+    names = ("constant variable not and or => = ite bvnot bvand bvor bvadd bvmul bvshl bvult select store "
+             "bvneg bvsub bvslt bvashr").split()
     for term in printed.get("terms", []):
         assert names[term.pop("op")] == term["operator"], term
     return printed

@@ -4,7 +4,7 @@ import collections
 from casefile import LIMIT, OTHERS, PARTS
 from words import operand_count
 
-EDGE = [0, 1, 2, 3, 4, 5, 6, 7, 8, 9, 15, 16, 17, 31, 32, 33, 254, 255, 256, 257, 511, 512,
+EDGE = [0, 1, 2, 3, 4, 5, 6, 7, 8, 9, 15, 16, 17, 20, 21, 31, 32, 33, 254, 255, 256, 257, 511, 512,
         65535, 65536, 2 ** 31 - 1, 2 ** 31, 2 ** 32 - 2, 2 ** 32 - 1]
 
 
@@ -13,7 +13,8 @@ def fit(g, n):
     if n == 0:
         return g.randrange(2)
     top = 2 ** n - 1
-    return g.choice([0, 0, top, top, min(n, top), min(n - 1, top), 1, g.randint(0, top), g.randint(0, min(3, top))])
+    return g.choice([0, 0, top, top, min(n, top), min(n - 1, top), 1, g.randint(0, top), g.randint(0, min(3, top)),
+                     top // 2, top // 2 + 1])
 
 
 class Table:
@@ -57,7 +58,8 @@ class Table:
 
     def grow(self):
         g = self.g
-        op = g.choice([1, 2, 3, 4, 5, 6, 7, 8, 9, 10, 11, 12, 13, 14] + ([15, 16, 16, 15] if self.arrays else []))
+        op = g.choice([1, 2, 3, 4, 5, 6, 7, 8, 9, 10, 11, 12, 13, 14, g.choice([17, 18, 19, 20])] +
+                      ([15, 16, 16, 15] if self.arrays else []))
         b, w = (0, 0), self.vector()
         if op == 1:
             return self.leaf(g.choice([b, w, w, (g.choice(self.widths), w[1])] if self.arrays else [b, w]))
@@ -71,11 +73,11 @@ class Table:
         elif op == 7:
             s = g.choice([b, w])
             want = [b, s, s]
-        elif op == 8:
+        elif op in (8, 17):
             want, s = [w], w
-        elif op in (9, 10, 11, 12, 13):
+        elif op in (9, 10, 11, 12, 13, 18, 20):
             want, s = [w, w], w
-        elif op == 14:
+        elif op in (14, 19):
             want, s = [w, w], b
         else:
             m, n = g.choice(self.widths), g.choice(self.widths)
@@ -95,7 +97,7 @@ class Table:
         x, y = self.pick(w), self.pick(w)
         have = [t for t in (self.pick(b), self.pick(b)) if t is not None]
         if x is not None and g.random() < 0.5:
-            self.put(g.choice([6, 14]), b, x, y)
+            self.put(g.choice([6, 14, 14, 19]), b, x, y)
         elif len(have) == 2:
             self.put(g.choice([3, 4, 5, 6]), b, *have)
         else:
@@ -228,6 +230,18 @@ def marks(g):
     return t
 
 
+def signed(g):
+    """Signed operators over inputs and constants of one width, the last a comparison."""
+    t = Table(g, 1)
+    t.spread, t.marked, w = 20, 0.4, (0, g.choice([1, 2, 8, 8, 8, 32]))
+    have = [t.leaf(w) for _ in range(3)]
+    for _ in range(g.choice([0, 1, 1, 2, 4])):
+        op = g.choice([17, 18, 20, 20])
+        have.append(t.put(op, w, *(g.choice(have) for _ in range(operand_count(op)))))
+    t.put(19, (0, 0), *g.sample(have[-2:] if g.random() < 0.7 else have, 2))
+    return t
+
+
 def chain(g):
     """a long chain of stores, read at several depths"""
     t = Table(g, 1)
@@ -246,7 +260,7 @@ def chain(g):
         if g.random() < 0.2:
             reads.append(stored_again(g, t, arrays, leaves))
     reads.append(t.put(15, (0, w), arrays[-1], g.choice(leaves)))
-    t.put(g.choice([6, 14]), (0, 0), reads[-1], g.choice(leaves + reads))
+    t.put(g.choice([6, 14, 19]), (0, 0), reads[-1], g.choice(leaves + reads))
     return t
 
 
@@ -257,12 +271,12 @@ def any_sort(g, t):
 
 def odd_term(g, t):
     """One more term, of any operator; one of its parts may have another sort than is asked."""
-    op = g.choice(list(range(17)) + [6, 7, 7, 14, 15, 15, 16, 16])
+    op = g.choice(list(range(21)) + [6, 7, 7, 14, 15, 15, 16, 16])
     m, n = g.choice(t.widths), g.choice(t.widths)
     v, b = (0, n), (0, 0)
     x = g.choice([b, v])
     want = {0: [x], 1: [x], 2: [b, b], 6: [b, x, x], 7: [x, b, x, x], 8: [v, v], 14: [b, v, v], 15: [v, (m, n), (0, m)],
-            16: [(m, n), (m, n), (0, m), v]}.get(op, [b, b, b] if op < 6 else [v, v, v])
+            16: [(m, n), (m, n), (0, m), v], 17: [v, v], 19: [b, v, v]}.get(op, [b, b, b] if op < 6 else [v, v, v])
     if g.random() < 0.9:
         want[g.randrange(len(want))] = any_sort(g, t)
     fields = [t.pick(s) if t.by[s] else t.leaf(s) for s in want[1:]]
@@ -275,7 +289,7 @@ def spoil_term(g, t, table):
     k = 6 * g.choice(three if three and g.random() < 0.3 else range(len(t.terms)))
     count, what = operand_count(table[k]), g.randrange(6)
     if what == 0:
-        table[k] = g.choice([17, 18, 4294967295])
+        table[k] = g.choice([21, 22, 4294967295])
     elif what == 1:
         table[k + 1], table[k + 2] = g.choice([(33, 8), (8, 33), (0, 33), (8, 0), (4294967295, 0)])
     elif what == 2 and count:
@@ -340,8 +354,8 @@ def sure(g):
             text_of(g, (table, values, cells, 4294967295))]
 
 
-KINDS = {"whole": 20, "chain": 12, "marks": 3, "spoilt": 24, "odd": 20, "numbers": 4, "text": 12, "both": 3, "random": 2, "wide": 0.3}
-MAKERS = {"wide": widest, "chain": chain, "marks": marks}
+KINDS = {"whole": 20, "chain": 12, "marks": 3, "signed": 8, "spoilt": 24, "odd": 20, "numbers": 4, "text": 12, "both": 3, "random": 2, "wide": 0.3}
+MAKERS = {"wide": widest, "chain": chain, "marks": marks, "signed": signed}
 
 
 def make(g):

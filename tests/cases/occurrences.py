@@ -7,7 +7,7 @@ REASONS = {
     1: ["the table has no numbers", r"the table has \d+ numbers, not six for each term",
         "the table has 1 number, not six for each term"],
     2: [r"the table has \d+ terms, at most 512 are allowed"],
-    3: [r"the op is \d+, at most 16 is allowed"],
+    3: [r"the op is \d+, at most 20 is allowed"],
     4: [r"the index width is \d+, at most 32 is allowed", r"the width is \d+, at most 32 is allowed",
         "the width is 0, and an array's is 1 to 32"],
     5: [r"operand %s is t\d+, which is not below t\d+" % f for f in "pqr"] +
@@ -50,6 +50,10 @@ SETTLED = [
     r"t\d+ \(bvshl .*\): t\d+ is not free, but t\d+ is free and \d+\.",
     r"t\d+ \(bvult (t\d+) (t\d+)\): \2 is not free, but \1 is free and [1-9]\d*\.",
     r"t\d+ \(bvult (t\d+) (t\d+)\): \1 is not free, but \2 is free and 0\.",
+    r"t\d+ \(bvslt (t\d+) (t\d+)\): \2 is not free, but \1 is free and [1-9]\d*\.",
+    r"t\d+ \(bvslt (t\d+) (t\d+)\): \1 is not free, but \2 is free and [1-9]\d*\.",
+    r"t\d+ \(bvashr (t\d+) (t\d+)\): \2 is not free, but \1 is free and 0\.",
+    r"t\d+ \(bvashr (t\d+) (t\d+)\): \2 is not free, but \1 is free and [1-9]\d*\.",
     r"(?:%st\d+ is not free,|   ) but the test t\d+ is free and picks t\d+, which is free\." % TERM,
     r"(?:%st\d+ is not free,|   ) but t\d+ and t\d+ are free and equal \(\d+\)\." % TERM,
     r"(?:%st\d+ is not free,|   ) but t\d+ and t\d+ are free and equal \((?:true|false)\)\." % TERM,
@@ -58,7 +62,7 @@ SETTLED = [
     r"(?:%st\d+ is not free,|   ) but t\d+, which store t\d+ holds, is free and equal to what is beneath\." % TERM,
     r"(?:%st\d+ is not free,|   ) but the read goes past its store to t\d+, which is not marked\." % TERM,
 ]
-WHY = [r"    No value of one operand settles %s: both must be free\." % op for op in ("=", "bvadd")] + [
+WHY = [r"    No value of one operand settles %s: both must be free\." % op for op in ("=", "bvadd", "bvsub")] + [
     r"    A free operand would have settled it\.",
     r"    t\d+ is free, but it is %s: a free %s would have settled it\." % (VALUE, VALUE),
     r"    t\d+ is %s, but not free: only a free %s settles it\." % (VALUE, VALUE),
@@ -69,6 +73,13 @@ WHY = [r"    No value of one operand settles %s: both must be free\." % op for o
     r"t\d+ \(bvult .*\): .*\n    t\d+ is \d+, but not free: only a free [1-9]\d* settles it\.",
     r"t\d+ \(bvult .*\): .*\n    .*\n    t\d+ is 0, but not free: only a free 0 settles it\.",
     r"t\d+ \(bvult .*\): .*\n    .* a free [1-9]\d* would have settled it\.\n    .* a free 0 would have settled it\.",
+    r"t\d+ \(bvneg .*\): .*\n    A free operand would have settled it\.",
+    r"t\d+ \(bvslt .*\): .*\n    t\d+ is \d+, but not free: only a free \d+ settles it\.",
+    r"t\d+ \(bvslt .*\): .*\n    .*\n    t\d+ is \d+, but not free: only a free [1-9]\d* settles it\.",
+    r"t\d+ \(bvslt .*\): .*\n    .* a free \d+ would have settled it\.\n    .* a free [1-9]\d* would have settled it\.",
+    r"t\d+ \(bvashr .*\): .*\n    t\d+ is free, but it is [1-9]\d*: a free 0 or [1-9]\d* would have settled it\.(?!\n    )",
+    r"t\d+ \(bvashr .*\): .*\n    t\d+ is \d+, but not free: only a free 0 or [1-9]\d* settles it\.(?!\n    )",
+    r"t\d+ \(bvashr .*\): .*\n    t\d+ is [1-9]\d*, and not free: a free 0 or [1-9]\d* would have settled it\.(?!\n    )",
     TERM + r"t\d+ is not free\.", TERM + r"t\d+ and t\d+ are not free\.",
     TERM + r"t\d+, the test, is not free\.", r"    Branches free and equal would have settled it:",
     r"    t\d+ is %s and (?:not )?free, t\d+ is %s and (?:not )?free\." % (VALUE, VALUE),
@@ -100,7 +111,9 @@ TEXT = [r"\(declare-const v\d+ %s\)" % sort for sort in ("Bool", VECTOR, r"\(Arr
     r"\(define-fun t\d+ \(\) Bool true\)", r"\(define-fun t\d+ \(\) Bool false\)", r"\(define-fun t\d+ \(\) %s #b[01]+\)" % VECTOR,
     r"\(assert t\d+\)", r"\(assert v\d+\)"] + [
     r"\(define-fun t\d+ \(\) .* \(%s(?: %s){%d}\)\)" % (word, NAME, operands) for words, operands in (
-        ("not bvnot", 1), ("and or => = bvand bvor bvadd bvmul bvshl bvult select", 2), ("ite store", 3)) for word in words.split()]
+        ("not bvnot bvneg", 1),
+        ("and or => = bvand bvor bvadd bvmul bvshl bvult bvsub bvslt bvashr select", 2),
+        ("ite store", 3)) for word in words.split()]
 
 WANTED = [("judge", ".*:\\d+: refused %d at (?:term|cell|place) \\d+: %s" % (number, reason))
           for number, reasons in REASONS.items() for reason in reasons]

@@ -22,6 +22,7 @@ pub type Key = (&'static str, u32, u32);
 const ROUTINE_NAMES: [&str; 6] =
     ["admit refuses", "finish refuses", "evaluate refuses", "judge refuses", "print refuses", "parse refuses"];
 const RECORD_NAMES: [&str; 2] = ["evaluate, records, refuses", "judge, records, refuses"];
+const SHIFTED: &str = "shift right, the sign, the amount below the width or not";
 const LIKE: &str = "refusal 6, operands of one sort: operator, kind of sort";
 const REFUSALS: [&[u32]; 6] = [
     &[1, 2, 3, 4, 5, 6, 7, 8, 9, 10],
@@ -57,7 +58,7 @@ impl Counts {
             0 => self.observe_result(case, answer),
             1 | 2 => self.observe_length(case, answer),
             3..=9 => {
-                let op = case.table[6 * answer.numbers[0] as usize].min(17);
+                let op = case.table[6 * answer.numbers[0] as usize].min(LAST + 1);
                 self.count(("refusal, operator", answer.number, op));
                 if answer.number == 6 {
                     self.observe_like_operands(case, &Term::of(&case.table[6 * answer.numbers[0] as usize..][..6]));
@@ -82,13 +83,13 @@ impl Counts {
     }
 
     /// A term that is refused 6 for nothing but the one sort that it and its operands have (but a choice's test; the term
-    /// itself is Boolean for equal and less).
+    /// itself is Boolean for the comparisons).
     fn observe_like_operands(&mut self, case: &Case, t: &Term) {
         let from = usize::from(t.op == CHOICE);
         let operands = &t.fields()[from.min(t.operands())..t.operands()];
         let sorts: Vec<&[u32]> = operands.iter().map(|&o| &case.table[6 * o as usize + 1..][..2]).collect();
         let Some(&first) = sorts.first() else { return };
-        let own: &[u32] = if t.op == EQUAL || t.op == LESS { &[0, 0] } else { first };
+        let own: &[u32] = if compares(t.op) { &[0, 0] } else { first };
         if own == [t.m, t.n] && sorts.iter().all(|&sort| sort == first) {
             self.count((LIKE, t.op, kind(&[0, first[0], first[1]])));
         }
@@ -183,8 +184,9 @@ impl Counts {
         let mut slots = BTreeMap::new();
         for (number, term) in case.table.chunks(6).enumerate() {
             let t = Term::of(term);
-            let width = if t.op == EQUAL || t.op == LESS { case.table[6 * t.p as usize + 2] } else { t.n };
+            let width = if compares(t.op) { case.table[6 * t.p as usize + 2] } else { t.n };
             self.count(("operator, width", t.op, width));
+            self.observe_signs(&t, width, room);
             match t.op {
                 VARIABLE => {
                     self.count(("variable: kind of sort, mark", kind(term), t.q));
@@ -198,14 +200,25 @@ impl Counts {
                     self.count(("read, index width", case.table[6 * t.p as usize + 1], 0));
                     self.observe_read(case, room, &t, room[n + number] == 1);
                 }
-                _ if room[n + number] == 1 => self.observe_settled(&t, width, &room[n..]),
+                _ if room[n + number] == 1 => self.observe_settled(&t, width, room.split_at(n)),
                 _ => {}
             }
         }
     }
 
-    /// A term whose condition is true although an operand's is not; `free` holds the conditions.
-    fn observe_settled(&mut self, t: &Term, width: u32, free: &[u32]) {
+    /// The operands' signs, and of a shift right whether its amount is the width or more; `values` begins with the values.
+    fn observe_signs(&mut self, t: &Term, width: u32, values: &[u32]) {
+        let value = |operand: u32| values[operand as usize];
+        let sign = |operand: u32| value(operand) >> (width - 1);
+        match t.op {
+            SIGNED_LESS => self.count(("signed less, the operands' signs", sign(t.p), sign(t.q))),
+            SHIFT_RIGHT => self.count((SHIFTED, sign(t.p), (value(t.q) >= width).into())),
+            _ => {}
+        }
+    }
+
+    /// A term whose condition is true although an operand's is not, by the values and the conditions.
+    fn observe_settled(&mut self, t: &Term, width: u32, (values, free): (&[u32], &[u32])) {
         let operands = &t.fields()[..t.operands()];
         let is_free: Vec<bool> = operands.iter().map(|&o| free[o as usize] == 1).collect();
         if is_free.iter().all(|&f| f) {
@@ -214,6 +227,9 @@ impl Counts {
         self.count(("settled, operator, width", t.op, width));
         if let Some(first) = is_free.iter().position(|&f| f) {
             self.count(("settled, operator, first free operand", t.op, first as u32));
+        }
+        if t.op == SHIFT_RIGHT {
+            self.count(("shift right settled, by 0 or all ones", (values[t.p as usize] > 0).into(), 0));
         }
     }
 
@@ -311,7 +327,7 @@ fn wanted() -> Vec<Key> {
 }
 
 fn wanted_of_texts(keys: &mut Vec<Key>) {
-    for op in NOT..=STORE {
+    for op in NOT..=LAST {
         keys.extend((1..=5).map(|digits| ("printed: operator, digits of its number", op, digits)));
     }
     for sort in 0..=2 {
@@ -325,7 +341,7 @@ fn wanted_of_texts(keys: &mut Vec<Key>) {
 }
 
 fn wanted_of_tables(keys: &mut Vec<Key>) {
-    for op in CONSTANT..=STORE {
+    for op in CONSTANT..=LAST {
         keys.extend([4, 5].map(|number| ("refusal, operator", number, op)));
         if op != VARIABLE {
             keys.push(("refusal, operator", 6, op));
@@ -337,7 +353,7 @@ fn wanted_of_tables(keys: &mut Vec<Key>) {
         };
         keys.extend(widths.map(|width| ("operator, width", op, width)));
     }
-    for op in NOT..=LESS {
+    for op in SCALAR {
         let forbidden: &[u32] = match op {
             NOT | AND | OR | IMPLIES => &[1, 2],
             EQUAL | CHOICE => &[2],
@@ -346,18 +362,27 @@ fn wanted_of_tables(keys: &mut Vec<Key>) {
         keys.extend(forbidden.iter().map(|&kind| (LIKE, op, kind)));
     }
     keys.extend([("refusal, operator", 7, CONSTANT), ("refusal, operator", 7, VARIABLE)]);
-    for op in [AND, OR, IMPLIES, VECTOR_AND, VECTOR_OR, PRODUCT, CHOICE, LESS] {
-        keys.extend([0, 1].map(|operand| ("settled, operator, first free operand", op, operand)));
-    }
-    for op in [CHOICE, VECTOR_AND, VECTOR_OR, PRODUCT, SHIFT, LESS, READ] {
-        keys.extend((1..=32).map(|width| ("settled, operator, width", op, width)));
-    }
+    wanted_of_conditions(keys);
     keys.extend((0..=16).map(|length| ("read, stores in its chain", length, 0)));
     keys.extend((0..=15).map(|depth| ("read from store, from outside", depth, 0)));
     keys.extend((1..=32).map(|width| ("read, index width", width, 0)));
     for sort in 0..=2 {
         keys.extend([0, 1].map(|mark| ("variable: kind of sort, mark", sort, mark)));
         keys.extend([("slot used again, kind of sort", sort, 0), ("too wide, kind of sort", sort, 0)]);
+    }
+}
+
+/// What settles a term, and the signs where they count.
+fn wanted_of_conditions(keys: &mut Vec<Key>) {
+    for op in [AND, OR, IMPLIES, VECTOR_AND, VECTOR_OR, PRODUCT, CHOICE, LESS, SIGNED_LESS] {
+        keys.extend([0, 1].map(|operand| ("settled, operator, first free operand", op, operand)));
+    }
+    for op in [CHOICE, VECTOR_AND, VECTOR_OR, PRODUCT, SHIFT, LESS, READ, SIGNED_LESS, SHIFT_RIGHT] {
+        keys.extend((1..=32).map(|width| ("settled, operator, width", op, width)));
+    }
+    keys.extend([0, 1].map(|ones| ("shift right settled, by 0 or all ones", ones, 0)));
+    for (a, b) in [(0, 0), (0, 1), (1, 0), (1, 1)] {
+        keys.extend([("signed less, the operands' signs", a, b), (SHIFTED, a, b)]);
     }
 }
 

@@ -1,6 +1,7 @@
-//! Paper 01's bench examples, the texts of requests 01 and 02, request 03's less, and a case for each point that the papers
-//! leave open, with the expected answers.
+//! Paper 01's bench examples, the texts of requests 01 and 02, request 03's less, request 05's operators, and a case for each
+//! point that the papers leave open, with the expected answers.
 
+mod signed;
 mod typed;
 
 use crate::case::{Case, Checker, Routine};
@@ -132,6 +133,7 @@ pub fn all() -> Vec<Example> {
     let mut examples = bench();
     examples.extend(more_bench());
     examples.extend(less());
+    examples.extend(signed::all());
     examples.extend(open_points());
     examples.extend(open_points_of_settings());
     examples.extend(texts());
@@ -276,7 +278,7 @@ fn open_points() -> Vec<Example> {
     vec![
         judged("a read joins equal(e, the read)", &h(0, 1), &[9, 0, 0], true, false, 1),
         judged("the same with a 1: the rule is false", &h(0, 1), &[9, 1, 0], false, false, 1),
-        not_admitted("8 before a later 3", &[boolean, [1, 0, 0, 3, 1, 0], [17, 0, 0, 0, 0, 0]], 8, 1),
+        not_admitted("8 before a later 3", &[boolean, [1, 0, 0, 3, 1, 0], [21, 0, 0, 0, 0, 0]], 8, 1),
         not_admitted("7 before 8 in one term", &[boolean, [1, 0, 0, 3, 2, 0]], 7, 1),
         not_admitted("a not that is no sort", &[boolean, [2, 0, 33, 0, 0, 0]], 4, 1),
         not_admitted("a not of another sort", &[boolean, [2, 0, 8, 0, 0, 0]], 6, 1),

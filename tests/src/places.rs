@@ -13,7 +13,8 @@ const RULES: [&str; 4] = [
      ( assert ( = ( select ( store t x1 #b0101 ) ( bvnot x1 ) ) ( ite false #b0000 ( select t x1 ) ) ) ) \
      ( assert ( not ( bvult ( bvshl x1 ( bvand x1 x1 ) ) ( bvor x1 #b00000001 ) ) ) ) ( check-sat )",
     "( declare-const a Bool ) ( declare-const x2 ( _ BitVec 3 ) ) ( assert ( => ( and a ( or a true ) ) a ) ) \
-     ( assert ( = ( bvadd x2 ( bvmul x2 x2 ) ) #b101 ) ) ( assert a ) ( check-sat )",
+     ( assert ( = ( bvadd x2 ( bvmul x2 x2 ) ) #b101 ) ) ( assert a ) \
+     ( assert ( bvslt ( bvneg x2 ) ( bvashr ( bvsub x2 #b001 ) x2 ) ) ) ( check-sat )",
 ];
 
 /// The words that are tried: the language's, those near it, and the names of the rules.

@@ -120,7 +120,7 @@ fn changed(random: &mut Random, table: &[u32]) -> Vec<u32> {
         3 => other.swap(6 * i + 3, 6 * i + 4 + random.below(2)),
         4 => other[6 * i + 3 + random.below(3)] = random.below(i.max(1)) as u32,
         5 => other[6 * i + 3] ^= 1,
-        6 => other[6 * i] = random.below(17) as u32,
+        6 => other[6 * i] = random.below(LAST as usize + 1) as u32,
         _ => other.extend([random.pick(&[NOT, CONSTANT]), 0, 0, random.below(2) as u32, 0, 0]),
     }
     let whole = plain(&other).is_some_and(|unchanged| unchanged == other);

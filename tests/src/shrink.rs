@@ -3,7 +3,8 @@
 use crate::case::Case;
 use crate::reference::flaw::Flaw;
 use crate::reference::term::Term;
-use crate::reference::words::words;
+use crate::reference::words::{words, Word};
+use std::ops::Range;
 use std::time::{Duration, Instant};
 
 /// The smallest call found for which `fails` still holds, within the time.
@@ -11,6 +12,8 @@ pub fn shrink(case: &Case, time: Duration, fails: &dyn Fn(&Case) -> bool) -> Cas
     let mut shrinker = Shrinker { best: case.clone(), fails, end: Instant::now() + time };
     loop {
         let before = shrinker.best.clone();
+        shrinker.drop_lists();
+        shrinker.lift_operands();
         shrinker.drop_words();
         shrinker.drop_bytes();
         shrinker.drop_terms();
@@ -41,6 +44,31 @@ impl Shrinker<'_> {
             self.best = case;
         }
         better
+    }
+
+    /// Drops whole lists, declarations and asserts among them, from the end.
+    fn drop_lists(&mut self) {
+        for at in (0..words(&self.best.text, Flaw::None).len()).rev() {
+            self.attempt(|c| {
+                if let Some((list, _)) = list_at(&c.text, at, 0) {
+                    c.text.drain(list);
+                }
+            });
+        }
+    }
+
+    /// Puts an operand in the place of its list, from the end.
+    fn lift_operands(&mut self) {
+        for at in (0..words(&self.best.text, Flaw::None).len()).rev() {
+            for part in 1..=3 {
+                self.attempt(|c| {
+                    if let Some((list, operand)) = list_at(&c.text, at, part) {
+                        let operand = c.text[operand].to_vec();
+                        c.text.splice(list, operand);
+                    }
+                });
+            }
+        }
     }
 
     /// Drops runs of words, long runs first, from the end.
@@ -136,6 +164,29 @@ impl Shrinker<'_> {
         let _ = self.attempt(|c| c.room = 0);
         while self.attempt(|c| c.room /= 2) || self.attempt(|c| c.room = c.room.saturating_sub(1)) {}
     }
+}
+
+/// The bytes of the list that begins at this word, and those of one of its parts: 0 is the operator.
+fn list_at(text: &[u8], at: usize, part: usize) -> Option<(Range<usize>, Range<usize>)> {
+    let words = words(text, Flaw::None);
+    words.get(at).filter(|word| word.bytes == b"(")?;
+    let mut from = at + 1;
+    for _ in 0..part {
+        from = last_word(&words, from)? + 1;
+    }
+    let (end, part_end) = (last_word(&words, at)?, last_word(&words, from)?);
+    let bytes = |from: usize, to: usize| words[from].place..words[to].place + words[to].bytes.len();
+    (part_end < end).then(|| (bytes(at, end), bytes(from, part_end)))
+}
+
+/// The last word of the list or word that begins here.
+fn last_word(words: &[Word], at: usize) -> Option<usize> {
+    let mut open = 0;
+    let closes = |word: &Word| {
+        open += i32::from(word.bytes == b"(") - i32::from(word.bytes == b")");
+        open <= 0
+    };
+    words.get(at..)?.iter().position(closes).map(|behind| at + behind)
 }
 
 /// A table without some of its terms. Operands after them move up; an operand among them becomes the

@@ -80,7 +80,9 @@ fn every_flaw_is_found_and_shrunk() {
 #[test]
 fn pairs_alone_find_conditions_that_are_too_weak() {
     let less = [Flaw::LessExchanged, Flaw::LessOwnWidth, Flaw::LessAlone];
-    for flaw in [Flaw::JoinsIndexes, Flaw::FactorAlone, Flaw::PickedBranch, Flaw::IndexUnasked].into_iter().chain(less) {
+    let signed = [Flaw::SignedByOnes, Flaw::SignedExchanged, Flaw::AmountSettles, Flaw::SixthByAmount];
+    let first = [Flaw::JoinsIndexes, Flaw::FactorAlone, Flaw::PickedBranch, Flaw::IndexUnasked];
+    for flaw in first.into_iter().chain(less).chain(signed) {
         let flawed = Reference { flaw };
         let mut comparison = Comparison::new(&flawed, &flawed);
         let pair = |d: &Difference| matches!(d.check, Check::Pair(_));

@@ -94,7 +94,7 @@ fn first_of(bounds: bool, sorts: impl FnOnce() -> bool) -> u32 {
 fn fault<const N: usize>(terms: &[Term], t: usize, known: &mut Known<N>) -> u32 {
     let term = &terms[t];
     let &[op, m, n, p, q, r] = term;
-    if op > 16 {
+    if op > 20 {
         return 3;
     }
     if n > 32 || m > 32 || (m != 0 && n == 0) {
@@ -115,9 +115,9 @@ fn fault<const N: usize>(terms: &[Term], t: usize, known: &mut Known<N>) -> u32 
         3..=5 => first_of(two, || s | at(p) | at(q) == 0),
         6 => first_of(two, || s == 0 && at(p) == at(q) && at(p) as u32 == 0),
         7 => first_of(three, || m == 0 && at(p) == 0 && at(q) == s && at(r) == s),
-        8 => first_of(one, || is_vector(s) && at(p) == s),
-        9..=13 => first_of(two, || is_vector(s) && at(p) == s && at(q) == s),
-        14 => first_of(two, || s == 0 && is_vector(at(p)) && at(p) == at(q)),
+        8 | 17 => first_of(one, || is_vector(s) && at(p) == s),
+        9..=13 | 18 | 20 => first_of(two, || is_vector(s) && at(p) == s && at(q) == s),
+        14 | 19 => first_of(two, || s == 0 && is_vector(at(p)) && at(p) == at(q)),
         15 => read(terms, term, two, known),
         _ => store(terms, t, three, known),
     }

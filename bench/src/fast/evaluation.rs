@@ -2,7 +2,7 @@
 
 use super::admission::{Known, admitted};
 use super::setting::{afforded, checked, held};
-use super::{Cell, FINISHED, Refusal, TERMS, Term, answered, ones};
+use super::{Cell, FINISHED, Refusal, TERMS, Term, answered, greatest, ones};
 
 #[inline(never)]
 pub fn evaluate(
@@ -39,7 +39,7 @@ fn evaluated<const N: usize>(
         work[t] = match term[0] {
             1 => variable(term, values),
             15 => read(terms, cells, values, work, term),
-            _ => operation(term, work),
+            _ => operation(term, terms, work),
         };
     }
     Ok([known.steps, allowance - known.steps, 0, 0])
@@ -53,7 +53,7 @@ pub fn variable(term: &Term, values: &[u32]) -> u32 {
 
 /// The value of any term but a variable or a read, from the values before it.
 #[inline(always)]
-pub fn operation(term: &Term, work: &[u32]) -> u32 {
+pub fn operation(term: &Term, terms: &[Term], work: &[u32]) -> u32 {
     let &[op, _, n, p, q, r] = term;
     let at = |k: u32| work[k as usize];
     match op {
@@ -69,6 +69,13 @@ pub fn operation(term: &Term, work: &[u32]) -> u32 {
         12 => at(p).wrapping_mul(at(q)) & ones(n),
         13 => shifted(at(p), at(q), n),
         14 => u32::from(at(p) < at(q)),
+        17 => at(p).wrapping_neg() & ones(n),
+        18 => at(p).wrapping_sub(at(q)) & ones(n),
+        19 => {
+            let sign = greatest(terms[p as usize][2]) + 1;
+            u32::from(at(p) ^ sign < at(q) ^ sign)
+        }
+        20 => shifted_right(at(p), at(q), n),
         _ => 0,
     }
 }
@@ -76,6 +83,13 @@ pub fn operation(term: &Term, work: &[u32]) -> u32 {
 #[inline(always)]
 fn shifted(value: u32, by: u32, n: u32) -> u32 {
     if by >= n { 0 } else { value << by & ones(n) }
+}
+
+/// The sign's bit is moved to the top, and back to its place: what comes in above it is the sign.
+#[inline(always)]
+fn shifted_right(value: u32, by: u32, n: u32) -> u32 {
+    let above = 32 - n;
+    ((value << above) as i32 >> above >> by.min(31)) as u32 & ones(n)
 }
 
 #[inline(always)]

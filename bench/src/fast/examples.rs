@@ -102,6 +102,10 @@ fn texts() {
     let h = text(&h(1, 0));
     assert!(h.contains("\n(define-fun t3 () (_ BitVec 8) #b00101010)\n"));
     assert!(h.contains("\n(define-fun t4 () (Array (_ BitVec 8) (_ BitVec 8)) (store v0 v1 t3))\n"));
+    let signed = [1, 0, 8, 0, 0, 0, 17, 0, 8, 0, 0, 0, 18, 0, 8, 1, 0, 0, 20, 0, 8, 2, 1, 0, 19, 0, 0, 3, 0, 0];
+    let signed = text(&signed);
+    assert!(signed.contains(" (bvneg v0))\n") && signed.contains(" (bvsub t1 v0))\n"));
+    assert!(signed.contains(" (bvashr t2 t1))\n") && signed.contains(" Bool (bvslt t3 v0))\n"));
     let twice = text(&[1, 0, 1, 10, 0, 0, 1, 0, 0, 9, 0, 0, 1, 0, 0, 9, 0, 0]);
     assert!(twice.contains("\n(declare-const v9 Bool)\n(declare-const v10 (_ BitVec 1))\n(assert v9)\n"));
 }
@@ -122,6 +126,11 @@ fn binary(op: u32, marks: [u32; 2], constant: u32) -> Vec<u32> {
 fn operators() {
     assert_eq!(verdict(&binary(11, [0, 0], 44), &[200, 100]), (1, 1));
     assert_eq!(verdict(&binary(12, [0, 0], 0), &[16, 16]), (1, 1));
+    assert_eq!(verdict(&binary(18, [0, 0], 254), &[3, 5]), (1, 1));
+    assert_eq!(verdict(&binary(18, [0, 1], 251), &[0, 5]), (1, 0));
+    let negated = |mark| [1, 0, 8, 0, mark, 0, 17, 0, 8, 0, 0, 0, 0, 0, 8, 251, 0, 0, 6, 0, 0, 1, 2, 0];
+    assert_eq!(verdict(&negated(0), &[5]), (1, 1));
+    assert_eq!(verdict(&negated(1), &[5]), (1, 0));
     assert_eq!(verdict(&binary(13, [1, 0], 0), &[200, 8]), (1, 1));
     assert_eq!(verdict(&binary(13, [1, 0], 0), &[200, 7]), (1, 0));
     assert_eq!(verdict(&binary(10, [1, 0], 255), &[3, 255]), (1, 1));
@@ -156,6 +165,48 @@ fn less() {
     assert_eq!((finish(&shifted, &mut [0; 78], &mut answer), answer), (0, [13, 11, 12, 0]));
 }
 
+/// Two vectors under signed less: nothing is above the greatest, nothing is below the least.
+#[test]
+fn signed_less() {
+    let compared = |width, marks: [u32; 2], values: [u32; 2]| {
+        let table = [[1, 0, width, 0, marks[0], 0], [1, 0, width, 1, marks[1], 0], [19, 0, 0, 0, 1, 0]];
+        verdict(&table.concat(), &values)
+    };
+    assert_eq!(compared(8, [0, 0], [255, 0]), (1, 1));
+    assert_eq!(compared(8, [0, 0], [127, 128]), (0, 1));
+    assert_eq!(compared(8, [0, 1], [127, 5]), (0, 1));
+    assert_eq!(compared(8, [1, 0], [5, 128]), (0, 1));
+    assert_eq!(compared(8, [0, 1], [255, 5]), (1, 0));
+    assert_eq!(compared(8, [1, 0], [5, 0]), (0, 0));
+    assert_eq!(compared(8, [0, 1], [128, 5]), (1, 0));
+    assert_eq!(compared(8, [1, 0], [127, 5]), (0, 0));
+    assert_eq!(compared(1, [0, 0], [1, 0]), (1, 1));
+    assert_eq!(compared(1, [0, 1], [0, 0]), (0, 1));
+    assert_eq!(compared(1, [1, 0], [0, 1]), (0, 1));
+    assert_eq!(compared(32, [0, 1], [u32::MAX >> 1, 5]), (0, 1));
+}
+
+/// The first operand settles a shift right by 0 and all ones; the amount does not.
+#[test]
+fn shift_right() {
+    let shifted = |width, marks: [u32; 2], values: [u32; 2], is| {
+        let mut table = binary(20, marks, is);
+        [2, 8, 14, 20].iter().for_each(|&place| table[place] = width);
+        verdict(&table, &values)
+    };
+    assert_eq!(shifted(8, [0, 0], [128, 255], 255), (1, 1));
+    assert_eq!(shifted(8, [0, 0], [128, 1], 192), (1, 1));
+    assert_eq!(shifted(8, [0, 0], [127, 9], 0), (1, 1));
+    assert_eq!(shifted(8, [0, 1], [0, 3], 0), (1, 1));
+    assert_eq!(shifted(8, [0, 1], [255, 3], 255), (1, 1));
+    assert_eq!(shifted(8, [0, 1], [128, 255], 255), (1, 0));
+    assert_eq!(shifted(8, [1, 0], [255, 1], 255), (1, 0));
+    assert_eq!(shifted(8, [1, 0], [128, 255], 255), (1, 0));
+    assert_eq!(shifted(1, [0, 1], [1, 1], 1), (1, 1));
+    assert_eq!(shifted(1, [1, 0], [1, 1], 1), (1, 0));
+    assert_eq!(shifted(32, [0, 0], [1 << 31, 31], u32::MAX), (1, 1));
+}
+
 fn chain(stores: u32) -> Vec<u32> {
     let mut table = vec![1, 8, 8, 0, 1, 0, 1, 0, 8, 1, 0, 0];
     table.extend((0..stores).flat_map(|k| [16, 8, 8, if k == 0 { 0 } else { k + 1 }, 1, 1]));
@@ -174,7 +225,10 @@ fn refusals() {
     assert_eq!(refused(&G.repeat(74)[..6 * 513]), (2, 0));
     assert_eq!(refused(&chain(16)), (0, 0));
     assert_eq!(refused(&chain(17)), (9, 18));
-    assert_eq!(refused(&[1, 0, 8, 3, 0, 0, 1, 0, 8, 3, 1, 0, 17, 0, 0, 0, 0, 0]), (8, 1));
+    assert_eq!(refused(&[1, 0, 8, 3, 0, 0, 1, 0, 8, 3, 1, 0, 21, 0, 0, 0, 0, 0]), (8, 1));
+    assert_eq!(refused(&[21, 0, 0, 0, 0, 0]), (3, 0));
+    assert_eq!(refused(&[1, 0, 8, 0, 0, 0, 19, 0, 8, 0, 0, 0]), (6, 1));
+    assert_eq!(refused(&[1, 0, 8, 0, 0, 0, 17, 0, 8, 0, 1, 0]), (5, 1));
     assert_eq!(refused(&[1, 0, 8, 3, 0, 0, 1, 0, 8, 3, 2, 0]), (7, 1));
     assert_eq!(refused(&[1, 0, 33, 0, 0, 0]), (4, 0));
     assert_eq!(refused(&[1, 8, 0, 0, 0, 0]), (4, 0));
@@ -217,6 +271,8 @@ fn typed_rules() {
     assert_eq!(read("(assert true)(check-sat)"), (0, 6));
     assert_eq!(asserted("a"), (0, 18));
     assert_eq!(asserted("(= x1 #b00000000)"), (0, 24));
+    assert_eq!(asserted("(bvslt (bvneg x1) (bvashr (bvsub x1 x1) x1))"), (0, 36));
+    assert_eq!(asserted("(= x1 bvneg)"), (31, at(6)));
     assert_eq!(asserted("x1"), (6, 2));
     assert_eq!(asserted("#b1"), (10, 2));
     assert_eq!(asserted("(not a zz)"), (32, at(7)));
@@ -227,9 +283,10 @@ fn typed_rules() {
     assert_eq!(asserted(&format!("{}a{}", "(not ".repeat(65), ")".repeat(65))), (33, at(5 * 64)));
 }
 
-/// The measured rules have the terms that their names say.
+/// The measured rules have the terms that their names say, and the compared one is a rule.
 #[test]
 fn measured_rules() {
+    assert_eq!(read(&String::from_utf8(crate::typed::signed().typed).unwrap()), (0, 36));
     for terms in [8, 64, 512] {
         assert_eq!(read(&String::from_utf8(crate::typed::rule(terms).typed).unwrap()), (0, 6 * terms as u64));
     }

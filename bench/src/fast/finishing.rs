@@ -1,7 +1,7 @@
 //! The finished table: the terms, T, F, the groups, and the conjunction of rule and condition.
 
 use super::admission::{Known, admitted};
-use super::{Refusal, STORES, TERMS, Term, answered, ones};
+use super::{Refusal, STORES, TERMS, Term, answered, greatest, ones};
 
 const NOT: u32 = 2;
 const AND: u32 = 3;
@@ -42,7 +42,7 @@ fn finished(table: &[u32], room: &mut [u32]) -> Result<[u64; 4], Refusal> {
 /// How many terms a group has.
 #[inline(always)]
 fn added(term: &Term, depth: &[u8; TERMS]) -> usize {
-    const ADDED: [u8; 17] = [0, 0, 0, 7, 5, 6, 1, 6, 0, 8, 8, 1, 8, 6, 9, 1, 0];
+    const ADDED: [u8; 21] = [0, 0, 0, 7, 5, 6, 1, 6, 0, 8, 8, 1, 8, 6, 9, 1, 0, 0, 1, 9, 9];
     let stores = if term[0] == READ { depth[term[3] as usize] } else { 0 };
     usize::from(ADDED[term[0] as usize]) + 9 * usize::from(stores)
 }
@@ -96,17 +96,25 @@ impl Groups<'_> {
         match op {
             0 => yes,
             1 => yes + q,
-            2 | 8 => self.condition(p),
+            2 | 8 | 17 => self.condition(p),
             3 => self.group_and(p, q),
             4 => self.group_or(p, q),
             5 => self.group_implies(p, q),
-            6 | 11 => self.and(self.condition(p), self.condition(q)),
+            6 | 11 | 18 => self.and(self.condition(p), self.condition(q)),
             7 => self.group_choice(p, q, r),
             9 | 12 => self.group_absorbing(n, 0, p, q),
             10 => self.group_absorbing(n, ones(n), p, q),
             13 => self.group_shift(n, p, q),
-            14 => self.group_less(terms[p as usize][2], p, q),
+            14 => {
+                let n = terms[p as usize][2];
+                self.group_of_two(n, (p, ones(n)), (q, 0), p, q)
+            }
             15 => self.group_read(terms, n, p, q),
+            19 => {
+                let n = terms[p as usize][2];
+                self.group_of_two(n, (p, greatest(n)), (q, greatest(n) + 1), p, q)
+            }
+            20 => self.group_of_two(n, (p, 0), (p, ones(n)), p, q),
             _ => no,
         }
     }
@@ -147,14 +155,14 @@ impl Groups<'_> {
         self.settled_or_both(by_p, by_q, self.condition(p), self.condition(q))
     }
 
-    /// Less, of operands of n bits: all ones at the first settles it, 0 at the second.
+    /// Less, signed less, the shift right: an operand that has a value of n bits settles them, or another with another value.
     #[inline(always)]
-    fn group_less(&mut self, n: u32, p: u32, q: u32) -> u32 {
-        let all_ones = self.push([0, 0, n, ones(n), 0, 0]);
-        let by_p = self.free_and_equal(p, all_ones);
-        let zero = self.push([0, 0, n, 0, 0, 0]);
-        let by_q = self.free_and_equal(q, zero);
-        self.settled_or_both(by_p, by_q, self.condition(p), self.condition(q))
+    fn group_of_two(&mut self, n: u32, one: (u32, u32), other: (u32, u32), p: u32, q: u32) -> u32 {
+        let constant = self.push([0, 0, n, one.1, 0, 0]);
+        let by_one = self.free_and_equal(one.0, constant);
+        let constant = self.push([0, 0, n, other.1, 0, 0]);
+        let by_other = self.free_and_equal(other.0, constant);
+        self.settled_or_both(by_one, by_other, self.condition(p), self.condition(q))
     }
 
     /// An operand that has a constant's value, together with its condition.

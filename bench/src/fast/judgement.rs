@@ -3,7 +3,7 @@
 use super::admission::{Known, admitted};
 use super::evaluation::{operation, variable};
 use super::setting::{afforded, checked, held};
-use super::{Cell, Refusal, TERMS, Term, answered, ones};
+use super::{Cell, Refusal, TERMS, Term, answered, greatest, ones};
 
 #[inline(never)]
 pub fn judge(
@@ -28,7 +28,7 @@ fn judged(table: &[u32], values: &[u32], cells: &[u32], allowance: u64, work: &m
         (work[t], truths[t]) = match term[0] {
             1 => (variable(term, values), term[4] ^ 1),
             15 => Chain { terms, cells, values, work, truths }.read(term),
-            _ => (operation(term, work), condition(term, terms, work, truths)),
+            _ => (operation(term, terms, work), condition(term, terms, work, truths)),
         };
     }
     let last = terms.len() - 1;
@@ -50,11 +50,11 @@ fn condition(term: &Term, terms: &[Term], work: &[u32], truths: &[u32]) -> u32 {
     let free = |k: u32| truths[k as usize];
     match op {
         0 => 1,
-        2 | 8 => free(p),
+        2 | 8 | 17 => free(p),
         3 | 9 | 12 => settled(free(p), at(p) == 0, free(q), at(q) == 0),
         4 => settled(free(p), at(p) == 1, free(q), at(q) == 1),
         5 => settled(free(p), at(p) == 0, free(q), at(q) == 1),
-        6 | 11 => free(p) & free(q),
+        6 | 11 | 18 => free(p) & free(q),
         7 => {
             let taken = free(if at(p) == 1 { q } else { r });
             free(p) & taken | free(q) & free(r) & u32::from(at(q) == at(r))
@@ -62,6 +62,11 @@ fn condition(term: &Term, terms: &[Term], work: &[u32], truths: &[u32]) -> u32 {
         10 => settled(free(p), at(p) == ones(n), free(q), at(q) == ones(n)),
         13 => free(q) & (u32::from(at(q) >= n) | free(p)),
         14 => settled(free(p), at(p) == ones(terms[p as usize][2]), free(q), at(q) == 0),
+        19 => {
+            let greatest = greatest(terms[p as usize][2]);
+            settled(free(p), at(p) == greatest, free(q), at(q) == greatest + 1)
+        }
+        20 => free(p) & (u32::from(at(p) == 0 || at(p) == ones(n)) | free(q)),
         _ => 0,
     }
 }

@@ -42,6 +42,12 @@ fn ones(n: u32) -> u32 {
     u32::MAX >> (32u32.wrapping_sub(n) & 31)
 }
 
+/// The greatest value of n bits that is not below zero; the least one is the next.
+#[inline(always)]
+fn greatest(n: u32) -> u32 {
+    ones(n) >> 1
+}
+
 /// The largest value of a Boolean (n is 0) or of a vector.
 #[inline(always)]
 fn largest(n: u32) -> u32 {

@@ -109,6 +109,10 @@ fn operator(word: &[u8]) -> Option<(u32, usize)> {
         b"bvult" => (14, 2),
         b"select" => (15, 2),
         b"store" => (16, 3),
+        b"bvneg" => (17, 1),
+        b"bvsub" => (18, 2),
+        b"bvslt" => (19, 2),
+        b"bvashr" => (20, 2),
         _ => return None,
     })
 }
@@ -382,7 +386,7 @@ impl<'a, const N: usize, const BUCKETS: usize> Rule<'a, N, BUCKETS> {
     fn list(&mut self, list: &List) -> u32 {
         let [p, q, r] = list.operands;
         let (m, n) = match list.op {
-            2..=6 | 14 => (0, 0),
+            2..=6 | 14 | 19 => (0, 0),
             7 => self.sort_of(q),
             15 => (0, self.sort_of(p).1),
             _ => self.sort_of(p),

@@ -135,7 +135,7 @@ fn definition(sink: &mut impl Sink, terms: &[Term], t: usize, term: &Term) {
 }
 
 /// By operator: its name after a parenthesis, and how many operands it has.
-const WORDS: [(&[u8], usize); 17] = [
+const WORDS: [(&[u8], usize); 21] = [
     (b"", 0),
     (b"", 0),
     (b" (not", 1),
@@ -153,6 +153,10 @@ const WORDS: [(&[u8], usize); 17] = [
     (b" (bvult", 2),
     (b" (select", 2),
     (b" (store", 3),
+    (b" (bvneg", 1),
+    (b" (bvsub", 2),
+    (b" (bvslt", 2),
+    (b" (bvashr", 2),
 ];
 
 #[inline(always)]

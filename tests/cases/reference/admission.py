@@ -63,9 +63,9 @@ def askings(op, own, first):
         return [(None, BOOL), (0, "no Array"), (1, first)]
     if op == 7:
         return [(None, "no Array"), (0, BOOL), (1, own), (2, own)]
-    if op <= 13:
+    if op <= 13 or op in (17, 18, 20):
         return [(None, "a BitVec"), (0, own), (1, own)]
-    if op == 14:
+    if op in (14, 19):
         return [(None, BOOL), (0, "a BitVec"), (1, first)]
     if op == 15:
         return [(0, "an Array"), (1, (0, first[0])), (None, (0, first[1]))]
@@ -123,8 +123,8 @@ def clash(table, term):
 def term_fault(table, t, term):
     """The lowest number that applies at a term, with its reason."""
     op, m, n, p, q, r = term
-    if op > 16:
-        return 3, "the op is %d, at most 16 is allowed" % op
+    if op > 20:
+        return 3, "the op is %d, at most 20 is allowed" % op
     checks = ((4, lambda: sort_fault(m, n)), (5, lambda: field_fault(t, term)), (6, lambda: sorts_fault(table, term)),
               (7, lambda: leaf_fault(term)), (8, lambda: clash(table, term)))
     for refusal, check in checks:

@@ -62,8 +62,8 @@ def settled_choice(j, test, first, second):
 def settling_operand(j, term):
     """The first free operand whose value settles an operator of two operands."""
     op, m, n, p, q, r = term
-    if op == 13:
-        return q
+    if op in (13, 20):
+        return q if op == 13 else p
     a, b = settles(op, j.terms[p][2])
     return p if j.free[p] and j.v[p] == a else q
 
@@ -152,12 +152,15 @@ def settling_line(j, x, reached, asked):
 def would_settle(j, term):
     """What would have settled an operator of one or two operands."""
     op, m, n, p, q, r = term
-    if op in (2, 8):
+    if op in (2, 8, 17):
         return ["A free operand would have settled it."]
-    if op in (6, 11):
+    if op in (6, 11, 18):
         return ["No value of one operand settles %s: both must be free." % NAMES[op]]
     if op == 13:
         return [settling_line(j, q, j.v[q] >= n, "%d or more" % n)]
+    if op == 20:
+        ones = 2 ** n - 1
+        return [settling_line(j, p, j.v[p] in (0, ones), "0 or %d" % ones)]
     sides = dict.fromkeys(zip((p, q), settles(op, j.terms[p][2])))
     return [settling_line(j, x, j.v[x] == s, value_name(j.terms[x], s)) for x, s in sides]
 

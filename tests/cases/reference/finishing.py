@@ -1,6 +1,7 @@
 """The finished table: the terms, T, F, the groups in ascending term order, and(rule, C(rule)), by paper 01."""
 from admission import admit
-from words import BOOL
+from judging import settles
+from words import BOOL, largest
 
 
 class Finished:
@@ -38,16 +39,18 @@ class Finished:
             return self.T
         if op == 1:
             return self.F if q else self.T
-        if op in (2, 8):
+        if op in (2, 8, 17):
             return self.C[p]
-        if op in (6, 11):
+        if op in (6, 11, 18):
             return self.AND(self.C[p], self.C[q])
         if op in (3, 4, 5):
             return self.boolean(op, p, q)
         if op in (9, 10, 12):
             return self.vector(2 ** n - 1 if op == 10 else 0, n, p, q)
-        if op == 14:
-            return self.less(self.terms[p][2], p, q)
+        if op in (14, 19):
+            return self.less(op, self.terms[p][2], p, q)
+        if op == 20:
+            return self.shift_right(n, p, q)
         if op == 7:
             return self.choice(p, q, r)
         if op == 13:
@@ -82,10 +85,16 @@ class Finished:
         constant = self.constant(settling, n)
         return self.settled(p, self.equals(p, constant), q, self.equals(q, constant))
 
-    def less(self, n, p, q):
-        """Nothing is above all ones, and nothing is below 0; n is the operands' width."""
-        first = self.equals(p, self.constant(2 ** n - 1, n))
-        return self.settled(p, first, q, self.equals(q, self.constant(0, n)))
+    def less(self, op, n, p, q):
+        """Nothing is above the greatest, and nothing is below the least; n is the operands' width."""
+        above, below = settles(op, n)
+        first = self.equals(p, self.constant(above, n))
+        return self.settled(p, first, q, self.equals(q, self.constant(below, n)))
+
+    def shift_right(self, n, p, q):
+        """0 and all ones stay what they are: both are asked of the first operand."""
+        first = self.equals(p, self.constant(0, n))
+        return self.settled(p, first, q, self.equals(p, self.constant(largest(n), n)))
 
     def shift(self, n, p, q):
         C, constant = self.C, self.constant(n, n)

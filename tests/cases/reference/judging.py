@@ -1,7 +1,23 @@
 """Values and conditions of every term, by the rules of paper 01."""
 from admission import ready
-from words import largest
+from words import greatest, largest
 
+
+def sign(n, a):
+    return a // 2 ** (n - 1)
+
+
+def signed_less(n, a, b):
+    """SMT-LIB's bvslt: the first alone below zero, or less with equal signs."""
+    return int(sign(n, a) > sign(n, b) or (sign(n, a) == sign(n, b) and a < b))
+
+
+def shifted_right(n, a, b):
+    """SMT-LIB's bvashr: what is shifted in is 0, or where the sign is 1 the same with all bits turned."""
+    return largest(n) - shifted_right(n, largest(n) - a, b) if sign(n, a) else a // 2 ** min(b, n)
+
+
+# Of n bits, the term's or for a comparison the operands'.
 VALUE = {
     2: lambda n, a, b, c: 1 - a,
     3: lambda n, a, b, c: int(a == 1 and b == 1),
@@ -16,13 +32,24 @@ VALUE = {
     12: lambda n, a, b, c: a * b % 2 ** n,
     13: lambda n, a, b, c: a * 2 ** b % 2 ** n if b < n else 0,
     14: lambda n, a, b, c: int(a < b),
+    17: lambda n, a, b, c: -a % 2 ** n,
+    18: lambda n, a, b, c: (a - b) % 2 ** n,
+    19: lambda n, a, b, c: signed_less(n, a, b),
+    20: lambda n, a, b, c: shifted_right(n, a, b),
 }
 
 
 def settles(op, width):
     """The values with which a free first, and a free second operand of this width settles an operator."""
+    if op == 19:
+        return greatest(width), greatest(width) + 1
     ones = largest(width)
     return {3: (0, 0), 4: (1, 1), 5: (0, 1), 9: (0, 0), 10: (ones, ones), 12: (0, 0), 14: (ones, 0)}[op]
+
+
+def stays(value, width):
+    """What a shift right leaves as it is, whatever the amount."""
+    return value in (0, largest(width))
 
 
 class Setting:
@@ -69,21 +96,23 @@ class Setting:
                 if v[i] == v[q]:
                     return v[e]
             return self.held(variable, v[q])
-        return VALUE[op](n, v[p], v[q], v[r])
+        return VALUE[op](n or self.terms[p][2], v[p], v[q], v[r])
 
     def condition(self, term):
         op, m, n, p, q, r = term
         c, v = self.free, self.v
         if op <= 1:
             return op == 0 or q == 0
-        if op in (2, 8):
+        if op in (2, 8, 17):
             return c[p]
-        if op in (6, 11):
+        if op in (6, 11, 18):
             return c[p] and c[q]
         if op == 7:
             return (c[p] and (c[q] if v[p] else c[r])) or (c[q] and c[r] and v[q] == v[r])
         if op == 13:
             return (c[q] and v[q] >= n) or (c[p] and c[q])
+        if op == 20:
+            return (c[p] and stays(v[p], n)) or (c[p] and c[q])
         if op == 15:
             return self.read_condition(p, q)
         if op == 16:

@@ -1,6 +1,6 @@
 """How terms, sorts and values are written."""
 NAMES = ["constant", "variable", "not", "and", "or", "=>", "=", "ite", "bvnot", "bvand", "bvor", "bvadd",
-         "bvmul", "bvshl", "bvult", "select", "store"]
+         "bvmul", "bvshl", "bvult", "select", "store", "bvneg", "bvsub", "bvslt", "bvashr"]
 BOOL = (0, 0)
 
 
@@ -17,10 +17,15 @@ def largest(width):
     return 2 ** width - 1 if width else 1
 
 
+def greatest(width):
+    """The greatest value of a width whose highest bit, the sign, is 0; the next is the least, below zero."""
+    return 2 ** (width - 1) - 1
+
+
 def operand_count(op):
     if op <= 1:
         return 0
-    return 1 if op in (2, 8) else 3 if op in (7, 16) else 2
+    return 1 if op in (2, 8, 17) else 3 if op in (7, 16) else 2
 
 
 def operands(term):

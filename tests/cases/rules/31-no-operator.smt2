@@ -1,4 +1,4 @@
 (declare-const a (_ BitVec 8))
 (declare-const b (_ BitVec 8))
-(assert (bvult (bvsub a b) a))
+(assert (bvult (bvudiv a b) a))
 (check-sat)

@@ -34,7 +34,7 @@ fn kind_of_word(word: Option<&Word>) -> u32 {
         *bytes == b")",
         among(&RESERVED),
         among(&COMMANDS),
-        operator(bytes).is_some(),
+        operator(bytes, Flaw::None).is_some(),
         among(&["true", "false"]),
         constant(bytes).is_some(),
         is_name(bytes, Flaw::None),
@@ -49,7 +49,7 @@ const UNEXPECTED: &str = "31 at a word of this kind";
 const AFTER: &str = "31 behind a word of this kind";
 const BEYOND: &str = "refused behind more than 512 terms";
 const COUNT: &str = "34: operator, too few or too many";
-const ODD: [&str; 9] = ["Bool", "BitVec", "Array", "xor", "bvneg", "x01", "x1a", "x", "X1"];
+const ODD: [&str; 9] = ["Bool", "BitVec", "Array", "xor", "bvlshr", "x01", "x1a", "x", "X1"];
 const SPACES: [u8; 4] = *b" \t\n\r";
 
 pub fn observe(counts: &mut Counts, case: &Case, answer: &Answer) {
@@ -77,7 +77,8 @@ pub fn observe(counts: &mut Counts, case: &Case, answer: &Answer) {
 fn refused(counts: &mut Counts, answer: &Answer, words: &[Word]) {
     let at = words.iter().position(|word| word.place as u64 == answer.numbers[0]).unwrap_or(words.len());
     let (before, word) = (&words[..at], words.get(at));
-    let own = |word: &Word| word.bytes == b"declare-const" || operator(word.bytes).is_some() || constant(word.bytes).is_some();
+    let is_operator = |word: &Word| operator(word.bytes, Flaw::None).is_some();
+    let own = |word: &Word| word.bytes == b"declare-const" || is_operator(word) || constant(word.bytes).is_some();
     if before.iter().filter(|word| own(word)).count() > 512 {
         counts.count((BEYOND, answer.number, 0));
     }
@@ -115,7 +116,7 @@ fn counted(counts: &mut Counts, number: u32, before: &[Word], word: Option<&Word
         }
     }
     let Some((name, operands)) = open.pop() else { return };
-    let op = operator(name).unwrap_or(0);
+    let op = operator(name, Flaw::None).unwrap_or(0);
     let many = op > 0 && operands >= arity(op);
     if number == 33 {
         counts.count(("33: an operand too many at once", many.into(), 0));
@@ -183,7 +184,7 @@ pub fn wanted(keys: &mut Vec<Key>) {
     keys.extend([0, 1].map(|many| ("33: an operand too many at once", many, 0)));
     keys.extend([0, 1].map(|names| ("35: names declared", names, 0)));
     keys.push(("32: not declared", 0, 0));
-    for op in NOT..=STORE {
+    for op in NOT..=LAST {
         keys.extend([0, 1].map(|many| (COUNT, op, many)));
         keys.extend([("parsed: operator", op, 0), ("parse refuses, operator", 6, op)]);
     }

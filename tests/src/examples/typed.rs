@@ -39,6 +39,7 @@ fn sorted(name: &'static str, marked: &str) -> Example {
 
 pub fn all() -> Vec<Example> {
     let mut examples = tables();
+    examples.extend(signed());
     examples.extend(marks());
     examples.extend(grammar());
     examples.extend(expressions());
@@ -97,6 +98,19 @@ fn tables() -> Vec<Example> {
         refused("no room", Case::parse("(assert true)(check-sat)".into(), 0), 21, 1),
         refused("31 before 21", Case::parse("(assert true)(check-sat".into(), 0), 31, 23),
         refused("6 before 21", Case::parse(typed("(assert (not #b1))").into(), 0), 6, 3),
+    ]
+}
+
+/// The signed operators: negate has one operand, and signed less is Boolean.
+fn signed() -> Vec<Example> {
+    let typed = |expression: &str| format!("(declare-const v (_ BitVec 8))(assert {expression})(check-sat)");
+    let (negated, one, difference) = ([17, 0, 8, 0, 0, 0], [0, 0, 8, 1, 0, 0], [18, 0, 8, 0, 2, 0]);
+    let table = [[1, 0, 8, 0, 0, 0], negated, one, difference, [20, 0, 8, 3, 0, 0], [19, 0, 0, 1, 4, 0]];
+    vec![
+        read("the signed operators", &typed("(bvslt (bvneg v) (bvashr (bvsub v #b00000001) v))"), &table),
+        not_read("a sole vector, negated", &typed("(bvneg v)"), 10, 1),
+        not_read("a signed less of Booleans", &typed("(bvslt true true)"), 6, 3),
+        not_read("a difference of two widths", &typed("(bvslt v (bvsub v #b1))"), 6, 2),
     ]
 }
 
@@ -199,7 +213,7 @@ fn names() -> Vec<Example> {
         read("a name", &text, &[A, [3, 0, 0, 0, 0, 0]])
     };
     let good =
-        ["Bool", "BitVec", "Array", "xor", "bvneg", "bvsub", "bvslt", "bvashr", "~!@$%^&*_-+=<>.?/", "a.b", "a@", "+", "Not"];
+        ["Bool", "BitVec", "Array", "xor", "bvlshr", "bvsle", "bvsgt", "bvnand", "~!@$%^&*_-+=<>.?/", "a.b", "a@", "+", "Not"];
     let bad = ["|a|", "1a", "#x1", "a'", "\"a\"", "a:b", ":a", "a|b", "{", "ä"];
     let mut examples: Vec<Example> = good.map(used).into();
     examples.extend(bad.map(|word| declared("no name", &format!("^{word}"), 31)));

@@ -33,7 +33,7 @@ fn length(random: &mut Random, table: &mut Vec<u32>) {
 
 fn operator(random: &mut Random, table: &mut [u32]) {
     let at = 6 * random.below(table.len() / 6);
-    table[at] = random.pick(&[17, 18, 255, 1 << 31]);
+    table[at] = random.pick(&[LAST + 1, LAST + 2, 255, 1 << 31]);
 }
 
 fn sort(random: &mut Random, table: &mut [u32]) {
@@ -63,7 +63,7 @@ fn sorts(random: &mut Random, table: &mut [u32]) {
         0 => table[at + 2] = term.n % 32 + 1,
         1 => (table[at + 1], table[at + 2]) = random.pick(&[(0, 0), (0, 1), (0, 8), (8, 8)]),
         2 => table[at + 1] = random.pick(&[0, 1, term.m % 32 + 1, term.n]),
-        3 => table[at] = random.below(17) as u32,
+        3 => table[at] = random.below(LAST as usize + 1) as u32,
         4 if number > 0 => table[at + 3 + random.below(3)] = random.below(number) as u32,
         _ => table.swap(at + 3, at + 4 + random.below(2)),
     }
@@ -79,10 +79,10 @@ fn like_operands(random: &mut Random, table: &mut Vec<u32>) {
     let x = if arrays.is_empty() || random.chance(50) { random.below(sorts.len()) as u32 } else { random.pick(&arrays) };
     let (m, n) = sorts[x as usize];
     let other = random.pick(&with(&|sort| sort == (m, n)));
-    let op = random.between(2, 14) as u32;
-    let (m, n) = if op == EQUAL || op == LESS { (0, 0) } else { (m, n) };
+    let op = random.pick(&SCALAR);
+    let (m, n) = if compares(op) { (0, 0) } else { (m, n) };
     match op {
-        NOT | VECTOR_NOT => table.extend([op, m, n, x, 0, 0]),
+        NOT | VECTOR_NOT | NEGATE => table.extend([op, m, n, x, 0, 0]),
         CHOICE if tests.is_empty() => {}
         CHOICE => table.extend([op, m, n, random.pick(&tests), x, other]),
         _ => table.extend([op, m, n, x, other, 0]),

@@ -59,13 +59,14 @@ impl Taste {
             Sort::Vector(n) | Sort::Array(_, n) => n,
         };
         let ones = u32::MAX >> (32 - n);
-        let value = match random.below(10) {
+        let value = match random.below(11) {
             0 => 0,
             1 => 1,
             2 => ones,
             3 => n - 1,
             4 => n,
             5 => random.word(),
+            6 => (ones >> 1) + random.below(2) as u32,
             _ => random.pick(&self.pool),
         };
         value & ones
@@ -160,7 +161,7 @@ impl Draft {
         match op {
             CONSTANT => self.constant(random, sort),
             VARIABLE => self.variable(random, sort),
-            NOT | VECTOR_NOT => {
+            NOT | VECTOR_NOT | NEGATE => {
                 let p = self.operand(random, sort);
                 self.push([op, 0, n, p, 0, 0])
             }
@@ -175,7 +176,7 @@ impl Draft {
                 self.push([op, 0, n, p, q, 0])
             }
             STORE => self.store(random, sort),
-            EQUAL | LESS => {
+            EQUAL | LESS | SIGNED_LESS => {
                 let (p, q) = self.two(random, sort);
                 self.push([op, 0, 0, p, q, 0])
             }
@@ -217,7 +218,7 @@ impl Draft {
                 self.push([READ, 0, n, last, index, 0]);
             } else {
                 let other = self.operand(random, Sort::Vector(n));
-                let op = random.pick(&[EQUAL, EQUAL, LESS]);
+                let op = random.pick(&[EQUAL, EQUAL, LESS, SIGNED_LESS]);
                 let (p, q) = if random.chance(50) { (last, other) } else { (other, last) };
                 self.push([op, 0, 0, p, q, 0]);
             }
@@ -239,12 +240,12 @@ impl Draft {
 
     fn added(&self, term: &[u32; 6]) -> usize {
         match term[0] {
-            EQUAL | SUM => 1,
+            EQUAL | SUM | SUBTRACT => 1,
             AND => 7,
             OR => 5,
             IMPLIES | SHIFT | CHOICE => 6,
             VECTOR_AND | VECTOR_OR | PRODUCT => 8,
-            LESS => 9,
+            LESS | SIGNED_LESS | SHIFT_RIGHT => 9,
             READ => 1 + 9 * self.stores[term[3] as usize],
             _ => 0,
         }

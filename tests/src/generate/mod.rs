@@ -48,17 +48,19 @@ pub fn round(random: &mut Random, number: u64) -> Vec<Case> {
     cases(random, &draft, table, setting)
 }
 
-/// The operators; twice and thrice those that one operand can settle. Their count is odd, so that each meets every kind of round.
-const OPERATORS: [u32; 29] =
-    [0, 1, 2, 3, 4, 5, 6, 7, 7, 8, 9, 9, 9, 10, 10, 10, 11, 12, 12, 12, 13, 13, 14, 14, 14, 15, 15, 15, 16];
+/// The operators; twice and more those that one operand can settle. Their count is odd, so that each meets every kind of round.
+const OPERATORS: [u32; 39] = [
+    0, 1, 2, 3, 4, 5, 6, 7, 7, 8, 9, 9, 9, 10, 10, 10, 11, 12, 12, 12, 13, 13, 14, 14, 14, 15, 15, 15, 16, 17, 18, 19, 19, 19,
+    19, 19, 20, 20, 20,
+];
 
 fn small(random: &mut Random, number: u64) -> Draft {
     match random.below(20) {
-        0..=8 => {
+        0..=9 => {
             let (turn, place) = (number as usize / OPERATORS.len(), number as usize % OPERATORS.len());
             table::single(random, OPERATORS[place], (turn % 32) as u32 + 1)
         }
-        9..=14 => {
+        10..=14 => {
             let size = random.between(1, 14);
             table::mixed(random, size)
         }

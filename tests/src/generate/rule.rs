@@ -16,7 +16,7 @@ pub struct Rule {
 
 /// Names that look like something else.
 const ODD: [&str; 38] = [
-    "Bool", "BitVec", "Array", "xor", "bvneg", "bvsub", "bvslt", "bvashr", "x", "X1", "x1a", "x1x", "xx1", "x-1", "x1.", "a@",
+    "Bool", "BitVec", "Array", "xor", "bvlshr", "bvsle", "bvsgt", "bvnand", "x", "X1", "x1a", "x1x", "xx1", "x-1", "x1.", "a@",
     "a.b", "True", "FALSE", "distinct", "concat", "const", "Int", "bv1", "b1", "b", "~", "$", "%", "^", "&", "*", "-", "+", "<",
     ">", "?", "/",
 ];
@@ -137,8 +137,11 @@ impl<'a> Writer<'a> {
 
     fn operator(&mut self, sort: Sort) -> u32 {
         match sort {
-            Sort::Boolean => self.random.pick(&[NOT, AND, OR, IMPLIES, EQUAL, EQUAL, CHOICE, LESS, LESS]),
-            Sort::Vector(_) => self.random.pick(&[CHOICE, VECTOR_NOT, VECTOR_AND, VECTOR_OR, SUM, PRODUCT, SHIFT, READ, READ]),
+            Sort::Boolean => self.random.pick(&[NOT, AND, OR, IMPLIES, EQUAL, EQUAL, CHOICE, LESS, LESS, SIGNED_LESS]),
+            Sort::Vector(_) => {
+                let signed = self.random.pick(&[NEGATE, SUBTRACT, SHIFT_RIGHT]);
+                self.random.pick(&[CHOICE, VECTOR_NOT, VECTOR_AND, VECTOR_OR, SUM, PRODUCT, SHIFT, READ, READ, signed, signed])
+            }
             Sort::Array(..) => STORE,
         }
     }
@@ -151,9 +154,9 @@ impl<'a> Writer<'a> {
             (NOT, _) => vec![Sort::Boolean],
             (AND | OR | IMPLIES, _) => vec![Sort::Boolean; 2],
             (EQUAL, _) => vec![self.random.pick(&[Sort::Boolean, vector, vector]); 2],
-            (LESS, _) => vec![vector; 2],
+            (LESS | SIGNED_LESS, _) => vec![vector; 2],
             (CHOICE, _) => vec![Sort::Boolean, sort, sort],
-            (VECTOR_NOT, _) => vec![sort],
+            (VECTOR_NOT | NEGATE, _) => vec![sort],
             (READ, Sort::Vector(n)) => {
                 let known: Vec<Sort> =
                     self.taste.arrays.iter().copied().filter(|a| matches!(a, Sort::Array(_, e) if *e == n)).collect();

@@ -8,7 +8,7 @@ use crate::reference::term::*;
 pub fn mixed(random: &mut Random, size: usize) -> Draft {
     let mut draft = Draft::new(Taste::new(random));
     while draft.terms.len() < size {
-        let op = random.below(17) as u32;
+        let op = random.below(LAST as usize + 1) as u32;
         let sort = sort_for(random, &draft.taste, op);
         draft.apply(random, op, sort);
     }
@@ -32,7 +32,12 @@ fn sort_for(random: &mut Random, taste: &Taste, op: u32) -> Sort {
 pub fn single(random: &mut Random, op: u32, width: u32) -> Draft {
     let mut draft = Draft::new(Taste::around(random, width));
     draft.taste.fresh = random.pick(&[50, 90, 100]);
-    draft.taste.pool = [0, u32::MAX, width];
+    draft.taste.pool = match op {
+        VECTOR_AND | PRODUCT => [0, 0, u32::MAX],
+        VECTOR_OR => [u32::MAX, u32::MAX, 0],
+        SIGNED_LESS => [0, 1, random.below(2) as u32].map(|least| (1 << (width - 1)) - 1 + least),
+        _ => [0, u32::MAX, width],
+    };
     draft.taste.vectors.truncate(1);
     let sort = sort_for(random, &draft.taste, op);
     if op == READ {
@@ -43,7 +48,7 @@ pub fn single(random: &mut Random, op: u32, width: u32) -> Draft {
     }
     draft.apply(random, op, sort);
     for _ in 0..random.below(3) {
-        let op = random.between(2, 14) as u32;
+        let op = random.pick(&SCALAR);
         let sort = sort_for(random, &draft.taste, op);
         draft.apply(random, op, sort);
     }
@@ -98,7 +103,7 @@ fn compared_read(random: &mut Random, draft: &mut Draft, array: u32) {
     };
     let read = draft.push([READ, 0, n, array, index, 0]);
     let other = if random.chance(30) { read } else { draft.operand(random, Sort::Vector(n)) };
-    draft.push([random.pick(&[EQUAL, LESS]), 0, 0, read, other, 0]);
+    draft.push([random.pick(&[EQUAL, LESS, SIGNED_LESS]), 0, 0, read, other, 0]);
 }
 
 /// A table of exactly `size` terms that are mostly reads of long chains: finished, it is far longer.
@@ -113,7 +118,7 @@ pub fn deep(random: &mut Random, size: usize) -> Draft {
         draft.push([READ, 0, n, array, index, 0]);
     }
     let (p, q) = (size as u32 - 2, draft.any(random, Sort::Vector(n)));
-    draft.push([random.pick(&[EQUAL, LESS]), 0, 0, p, q, 0]);
+    draft.push([random.pick(&[EQUAL, LESS, SIGNED_LESS]), 0, 0, p, q, 0]);
     draft
 }
 

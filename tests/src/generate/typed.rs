@@ -6,6 +6,10 @@ use crate::random::Random;
 use crate::reference::flaw::Flaw;
 use crate::reference::parsing;
 use crate::reference::term::*;
+use crate::reference::words;
+
+/// How many operators there are.
+const OPERATORS: u64 = words::OPERATORS.len() as u64;
 
 /// A rule of ordinary size. The number sees to it that every make has its turn.
 pub fn small(random: &mut Random, number: u64) -> Rule {
@@ -14,7 +18,7 @@ pub fn small(random: &mut Random, number: u64) -> Rule {
     let mut writer = Writer::new(random, wrong);
     match number % 6 {
         0 => sole(&mut writer, turn),
-        1 | 2 => single(&mut writer, (turn % 15) as u32 + 2, (turn / 15 % 32) as u32 + 1),
+        1 | 2 => single(&mut writer, (turn % OPERATORS) as u32 + 2, (turn / OPERATORS % 32) as u32 + 1),
         3 | 4 => mixed(&mut writer),
         _ if turn % 2 == 0 => deep(&mut writer, turn / 2),
         _ => stores(&mut writer, turn / 2),
@@ -45,7 +49,7 @@ fn single(writer: &mut Writer, op: u32, width: u32) {
     writer.taste.vectors = vec![Sort::Vector(width)];
     writer.taste.arrays = vec![Sort::Array(width, width)];
     let sort = match op {
-        NOT | AND | OR | IMPLIES | EQUAL | LESS => Sort::Boolean,
+        NOT | AND | OR | IMPLIES | EQUAL | LESS | SIGNED_LESS => Sort::Boolean,
         STORE => Sort::Array(width, width),
         _ => Sort::Vector(width),
     };
@@ -68,7 +72,7 @@ fn compared(writer: &mut Writer, expression: Vec<String>, sort: Sort) {
         }
         _ => {
             writer.leaf(&mut other, sort);
-            let op = writer.random.pick(&["=", "bvult"]);
+            let op = writer.random.pick(&["=", "bvult", "bvslt"]);
             [word("("), word(op), expression, other, word(")")].concat()
         }
     };

@@ -33,7 +33,7 @@ pub fn admit(numbers: &[u32], limit: usize, flaw: Flaw) -> Result<Table, Refusal
     let mut clash = None;
     for (place, numbers) in numbers.chunks(6).enumerate() {
         let term = Term::of(numbers);
-        match table.fault(&term) {
+        match table.fault(&term, flaw) {
             Some(8) if flaw == Flaw::ClashLast => clash = clash.or(Some(place as u64)),
             Some(number) => return Err(Refusal { number, place: place as u64 }),
             None => {}
@@ -51,8 +51,9 @@ pub fn admit(numbers: &[u32], limit: usize, flaw: Flaw) -> Result<Table, Refusal
 
 impl Table {
     /// The lowest refusal of a term that comes after those of the table.
-    fn fault(&self, term: &Term) -> Option<u32> {
-        if term.op > STORE {
+    fn fault(&self, term: &Term, flaw: Flaw) -> Option<u32> {
+        let last = if flaw == Flaw::SignedUnknown { STORE } else { LAST };
+        if term.op > last {
             return Some(3);
         }
         let Some(sort) = term.sort() else { return Some(4) };
@@ -93,9 +94,11 @@ impl Table {
             AND | OR | IMPLIES => [sort, of(p), of(q)] == [Sort::Boolean; 3],
             EQUAL => sort == Sort::Boolean && of(p) == of(q) && !is_array(of(p)),
             CHOICE => !is_array(sort) && of(p) == Sort::Boolean && of(q) == sort && of(r) == sort,
-            VECTOR_NOT => is_vector(sort) && of(p) == sort,
-            VECTOR_AND | VECTOR_OR | SUM | PRODUCT | SHIFT => is_vector(sort) && of(p) == sort && of(q) == sort,
-            LESS => sort == Sort::Boolean && is_vector(of(p)) && of(p) == of(q),
+            VECTOR_NOT | NEGATE => is_vector(sort) && of(p) == sort,
+            VECTOR_AND | VECTOR_OR | SUM | PRODUCT | SHIFT | SUBTRACT | SHIFT_RIGHT => {
+                is_vector(sort) && of(p) == sort && of(q) == sort
+            }
+            LESS | SIGNED_LESS => sort == Sort::Boolean && is_vector(of(p)) && of(p) == of(q),
             READ => match of(p) {
                 Sort::Array(m, n) => of(q) == Sort::Vector(m) && sort == Sort::Vector(n),
                 _ => false,
@@ -116,6 +119,11 @@ impl Table {
         self.terms.push(term);
         self.sorts.push(sort);
         self.stores.push(stores);
+    }
+
+    /// The width of a term's first operand.
+    pub fn operand_width(&self, term: &Term) -> u32 {
+        self.terms[term.p as usize].n
     }
 
     /// The sum over the reads: the stores in each read's chain.

@@ -15,12 +15,14 @@ pub fn conditions(table: &Table, values: &Values, flaw: Flaw) -> Vec<bool> {
     conditions.c
 }
 
-/// The width of less's operands, and the value of the first and of the second that settles it: nothing is above all ones,
-/// nothing is below 0.
+/// The width of the operands of less or signed less, and the value of the first and of the second that settles it: nothing is
+/// above the greatest, nothing is below the least.
 pub fn settles_less(table: &Table, less: &Term, flaw: Flaw) -> (u32, [u64; 2]) {
-    let width = if flaw == Flaw::LessOwnWidth { less.n } else { table.terms[less.p as usize].n };
-    let mut values = [(1 << width) - 1, 0];
-    if flaw == Flaw::LessExchanged {
+    let width = if flaw == Flaw::LessOwnWidth { less.n } else { table.operand_width(less) };
+    let ones = (1 << width) - 1;
+    let is_signed = less.op == SIGNED_LESS && flaw != Flaw::SignedByOnes;
+    let mut values = if is_signed { [ones / 2, ones / 2 + 1] } else { [ones, 0] };
+    if matches!((flaw, less.op), (Flaw::LessExchanged, LESS) | (Flaw::SignedExchanged, SIGNED_LESS)) {
         values.reverse();
     }
     (width, values)
@@ -47,18 +49,23 @@ impl Conditions<'_> {
             CONSTANT => true,
             VARIABLE => t.q == 0,
             STORE => false,
-            NOT | VECTOR_NOT => self.of(p),
-            LESS if self.flaw != Flaw::LessUnsettled => {
+            NOT | VECTOR_NOT | NEGATE => self.of(p),
+            EQUAL | SUM | SUBTRACT => self.of(p) && self.of(q),
+            LESS if self.flaw == Flaw::LessUnsettled => self.of(p) && self.of(q),
+            LESS | SIGNED_LESS => {
                 let (_, [of_p, of_q]) = settles_less(self.table, t, self.flaw);
                 self.settled(t, value(p) == of_p, value(q) == of_q)
             }
-            EQUAL | SUM | LESS => self.of(p) && self.of(q),
             AND => self.settled(t, !holds(p), !holds(q)),
             OR => self.settled(t, holds(p), holds(q)),
             IMPLIES => self.settled(t, !holds(p), holds(q)),
             VECTOR_AND | PRODUCT => self.settled(t, value(p) == 0, value(q) == 0),
             VECTOR_OR => self.settled(t, value(p) == ones, value(q) == ones),
-            SHIFT => (self.of(q) && value(q) >= t.n.into()) || (self.of(p) && self.of(q)),
+            SHIFT_RIGHT if self.flaw != Flaw::AmountSettles => {
+                let sixth = if self.flaw == Flaw::SixthByAmount { q } else { p };
+                (self.of(p) && value(p) == 0) || (self.of(sixth) && value(p) == ones) || (self.of(p) && self.of(q))
+            }
+            SHIFT | SHIFT_RIGHT => (self.of(q) && value(q) >= t.n.into()) || (self.of(p) && self.of(q)),
             CHOICE => {
                 let picked = if holds(p) { self.of(q) } else { self.of(r) };
                 let tested = self.of(p) || self.flaw == Flaw::PickedBranch;

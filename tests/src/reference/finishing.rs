@@ -73,13 +73,15 @@ impl Writer<'_> {
             CONSTANT => self.yes,
             VARIABLE => [self.yes, self.no][t.q as usize],
             STORE => return None,
-            NOT | VECTOR_NOT => self.of(t.p),
-            LESS if self.flaw != Flaw::LessUnsettled => self.less(t),
-            EQUAL | SUM | LESS => self.and(self.of(t.p), self.of(t.q)),
+            NOT | VECTOR_NOT | NEGATE => self.of(t.p),
+            EQUAL | SUM | SUBTRACT => self.and(self.of(t.p), self.of(t.q)),
+            LESS if self.flaw == Flaw::LessUnsettled => self.and(self.of(t.p), self.of(t.q)),
+            LESS | SIGNED_LESS => self.less(t),
             AND | OR | IMPLIES => self.connective(t),
             VECTOR_AND | PRODUCT => self.absorbing(t, 0),
             VECTOR_OR => self.absorbing(t, ((1u64 << t.n) - 1) as u32),
-            SHIFT => self.shift(t),
+            SHIFT_RIGHT if self.flaw != Flaw::AmountSettles => self.shift_right(t),
+            SHIFT | SHIFT_RIGHT => self.shift(t),
             CHOICE => self.branches(t),
             _ => self.read(t.p, t.q),
         })
@@ -103,10 +105,21 @@ impl Writer<'_> {
 
     fn less(&mut self, t: &Term) -> u32 {
         let (width, [of_p, of_q]) = settles_less(self.table, t, self.flaw);
-        let ones = self.add([CONSTANT, 0, width, of_p as u32, 0, 0]);
-        let first = self.free_and_equal(t.p, ones);
-        let zero = self.add([CONSTANT, 0, width, of_q as u32, 0, 0]);
-        let second = self.free_and_equal(t.q, zero);
+        let greatest = self.add([CONSTANT, 0, width, of_p as u32, 0, 0]);
+        let first = self.free_and_equal(t.p, greatest);
+        let least = self.add([CONSTANT, 0, width, of_q as u32, 0, 0]);
+        let second = self.free_and_equal(t.q, least);
+        self.settled(t, first, second)
+    }
+
+    /// Both constants are compared with the first operand, beside its condition.
+    fn shift_right(&mut self, t: &Term) -> u32 {
+        let zero = self.add([CONSTANT, 0, t.n, 0, 0, 0]);
+        let first = self.free_and_equal(t.p, zero);
+        let ones = self.add([CONSTANT, 0, t.n, ((1u64 << t.n) - 1) as u32, 0, 0]);
+        let equal = self.equal(t.p, ones);
+        let sixth = if self.flaw == Flaw::SixthByAmount { t.q } else { t.p };
+        let second = self.and(self.of(sixth), equal);
         self.settled(t, first, second)
     }
 

@@ -17,6 +17,24 @@ pub enum Flaw {
     LessOwnWidth,
     /// Testing an operand of less without its condition.
     LessAlone,
+    /// The four operators of request 05 are not known: 3 in a table, and names in a text.
+    SignedUnknown,
+    /// Negate gives the vector not.
+    NegateAsNot,
+    /// Signed less compares as less does.
+    SignedAsUnsigned,
+    /// All ones at the first operand settles signed less, 0 at the second.
+    SignedByOnes,
+    /// The least at the first operand settles signed less, the greatest at the second.
+    SignedExchanged,
+    /// Shifting right fills with zeros.
+    RightZeros,
+    /// Shifting right by the amount modulo the width.
+    RightModulo,
+    /// An amount of the width or more settles a shift right.
+    AmountSettles,
+    /// The sixth term of a shift right's group with the amount's condition.
+    SixthByAmount,
     /// Looking only at the branch that a marked test picked.
     PickedBranch,
     /// Checking an array's mark and not the index's condition.
@@ -79,7 +97,7 @@ pub enum Flaw {
     RoomFirst,
 }
 
-pub const FLAWS: [(&str, Flaw); 37] = [
+pub const FLAWS: [(&str, Flaw); 46] = [
     ("joins-indexes", Flaw::JoinsIndexes),
     ("shifts-modulo", Flaw::ShiftsModulo),
     ("factor-alone", Flaw::FactorAlone),
@@ -87,6 +105,15 @@ pub const FLAWS: [(&str, Flaw); 37] = [
     ("less-exchanged", Flaw::LessExchanged),
     ("less-own-width", Flaw::LessOwnWidth),
     ("less-alone", Flaw::LessAlone),
+    ("signed-unknown", Flaw::SignedUnknown),
+    ("negate-as-not", Flaw::NegateAsNot),
+    ("signed-as-unsigned", Flaw::SignedAsUnsigned),
+    ("signed-by-ones", Flaw::SignedByOnes),
+    ("signed-exchanged", Flaw::SignedExchanged),
+    ("right-zeros", Flaw::RightZeros),
+    ("right-modulo", Flaw::RightModulo),
+    ("amount-settles", Flaw::AmountSettles),
+    ("sixth-by-amount", Flaw::SixthByAmount),
     ("picked-branch", Flaw::PickedBranch),
     ("index-unasked", Flaw::IndexUnasked),
     ("innermost-first", Flaw::InnermostFirst),

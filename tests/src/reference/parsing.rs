@@ -203,7 +203,7 @@ impl<'a> Reader<'a> {
             return self.refused(34, place);
         }
         let word = self.word()?;
-        let Some(op) = operator(word.bytes) else { return self.refused(31, word.place) };
+        let Some(op) = operator(word.bytes, self.flaw) else { return self.refused(31, word.place) };
         open.push(List { op, operands: vec![], place: word.place });
         Ok(())
     }
@@ -225,7 +225,7 @@ impl<'a> Reader<'a> {
             (m, n)
         };
         match list.op {
-            NOT | AND | OR | IMPLIES | EQUAL | LESS => (0, 0),
+            NOT | AND | OR | IMPLIES | EQUAL | LESS | SIGNED_LESS => (0, 0),
             CHOICE => of(1),
             READ => (0, of(0).1),
             _ => of(0),

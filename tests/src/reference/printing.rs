@@ -133,6 +133,10 @@ fn word(op: u32) -> &'static str {
         LESS => "bvult",
         READ => "select",
         STORE => "store",
+        NEGATE => "bvneg",
+        SUBTRACT => "bvsub",
+        SIGNED_LESS => "bvslt",
+        SHIFT_RIGHT => "bvashr",
         _ => unreachable!("constants and variables have no word"),
     }
 }

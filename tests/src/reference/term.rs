@@ -34,6 +34,21 @@ pub const SHIFT: u32 = 13;
 pub const LESS: u32 = 14;
 pub const READ: u32 = 15;
 pub const STORE: u32 = 16;
+pub const NEGATE: u32 = 17;
+pub const SUBTRACT: u32 = 18;
+pub const SIGNED_LESS: u32 = 19;
+pub const SHIFT_RIGHT: u32 = 20;
+
+/// The last operator.
+pub const LAST: u32 = SHIFT_RIGHT;
+
+/// The operators with operands that are Booleans and vectors.
+pub const SCALAR: [u32; 17] = [2, 3, 4, 5, 6, 7, 8, 9, 10, 11, 12, 13, 14, 17, 18, 19, 20];
+
+/// Whether an operator compares: its term is Boolean, whatever the operands are.
+pub fn compares(op: u32) -> bool {
+    matches!(op, EQUAL | LESS | SIGNED_LESS)
+}
 
 impl Term {
     pub fn of(numbers: &[u32]) -> Term {
@@ -55,7 +70,7 @@ impl Term {
     pub fn operands(&self) -> usize {
         match self.op {
             CONSTANT | VARIABLE => 0,
-            NOT | VECTOR_NOT => 1,
+            NOT | VECTOR_NOT | NEGATE => 1,
             CHOICE | STORE => 3,
             _ => 2,
         }

@@ -13,13 +13,14 @@ pub enum Value {
 }
 
 pub struct Values<'a> {
+    table: &'a Table,
     inputs: &'a Interpretation,
     of: Vec<Value>,
     flaw: Flaw,
 }
 
-pub fn values<'a>(table: &Table, inputs: &'a Interpretation, flaw: Flaw) -> Values<'a> {
-    let mut values = Values { inputs, of: Vec::new(), flaw };
+pub fn values<'a>(table: &'a Table, inputs: &'a Interpretation, flaw: Flaw) -> Values<'a> {
+    let mut values = Values { table, inputs, of: Vec::new(), flaw };
     for term in &table.terms {
         let value = values.value(term);
         values.of.push(value);
@@ -84,13 +85,8 @@ impl Values<'_> {
             OR => u64::from(x == 1 || y == 1),
             IMPLIES => u64::from(x == 0 || y == 1),
             EQUAL => u64::from(x == y),
-            CHOICE => {
-                if x == 1 {
-                    y
-                } else {
-                    z
-                }
-            }
+            CHOICE if x == 1 => y,
+            CHOICE => z,
             VECTOR_NOT => count - 1 - x,
             VECTOR_AND => x & y,
             VECTOR_OR => x | y,
@@ -100,8 +96,24 @@ impl Values<'_> {
             SHIFT if y >= term.n.into() => 0,
             SHIFT => (x << y) % count,
             LESS => u64::from(x < y),
+            NEGATE if self.flaw == Flaw::NegateAsNot => count - 1 - x,
+            NEGATE => (count - x) % count,
+            SUBTRACT => (count + x - y) % count,
+            SIGNED_LESS if self.flaw == Flaw::SignedAsUnsigned => u64::from(x < y),
+            SIGNED_LESS => {
+                let width = self.table.operand_width(term);
+                u64::from(signed(x, width) < signed(y, width))
+            }
+            SHIFT_RIGHT => self.shifted_right(x, y, term.n),
             _ => unreachable!("no other operator"),
         }
+    }
+
+    /// A shift right that keeps the sign: halved so many times, rounded down.
+    fn shifted_right(&self, x: u64, amount: u64, width: u32) -> u64 {
+        let amount = if self.flaw == Flaw::RightModulo { amount % u64::from(width) } else { amount };
+        let value = if self.flaw == Flaw::RightZeros { x as i64 } else { signed(x, width) };
+        (value >> amount.min(63)) as u64 % (1 << width)
     }
 
     /// The stores that a read asks until one supplies the value (an error of `Flaw::StepsToSource`).
@@ -110,5 +122,15 @@ impl Values<'_> {
         let index = self.number(read.q);
         let asked = stores.iter().rev().position(|&(at, _)| at == index).map_or(stores.len(), |i| i + 1);
         asked as u64
+    }
+}
+
+/// The number that a vector of this width stands for where its highest bit is the sign.
+fn signed(x: u64, width: u32) -> i64 {
+    let x = x as i64;
+    if x < 1 << (width - 1) {
+        x
+    } else {
+        x - (1 << width)
     }
 }

@@ -1,6 +1,7 @@
 //! The words of a typed rule, and what each may be: request 02 of paper 02.
 
 use super::flaw::Flaw;
+use super::term::STORE;
 
 #[derive(Clone, Copy, PartialEq, Debug)]
 pub struct Word<'a> {
@@ -10,7 +11,7 @@ pub struct Word<'a> {
 }
 
 /// The operators, from 2 on, and the operands that each takes.
-pub const OPERATORS: [(&str, usize); 15] = [
+pub const OPERATORS: [(&str, usize); 19] = [
     ("not", 1),
     ("and", 2),
     ("or", 2),
@@ -26,6 +27,10 @@ pub const OPERATORS: [(&str, usize); 15] = [
     ("bvult", 2),
     ("select", 2),
     ("store", 3),
+    ("bvneg", 1),
+    ("bvsub", 2),
+    ("bvslt", 2),
+    ("bvashr", 2),
 ];
 
 /// SMT-LIB 2.6's reserved words other than the commands' names.
@@ -95,8 +100,9 @@ fn among(list: &[&str], word: &[u8]) -> bool {
 }
 
 /// The operator's number.
-pub fn operator(word: &[u8]) -> Option<u32> {
-    OPERATORS.iter().position(|(name, _)| name.as_bytes() == word).map(|at| at as u32 + 2)
+pub fn operator(word: &[u8], flaw: Flaw) -> Option<u32> {
+    let found = OPERATORS.iter().position(|(name, _)| name.as_bytes() == word).map(|at| at as u32 + 2);
+    found.filter(|&op| op <= STORE || flaw != Flaw::SignedUnknown)
 }
 
 pub fn arity(op: u32) -> usize {
@@ -112,7 +118,7 @@ fn is_symbol(word: &[u8]) -> bool {
 pub fn is_name(word: &[u8], flaw: Flaw) -> bool {
     let solvers_own = matches!(word.first(), Some(b'@' | b'.')) && flaw != Flaw::NamesWithAt;
     let reserved = among(&RESERVED, word) || among(&COMMANDS, word) && flaw != Flaw::CommandsAreNames;
-    is_symbol(word) && !solvers_own && !reserved && operator(word).is_none() && constant(word).is_none()
+    is_symbol(word) && !solvers_own && !reserved && operator(word, flaw).is_none() && constant(word).is_none()
 }
 
 /// The width and the value of a constant; a Boolean's width is 0.

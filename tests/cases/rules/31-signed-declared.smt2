@@ -1,0 +1,3 @@
+(declare-const bvneg (_ BitVec 8))
+(assert true)
+(check-sat)

@@ -1,0 +1,3 @@
+(declare-const a (_ BitVec 8))
+(assert (bvslt (bvsub a) a))
+(check-sat)

@@ -1,0 +1,3 @@
+(declare-const gauge Bool)
+(assert (bvslt gauge gauge))
+(check-sat)

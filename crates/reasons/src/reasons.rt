@@ -61,7 +61,7 @@ $Why the condition is false, from the rule down:$
 &,$    but store + holds + there, which is free.$
 &,$    but +, which store + holds, is free and equal to what is beneath.$
 &,$    but the read goes past its store to +, which is not marked.$
-? or ?
+? or -1
 ",
         n,
         numbers,
@@ -120,7 +120,8 @@ fn all_ones(width: u32) -> u32 {
     if width <= 32 { ops::ones(width) } else { 0 }
 }
 
-// For &: the value that would have settled a term; where 0 and all ones would, both; where more would, the least.
+// For &: the value that would have settled a term; where 0 and all ones would, both, the ones as -1; where more would, the
+// least.
 fn settling_words(op: u32, second: bool, width: u32) -> Numbers {
     let f = ops::op_of(op);
     let least = settling(op, second, width);
@@ -129,13 +130,7 @@ fn settling_words(op: u32, second: bool, width: u32) -> Numbers {
     let both = (least == 0) & (all != 0) & explain::would_settle(f, width, all, second);
     let boolean = width == 0;
     let line = ops::ite(both, 40, ops::ite(more, 13, 12));
-    page::five(
-        line as u64,
-        page::value(boolean, least),
-        page::value(boolean, all),
-        0,
-        0,
-    )
+    page::five(line as u64, page::value(boolean, least), 0, 0, 0)
 }
 
 // What an operand is, and the value that would have settled its term, or the least of those that would.

@@ -159,8 +159,7 @@ def would_settle(j, term):
     if op == 13:
         return [settling_line(j, q, j.v[q] >= n, "%d or more" % n)]
     if op == 20:
-        ones = 2 ** n - 1
-        return [settling_line(j, p, j.v[p] in (0, ones), "0 or %d" % ones)]
+        return [settling_line(j, p, j.v[p] in (0, 2 ** n - 1), "0 or -1")]
     sides = dict.fromkeys(zip((p, q), settles(op, j.terms[p][2])))
     return [settling_line(j, x, j.v[x] == s, value_name(j.terms[x], s)) for x, s in sides]
 

@@ -19,7 +19,7 @@ use Rattle.evaluate.specs.declared.Evaluation.{Evaluation}
 use Rattle.evaluate.specs.declared.Evaluation.the-variants.{Evaluated, NotEvaluated}
 use Rattle.evaluate.specs.Values.{numbers}
 use Rattle.evaluate.specs.Steps.{steps}
-use Rattle.evaluate.specs.Evaluation.{evaluates, notEvaluated, afford, ready, roomAfter}
+use Rattle.evaluate.specs.Evaluation.{evaluates, notEvaluated, afford, readyBy, ready, roomAfter}
 
 pub is-admitted : (a : Acceptance) → accepts a ≡ true → a ≡ Accepted
 is-admitted Accepted h = refl
@@ -29,6 +29,11 @@ is-admitted (Refused r) h = never h
 pub stands : (a : Acceptance) (x y : Evaluation) → accepts a ≡ false → andThen NotEvaluated a x ≡ andThen NotEvaluated a y
 stands Accepted x y h = never (sym h)
 stands (Refused r) x y h = refl
+
+-- what is not lets the rest stand
+pub goes-on : (a : Acceptance) (e : Evaluation) → accepts a ≡ true → e ≡ andThen NotEvaluated a e
+goes-on Accepted e h = refl
+goes-on (Refused r) e h = never h
 
 -- What was not refused
 
@@ -49,19 +54,26 @@ afforded w each allowance room h =
     let second = room-enough (ltb allowance spent) 23 spent (Evaluated (record { steps = spent; left = allowance - spent })) (first .1) in
     (ltb-false room (terms w * each) (first .0), ltb-false allowance spent (second .0))
 
--- an answer that is no refusal: the table is admitted, the setting checked, the room long enough and the allowance large enough
-pub record Passed (limit : ℕ) (w values cells : List ℕ) (each allowance room : ℕ) : Type 0 where
-  pub admitted : admissionWithin limit w ≡ Accepted
-  pub checked : check w values cells ≡ Accepted
+-- an answer that is no refusal: admission and the setting's check refuse nothing, the room is long enough and the allowance large enough
+pub record PassedBy (w : List ℕ) (a c : Acceptance) (each allowance room : ℕ) : Type 0 where
+  pub admitted : a ≡ Accepted
+  pub checked : c ≡ Accepted
   pub long : terms w * each ≤ room
   pub large : steps w (terms w) ≤ allowance
 
-pub passed : (limit : ℕ) (w values cells : List ℕ) (each allowance room : ℕ) → evaluates (ready limit w values cells each allowance room) ≡ true → Passed limit w values cells each allowance room
-passed limit w values cells each allowance room h =
-    let first = both (admissionWithin limit w) (andThen NotEvaluated (check w values cells) (afford w each allowance room)) h in
-    let second = both (check w values cells) (afford w each allowance room) (first .1) in
+pub passed-by : (w : List ℕ) (admitted checked : Acceptance) (each allowance room : ℕ) → evaluates (readyBy w admitted checked each allowance room) ≡ true → PassedBy w admitted checked each allowance room
+passed-by w admitted checked each allowance room h =
+    let first = both admitted (andThen NotEvaluated checked (afford w each allowance room)) h in
+    let second = both checked (afford w each allowance room) (first .1) in
     let last = afforded w each allowance room (second .1) in
     record { admitted = first .0; checked = second .0; long = last .0; large = last .1 }
+
+-- by a limit on the terms, in a setting
+abbrev pub Passed : ℕ → List ℕ → List ℕ → List ℕ → ℕ → ℕ → ℕ → Type 0
+Passed limit w values cells each allowance room = PassedBy w (admissionWithin limit w) (check w values cells) each allowance room
+
+pub passed : (limit : ℕ) (w values cells : List ℕ) (each allowance room : ℕ) → evaluates (ready limit w values cells each allowance room) ≡ true → Passed limit w values cells each allowance room
+passed limit w values cells each allowance room h = passed-by w (admissionWithin limit w) (check w values cells) each allowance room h
 
 -- The room
 

@@ -39,19 +39,25 @@ module _ (numbers : ℕ → Bool) (ten : (number : ℕ) → between 1 10 number 
       go false true = poor
       go false false = tt
 
-  -- where the setting's check refuses by these numbers, so does all that comes before a run
-  pub ready-by : (limit : ℕ) (w : List ℕ) (checked : Acceptance) (each allowance room : ℕ) → RefusedBy numbers checked → NotEvaluatedBy numbers (readyBy limit w checked each allowance room)
-  ready-by limit w checked each allowance room h =
-      then-by (admissionWithin limit w) (andThen NotEvaluated checked (afford w each allowance room))
-      (admission-by (RefusedBy numbers) tt (λ number place e. ten number e) limit w)
+  pub admitted-by : (limit : ℕ) (w : List ℕ) → RefusedBy numbers (admissionWithin limit w)
+  admitted-by limit w = admission-by (RefusedBy numbers) tt (λ number place e. ten number e) limit w
+
+  -- where admission and the setting's check refuse by these numbers, so does all that comes before a run
+  pub ready-by : (w : List ℕ) (admitted checked : Acceptance) (each allowance room : ℕ) → RefusedBy numbers admitted → RefusedBy numbers checked
+      → NotEvaluatedBy numbers (readyBy w admitted checked each allowance room)
+  ready-by w admitted checked each allowance room g h =
+      then-by admitted (andThen NotEvaluated checked (afford w each allowance room)) g
       (then-by checked (afford w each allowance room) h (afford-by w each allowance room))
 
 in-run : (low high number : ℕ) → (between low high number ≡ true → between 1 15 number ≡ true) → between low high number ≡ true → runNumbers number ≡ true
 in-run low high number h e = rw (h e)
 
+ten : (number : ℕ) → between 1 10 number ≡ true → runNumbers number ≡ true
+ten number = in-run 1 10 number (wider 1 1 10 15 number (omega arith) (omega arith))
+
 pub ready-numbers : (limit : ℕ) (w values cells : List ℕ) (each allowance room : ℕ) → NotEvaluatedBy runNumbers (ready limit w values cells each allowance room)
 ready-numbers limit w values cells each allowance room =
-    ready-by runNumbers (λ number. in-run 1 10 number (wider 1 1 10 15 number (omega arith) (omega arith))) refl refl limit w (check w values cells) each allowance room
+    ready-by runNumbers ten refl refl w (admissionWithin limit w) (check w values cells) each allowance room (admitted-by runNumbers ten refl refl limit w)
     (check-by (RefusedBy runNumbers) tt (λ number place. in-run 11 15 number (wider 11 1 15 15 number (omega arith) (omega arith))) w values cells)
 
 pub evaluation-numbers : EvaluationNumbers

@@ -13,6 +13,7 @@ use Rattle.ops.specs.Numbers.{opOf}
 use Rattle.table.specs.declared.words.Term.{Term}
 use Rattle.table.specs.Terms.{terms, termAt, sortAt}
 use Rattle.table.specs.Ranks.{slotted}
+use Rattle.table.specs.Admission.{admissionWithin}
 use Rattle.table.specs.Faults.{isVariable}
 use Rattle.table.proofs.FoldLaws.{fold-same}
 use Rattle.setting.specs.Cells.{look}
@@ -53,7 +54,7 @@ module _ (w : List ℕ) (I I′ : Interpretation) (one : (k : ℕ) → k < terms
 pub unused-unevaluated : UnusedUnevaluated
 unused-unevaluated w values values′ cells allowance room one =
     let answer : evaluation w values cells allowance (length room) ≡ evaluation w values′ cells allowance (length room) =
-    ap (λ c. readyBy 80000 w c 1 allowance (length room)) (unused-unchecked w values values′ cells one) in
+    ap (λ c. readyBy w (admissionWithin 80000 w) c 1 allowance (length room)) (unused-unchecked w values values′ cells one) in
     record { answer = answer; left = ap (λ e. roomAfter e w values cells room) answer ∙ go (evaluation w values′ cells allowance (length room)) }
   where
     go : (e : Evaluation) → roomAfter e w values cells room ≡ roomAfter e w values′ cells room

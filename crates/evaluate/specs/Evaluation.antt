@@ -36,12 +36,13 @@ afford w each allowance room =
     (cond (ltb allowance spent) (notEvaluated 23 spent)
     (Evaluated (record { steps = spent; left = allowance - spent })))
 
--- 1 to 10, by a limit on the terms; then what the check of the setting says, 11 to 15; then 22 and 23
-abbrev pub readyBy : ℕ → List ℕ → Acceptance → ℕ → ℕ → ℕ → Evaluation
-readyBy limit w checked each allowance room = andThen NotEvaluated (admissionWithin limit w) (andThen NotEvaluated checked (afford w each allowance room))
+-- what admission says, 1 to 10 and for a judgement 16; then what the check of the setting says, 11 to 15; then 22 and 23
+abbrev pub readyBy : List ℕ → Acceptance → Acceptance → ℕ → ℕ → ℕ → Evaluation
+readyBy w admitted checked each allowance room = andThen NotEvaluated admitted (andThen NotEvaluated checked (afford w each allowance room))
 
+-- by a limit on the terms
 abbrev pub ready : ℕ → List ℕ → List ℕ → List ℕ → ℕ → ℕ → ℕ → Evaluation
-ready limit w values cells each allowance room = readyBy limit w (check w values cells) each allowance room
+ready limit w values cells each allowance room = readyBy w (admissionWithin limit w) (check w values cells) each allowance room
 
 -- evaluating: at most 80,000 terms, one number a term
 abbrev pub evaluation : List ℕ → List ℕ → List ℕ → ℕ → ℕ → Evaluation

@@ -18,10 +18,13 @@ pub use turns::step;
 pub use turns::turn_at;
 pub use turns::variable_number;
 ghost use mathlib.Core.Path.{_≡_};
+ghost use mathlib.Core.Bool.{true};
 ghost use Prim.Native.Nat.{_≤_};
 ghost use lib.ListN.{length};
-ghost use Rattle.evaluate.specs.Evaluation.{evaluates, ready, evaluation, roomAfter};
+ghost use Rattle.evaluate.specs.Evaluation.{evaluates, readyBy, evaluation, roomAfter};
 ghost use Rattle.table.specs.Admission.{andThen, accepts};
+ghost use Rattle.table.specs.WellFormed.{WellFormed};
+ghost use Rattle.setting.specs.Check.{check};
 ghost use Rattle.evaluate.specs.declared.Evaluation.the-variants.{NotEvaluated};
 
 // The steps that were spent, and the allowance that is left.
@@ -54,23 +57,23 @@ pub fn evaluates(e: Evaluation) -> bool
     }
 }
 
-// The first refusal, or what a run spends: 1 to 10 by a limit, 11 to 15, then 22 and 23 for each numbers a term.
+// The first refusal, or what a run spends, from what admission says: then 11 to 15, then 22 and 23 for each numbers a
+// term.
 pub fn ready(
     table: &[u32],
-    limit: u32,
+    admitted: Acceptance,
     values: &[u32],
     cells: &[u32],
     each: u32,
     allowance: u64,
     room: usize,
 ) -> Evaluation
-    requires { ⌜ limit ≤ 80000 ⌝ }
+    requires { ⌜ (accepts admitted ≡ true → WellFormed 80000 (now table)) ⌝ }
     requires { ⌜ each ≤ 8 ⌝ }
-    ensures { λ r. ⌜ r
-        ≡ ready limit (now (table .entry)) (now (values .entry)) (now (cells .entry)) each allowance room ⌝ }
+    ensures { λ r. ⌜ r ≡ readyBy (now (table .entry)) admitted
+        (check (now (table .entry)) (now (values .entry)) (now (cells .entry))) each allowance room ⌝ }
 {
     let nothing = Evaluation::Evaluated(Spent { steps: 0, left: 0 });
-    let admitted = admission::admit_within(table, limit);
     if !accepts(admitted) {
         return and_then(admitted, nothing);
     }
@@ -94,7 +97,8 @@ pub fn evaluate(
     ensures { λ r. ⌜ now (work .exit)
         ≡ roomAfter r (now (table .entry)) (now (values .entry)) (now (cells .entry)) (now (work .entry)) ⌝ }
 {
-    let answer = ready(table, 80000, values, cells, 1, allowance, work.len());
+    let admitted = admission::admit_within(table, 80000);
+    let answer = ready(table, admitted, values, cells, 1, allowance, work.len());
     if evaluates(answer) {
         room::fill(table, values, cells, work);
     }

@@ -12,7 +12,8 @@ use Rattle.table.specs.Terms.{terms, termAt}
 use Rattle.setting.specs.Cells.{lookFrom, look}
 use Rattle.setting.specs.Interpretation.{interpret}
 use Rattle.evaluate.specs.Values.{valueBy, numbers}
-use Rattle.judge.specs.Conditions.{conditionBy, ownMarks, truths}
+use Rattle.judge.specs.Conditions.{conditionBy, truths}
+use Rattle.sheets.specs.Marks.{ownMarks}
 use Rattle.explain.specs.declared.answers.Settled.{Settled}
 use Rattle.explain.specs.declared.answers.Settled.the-variants.{Untold, Alone, Picked, Equal, AtIndex, EqualBeneath, Unmarked}
 use Rattle.explain.specs.declared.answers.Source.{Source}

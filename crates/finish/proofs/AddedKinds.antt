@@ -16,7 +16,7 @@ use Rattle.table.specs.Folds.{fold}
 use Rattle.table.specs.Terms.{terms, termAt, sortAt}
 use Rattle.table.specs.Faults.{isVariable, isStore}
 use Rattle.table.proofs.FoldLaws.{length-fold}
-use Rattle.judge.specs.Conditions.{ownMarks}
+use Rattle.sheets.specs.Marks.{ownMarks}
 use Rattle.groups.specs.declared.kinds.GroupKind.{GroupKind}
 use Rattle.groups.specs.declared.kinds.GroupKind.the-variants.{Literal, Input, Unary, Strict, Conjunction, Disjunction, Implication, Zero, Ones, Bounds, SignedBounds, Fixed, Shift, Choice, Read, Write}
 use Rattle.groups.specs.Added.{andT, constantT}

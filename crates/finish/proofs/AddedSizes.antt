@@ -9,7 +9,7 @@ use lib.ListN.{length, length-append}
 use Rattle.table.specs.Terms.{terms}
 use Rattle.table.specs.WellFormed.{WellFormed}
 use Rattle.evaluate.specs.Steps.{steps}
-use Rattle.judge.specs.Conditions.{ownMarks}
+use Rattle.sheets.specs.Marks.{ownMarks}
 use Rattle.groups.specs.Sizes.{sizes}
 use Rattle.groups.proofs.GroupSizes.{groups-size, sizes-by-steps, sizes-by-terms}
 use Rattle.finish.specs.Finished.{added}

@@ -33,7 +33,7 @@ use Rattle.table.proofs.FoldLaws.{fold-below}
 use Rattle.table.proofs.SoundTerms.{widths, n-most-at, store-below}
 use Rattle.table.proofs.OperandSorts.{isKnown, op-at, not-array, SameSort, same-sort, vector-scalar, three, four, unary-scalar, binary-scalars, two-placed, three-placed, one-below, rank-below}
 use Rattle.evaluate.proofs.Meaning.{same-array}
-use Rattle.judge.specs.Conditions.{ownMarks}
+use Rattle.sheets.specs.Marks.{ownMarks}
 use Rattle.groups.specs.Added.{andT, constantT}
 use Rattle.groups.specs.Groups.{absorbingGroup, boundsGroup, shiftGroup, choiceGroup, storeGroup}
 use Rattle.groups.specs.FunctionGroups.{FunctionGroup, functionGroup, groupKind, kindOf}

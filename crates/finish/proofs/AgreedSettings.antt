@@ -11,7 +11,7 @@ use Rattle.ops.specs.Meaning.{apply}
 use Rattle.ops.specs.Condition.{settles}
 use Rattle.table.specs.declared.Acceptance.{Acceptance}
 use Rattle.table.specs.Folds.{fold, anyBelow}
-use Rattle.table.specs.Terms.{words, terms}
+use Rattle.table.specs.Terms.{words, terms, termAt}
 use Rattle.table.specs.Faults.{typed, clash, chain, faultIf, fault}
 use Rattle.table.specs.Admission.{andThen, scan, admissionWithin}
 use Rattle.table.specs.WellFormed.{WellFormed}
@@ -27,6 +27,8 @@ use Rattle.evaluate.specs.Values.{valueBy}
 use Rattle.judge.specs.declared.Judgement.the-variants.{Judged}
 use Rattle.judge.specs.Conditions.{conditionBy}
 use Rattle.judge.specs.Judgement.{judgement}
+use Rattle.sheets.specs.Check.{sheetCheck}
+use Rattle.sheets.proofs.Saying.{empty}
 use Rattle.groups.specs.Added.{flat}
 use Rattle.groups.specs.Plans.{planBy, groups}
 use Rattle.finish.specs.declared.Finishing.{Finishing}
@@ -36,19 +38,19 @@ use Rattle.finish.specs.Laws.{finishNumbers, NotFinishedBy, FinishingNum
 use Rattle.finish.specs.Settings.{Setting, Agreed, P2, P7, AgreedSettings}
 use Rattle.finish.proofs.Promises.{faithful}
 
-agreed : (x : Setting) → WellFormed 512 (x .table) → judgement (x .table) (x .values) [] 9 99 ≡ Judged (x .verdict)
+agreed : (x : Setting) → WellFormed 512 (x .table) → judgement (x .table) [] (x .values) [] 9 99 ≡ Judged (x .verdict)
     → evaluation (finished (x .table)) (x .values) [] 9 99 ≡ Evaluated (x .spent) → Agreed x
 agreed x f judged evaluated =
     record {
       judged = judged;
       evaluated = evaluated;
-      same = λ work long. faithful (x .table) f .agrees (x .values) [] 9 99 (x .verdict) judged 9 work (x .spent)
+      same = λ work long. faithful (x .table) f .agrees [] (x .values) [] 9 99 (x .verdict) (λ k b v. empty .marks (termAt (x .table) k)) judged 9 work (x .spent)
           (ap (evaluation (finished (x .table)) (x .values) [] 9) long ∙ evaluated);
     }
 
 -- by computation
 pub agreed-settings : AgreedSettings
-unfolding admissionWithin scan fault faultIf typed anyBelow clash chain steps fold valueBy conditionBy apply settles lookFrom check slotSort arrayEntry afford finished flat planBy groups
+unfolding sheetCheck admissionWithin scan fault faultIf typed anyBelow clash chain steps fold valueBy conditionBy apply settles lookFrom check slotSort arrayEntry afford finished flat planBy groups
 agreed-settings = (agreed P2 (admission-sound 512 (P2 .table) refl) refl refl, agreed P7 (admission-sound 512 (P7 .table) refl) refl refl)
 
 -- The numbers

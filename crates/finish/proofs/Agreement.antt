@@ -32,7 +32,8 @@ use Rattle.setting.specs.Interpretation.{Value, Interpretation}
 use Rattle.evaluate.specs.Values.{scalarValue, arrayValue, operated, valueBy, valueIn, valueFrom, values, valueAt}
 use Rattle.evaluate.proofs.Folds.{value-below}
 use Rattle.table.proofs.OperandSorts.{isKnown, same-sort, boolean-scalar, same-scalar, vector-of-scalar, three, four, unary-scalar, binary-scalars, no-store, op-at, typing, two-placed, three-placed, rank-below}
-use Rattle.judge.specs.Conditions.{Condition, plain, storeFree, conditionBy, conditionIn, conditions, conditionAt, ownMarks}
+use Rattle.judge.specs.Conditions.{Condition, plain, storeFree, conditionBy, conditionIn, conditions, conditionAt}
+use Rattle.sheets.specs.Marks.{ownMarks}
 use Rattle.judge.proofs.Alike.{condition-below}
 use Rattle.groups.specs.FunctionGroups.{FunctionGroup, functionGroup, groupKind, kindOf}
 use Rattle.groups.specs.FunctionGroups.FunctionGroup.{unary, strict, conjunction, disjunction, implication, byZero, byOnes, byBounds, bySigned, byFixed, shift}

@@ -10,7 +10,7 @@ use Rattle.table.specs.declared.words.Term.{Term}
 use Rattle.table.specs.Terms.{words, terms}
 use Rattle.table.specs.Code.Writing.{placed}
 use Rattle.table.specs.WellFormed.{WellFormed}
-use Rattle.judge.specs.Conditions.{ownMarks}
+use Rattle.sheets.specs.Marks.{ownMarks}
 use Rattle.groups.specs.declared.groups.Written.{Written}
 use Rattle.groups.specs.Added.{andT, constantT, flat}
 use Rattle.groups.specs.Code.Writing.{placedFrom, placedAll, written}

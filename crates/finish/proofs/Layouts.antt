@@ -10,7 +10,7 @@ use lib.Seq.{getD-append-add}
 use Rattle.table.specs.declared.words.Term.{Term}
 use Rattle.table.specs.Terms.{words, terms, termAt}
 use Rattle.table.specs.WellFormed.{WellFormed}
-use Rattle.judge.specs.Conditions.{ownMarks}
+use Rattle.sheets.specs.Marks.{ownMarks}
 use Rattle.groups.specs.Added.{andT, constantT, wordsOf, flat}
 use Rattle.groups.specs.Plans.{groups, next, plans, planAt}
 use Rattle.finish.specs.Finished.{conditionNumber, added, finished}

@@ -12,7 +12,7 @@ use Rattle.table.specs.Folds.{fold}
 use Rattle.table.specs.Terms.{terms, termAt}
 use Rattle.table.specs.WellFormed.{WellFormed}
 use Rattle.table.proofs.FoldLaws.{length-map-fold, map-fold-more}
-use Rattle.judge.specs.Conditions.{ownMarks}
+use Rattle.sheets.specs.Marks.{ownMarks}
 use Rattle.groups.specs.declared.groups.Written.{Written}
 use Rattle.groups.specs.Code.Writing.{placedFrom, placedAll, conditionNumbers, Numbered, written}
 use Rattle.groups.specs.Plans.{Plan, planOf, groups, next, plans, planAt}

@@ -28,16 +28,17 @@ use Rattle.setting.specs.Interpretation.{Value, Interpretation, interpret}
 use Rattle.evaluate.specs.declared.Evaluation.{Evaluation}
 use Rattle.evaluate.specs.declared.Evaluation.the-variants.{Evaluated, NotEvaluated}
 use Rattle.evaluate.specs.Values.{valueAt, numbers}
-use Rattle.evaluate.specs.Evaluation.{evaluates, afford, ready}
-use Rattle.evaluate.proofs.Answers.{passed}
+use Rattle.evaluate.specs.Evaluation.{evaluates, afford, readyBy}
 use Rattle.evaluate.proofs.Fitting.{checked-values-fit}
 use Rattle.evaluate.proofs.Folds.{length-numbers, number-in, value-below}
 use Rattle.table.proofs.OperandSorts.{boolean-scalar, two-placed}
 use Rattle.judge.specs.declared.Verdict.{Verdict}
 use Rattle.judge.specs.declared.Judgement.{Judgement}
 use Rattle.judge.specs.declared.Judgement.the-variants.{Judged, NotJudged}
-use Rattle.judge.specs.Conditions.{ownMarks}
-use Rattle.judge.specs.Judgement.{ruleIn, ruleCondition, verdictBy}
+use Rattle.sheets.specs.Marks.{ownMarks, marksUnder}
+use Rattle.judge.specs.Conditions.{Condition}
+use Rattle.judge.specs.Judgement.{admissionUnder, ruleIn, ruleCondition, verdictBy}
+use Rattle.judge.proofs.SheetMarks.{condition-alike, passed-under}
 use Rattle.finish.specs.declared.Finishing.the-variants.{Finished}
 use Rattle.groups.specs.Added.{andT}
 use Rattle.groups.specs.Plans.{next, plans}
@@ -162,10 +163,13 @@ faithful w F =
       count = finished-layout w F .count;
       admitted = admitted;
       evaluated = λ values cells allowance room. ap₂ (λ (a b : Acceptance). andThen NotEvaluated a (andThen NotEvaluated b (afford f 1 allowance room))) admitted (settings-agree w values cells F);
-      agrees = λ values cells allowance room v h allowance′ work s _.
+      agrees = λ sheet values cells allowance room v leaves h allowance′ work s _.
           let I = interpret values (look cells) in
-          let told = subst (Says (ready 512 w values cells 2 allowance room) (ruleIn w I) (ruleCondition w ownMarks I)) h (says (ready 512 w values cells 2 allowance room) (ruleIn w I) (ruleCondition w ownMarks I)) in
-          same-answers w F values cells (passed 512 w values cells 2 allowance room (told .0) .checked) (drop (terms f) work) v (told .1) (told .2);
+          let e = readyBy w (admissionUnder w sheet) (check w values cells) 2 allowance room in
+          let told = subst (Says e (ruleIn w I) (ruleCondition w (marksUnder sheet) I)) h (says e (ruleIn w I) (ruleCondition w (marksUnder sheet) I)) in
+          let some : 0 < terms w = F .some in
+          let own = ap (λ (c : Condition). c .free) (condition-alike w (marksUnder sheet) ownMarks I leaves (pred (terms w)) (omega arith)) in
+          same-answers w F values cells (passed-under w sheet (check w values cells) 2 allowance room (told .0) .checked) (drop (terms f) work) v (told .1) (told .2 ∙ own);
     }
 
 -- for the code: of what finishing left in its room

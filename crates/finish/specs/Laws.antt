@@ -22,7 +22,8 @@ use Rattle.evaluate.specs.Values.{valueAt}
 use Rattle.evaluate.specs.Evaluation as evaluating
 use Rattle.judge.specs.declared.Verdict.{Verdict}
 use Rattle.judge.specs.declared.Judgement.the-variants.{Judged}
-use Rattle.judge.specs.Conditions.{ownMarks, conditionAt}
+use Rattle.judge.specs.Conditions.{conditionAt}
+use Rattle.sheets.specs.Marks.{ownMarks, LeavesMarks}
 use Rattle.judge.specs.Judgement.{ruleIn, ruleCondition, judgement, passes}
 use Rattle.finish.specs.declared.Extent.{Extent}
 use Rattle.finish.specs.declared.Finishing.{Finishing}
@@ -75,7 +76,8 @@ pub record Faithful (w f : List ℕ) (e : Extent) : Type 0 where
   -- none but the refusals of the setting, 22 and 23
   pub evaluated : (values cells : List ℕ) (allowance room : ℕ)
       → evaluating.evaluation f values cells allowance room ≡ andThen NotEvaluated (check w values cells) (evaluating.afford f 1 allowance room)
-  pub agrees : (values cells : List ℕ) (allowance room : ℕ) (v : Verdict) → judgement w values cells allowance room ≡ Judged v
+  -- judged under any sheet that leaves the table's marks as they are: finishing takes no sheet, and keeps these
+  pub agrees : (sheet values cells : List ℕ) (allowance room : ℕ) (v : Verdict) → LeavesMarks w sheet → judgement w sheet values cells allowance room ≡ Judged v
       → (allowance′ : ℕ) (work : List ℕ) (s : Spent) → evaluating.evaluation f values cells allowance′ (length work) ≡ Evaluated s
       → SameAnswers w e v (evaluating.roomAfter (Evaluated s) f values cells work)
 

@@ -24,7 +24,7 @@ pub record Setting : Type 0 where
 
 -- Judging and evaluating are not refused, and so the promise speaks of what evaluating leaves in any room of 99 numbers.
 pub record Agreed (x : Setting) : Type 0 where
-  pub judged : judgement (x .table) (x .values) [] 9 99 ≡ Judged (x .verdict)
+  pub judged : judgement (x .table) [] (x .values) [] 9 99 ≡ Judged (x .verdict)
   pub evaluated : evaluation (finished (x .table)) (x .values) [] 9 99 ≡ Evaluated (x .spent)
   pub same : (work : List ℕ) → length work ≡ 99 → SameAnswers (x .table) (extent (x .table)) (x .verdict) (roomAfter (Evaluated (x .spent)) (finished (x .table)) (x .values) [] work)
 

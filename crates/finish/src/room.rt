@@ -5,7 +5,7 @@ ghost use Prim.Native.Nat.{pred, _+_, _*_, _≤_};
 ghost use lib.ListN.{length, drop};
 ghost use Rattle.table.specs.Terms.{words, terms};
 ghost use Rattle.table.specs.WellFormed.{WellFormed};
-ghost use Rattle.judge.specs.Conditions.{ownMarks};
+ghost use Rattle.sheets.specs.Marks.{ownMarks};
 ghost use Rattle.groups.specs.Code.Writing.{placedAll, written};
 ghost use Rattle.groups.specs.Plans.{groups, plans};
 ghost use Rattle.finish.specs.Finished.{conditionNumber, finished};

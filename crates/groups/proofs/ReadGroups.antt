@@ -19,7 +19,7 @@ use Rattle.table.specs.Faults.{isStore, placedAs}
 use Rattle.table.specs.WellFormed.{WellFormed}
 use Rattle.table.proofs.FoldLaws.{map-fold-in}
 use Rattle.table.proofs.OperandSorts.{isKnown, op-at, three-placed}
-use Rattle.judge.specs.Conditions.{ownMarks}
+use Rattle.sheets.specs.Marks.{ownMarks}
 use Rattle.groups.specs.declared.groups.Written.{Written}
 use Rattle.groups.specs.Code.Writing.{placedAll, conditionNumbers, Numbered, after}
 use Rattle.groups.specs.FunctionGroups.{FunctionGroup, functionGroup, groupKind, kindOf}

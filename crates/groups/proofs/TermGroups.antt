@@ -20,7 +20,7 @@ use Rattle.table.specs.Faults.{placedAs}
 use Rattle.table.specs.WellFormed.{WellFormed}
 use Rattle.table.proofs.SoundTerms.{n-most-at}
 use Rattle.table.proofs.OperandSorts.{two-placed}
-use Rattle.judge.specs.Conditions.{ownMarks}
+use Rattle.sheets.specs.Marks.{ownMarks}
 use Rattle.groups.specs.declared.groups.Written.{Written}
 use Rattle.groups.specs.declared.kinds.GroupKind.{GroupKind}
 use Rattle.groups.specs.declared.kinds.GroupKind.the-variants.{Literal, Input, Unary, Strict, Conjunction, Disjunction, Implication, Zero, Ones, Bounds, SignedBounds, Fixed, Shift, Choice, Read, Write}

@@ -3,7 +3,7 @@ ghost use mathlib.Core.Path.{_≡_};
 ghost use Prim.Native.Nat.{_≤_, _<_};
 ghost use lib.ListN.{length};
 ghost use Rattle.table.specs.WellFormed.{WellFormed};
-ghost use Rattle.judge.specs.Conditions.{ownMarks};
+ghost use Rattle.sheets.specs.Marks.{ownMarks};
 ghost use Rattle.groups.specs.Code.Writing.{placedAll, Numbered, after};
 ghost use Rattle.groups.specs.Plans.{planAt};
 use crate::groups::Written;

@@ -7,7 +7,7 @@ ghost use Rattle.ops.specs.Meaning.{ones};
 ghost use Rattle.ops.specs.Signed.{greatest, least};
 ghost use Rattle.table.specs.Terms.{terms, sortAt};
 ghost use Rattle.table.specs.WellFormed.{WellFormed};
-ghost use Rattle.judge.specs.Conditions.{ownMarks};
+ghost use Rattle.sheets.specs.Marks.{ownMarks};
 ghost use Rattle.groups.specs.Code.Writing.{placedAll, Numbered, lessGroup, after, written};
 ghost use Rattle.groups.specs.Plans.{next, plans, planAt};
 use crate::groups::Written;

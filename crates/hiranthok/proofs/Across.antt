@@ -23,9 +23,9 @@ of-records w f e p =
           equal-evaluation f values cells allowance room
           ∙ p .evaluated values (flattened cells) allowance room
           ∙ ap (λ c. andThen NotEvaluated c (afford f 1 allowance room)) (laid-check cells w values);
-      agrees = λ values cells allowance room v h allowance′ work s g.
+      agrees = λ sheet values cells allowance room v leaves h allowance′ work s g.
           subst (λ I. SameAnswers w e v (roomIn (Evaluated s) f I work)) (laid-interpret cells values)
-          (p .agrees values (flattened cells) allowance room v (sym (equal-judgement w values cells allowance room) ∙ h) allowance′ work s
+          (p .agrees sheet values (flattened cells) allowance room v leaves (sym (equal-judgement w sheet values cells allowance room) ∙ h) allowance′ work s
           (sym (equal-evaluation f values cells allowance′ (length work)) ∙ g));
     }
 

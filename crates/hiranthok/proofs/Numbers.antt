@@ -18,7 +18,7 @@ use Rattle.evaluate.proofs.Refusals.{evaluation-numbers}
 use Rattle.judge.specs.declared.Judgement.{Judgement}
 use Rattle.judge.specs.declared.Judgement.the-variants.{Judged, NotJudged}
 use Rattle.judge.specs.Judgement as judges
-use Rattle.judge.specs.Laws.{NotJudgedBy}
+use Rattle.judge.specs.Laws.{judgeNumbers, NotJudgedBy}
 use Rattle.judge.proofs.Answers.{judgement-numbers}
 use Rattle.finish.specs.declared.Finishing.{Finishing}
 use Rattle.finish.specs.declared.Finishing.the-variants.{Finished, NotFinished}
@@ -26,7 +26,7 @@ use Rattle.finish.specs.Finished.{finishing}
 use Rattle.finish.specs.Laws.{finishNumbers, NotFinishedBy}
 use Rattle.finish.proofs.AgreedSettings.{finishing-numbers}
 use Rattle.records.specs.Answers as recorded
-use Rattle.records.specs.Laws.{recordNumbers}
+use Rattle.records.specs.Laws.{recordNumbers, recordJudgeNumbers}
 use Rattle.records.proofs.Numbers as record-numbers
 use Rattle.printer.specs.declared.Printing.{Printing}
 use Rattle.printer.specs.declared.Printing.the-variants.{Printed, NotPrinted}
@@ -75,21 +75,21 @@ known-numbers =
       admit = λ w. of-admission (between 1 10) (admission w) (admission-numbers 512 w);
       finish = λ w room. of-finishing finishNumbers (finishing w room) (finishing-numbers w room);
       evaluate = λ w values cells allowance room. of-evaluation runNumbers (evaluates.evaluation w values cells allowance room) (evaluation-numbers w values cells allowance room);
-      judge = λ w values cells allowance room. of-judgement runNumbers (judges.judgement w values cells allowance room) (judgement-numbers w values cells allowance room);
+      judge = λ w sheet values cells allowance room. of-judgement judgeNumbers (judges.judgement w sheet values cells allowance room) (judgement-numbers w sheet values cells allowance room);
       evaluate-records = λ w values cells allowance room.
           of-evaluation recordNumbers (recorded.evaluation w values cells allowance room) (record-numbers.evaluation-numbers w values cells allowance room);
-      judge-records = λ w values cells allowance room.
-          of-judgement recordNumbers (recorded.judgement w values cells allowance room) (record-numbers.judgement-numbers w values cells allowance room);
+      judge-records = λ w sheet values cells allowance room.
+          of-judgement recordJudgeNumbers (recorded.judgement w sheet values cells allowance room) (record-numbers.judgement-numbers w sheet values cells allowance room);
       print = λ w room. of-printing printNumbers (printing w room) (printing-numbers w room);
       parse = λ text room. of-parsing parseNumbers (parsing text room) (parsing-numbers text room);
     }
 
-no-eleven : (number : ℕ) → orZero recordNumbers number ≡ true → number ≡ 11 → ⊥
-no-eleven number h e = never (sym (ap (orZero recordNumbers) e) ∙ h)
+no-eleven : (numbers : ℕ → Bool) → numbers 11 ≡ false → (number : ℕ) → orZero numbers number ≡ true → number ≡ 11 → ⊥
+no-eleven numbers none number h e = never (sym none ∙ sym (ap (orZero numbers) e) ∙ h)
 
 pub never-eleven : NeverEleven
 never-eleven =
     record {
-      evaluate-records = λ w values cells allowance room. no-eleven (evaluationReply (recorded.evaluation w values cells allowance room) .number) (known-numbers .evaluate-records w values cells allowance room);
-      judge-records = λ w values cells allowance room. no-eleven (judgementReply (recorded.judgement w values cells allowance room) .number) (known-numbers .judge-records w values cells allowance room);
+      evaluate-records = λ w values cells allowance room. no-eleven recordNumbers refl (evaluationReply (recorded.evaluation w values cells allowance room) .number) (known-numbers .evaluate-records w values cells allowance room);
+      judge-records = λ w sheet values cells allowance room. no-eleven recordJudgeNumbers refl (judgementReply (recorded.judgement w sheet values cells allowance room) .number) (known-numbers .judge-records w sheet values cells allowance room);
     }

@@ -10,6 +10,7 @@ use lib.ListN.{length, take}
 use Rattle.table.specs.Terms.{words}
 use Rattle.table.specs.Admission.{andThen, admission}
 use Rattle.table.specs.Refusals.{between}
+use Rattle.sheets.specs.Marks.{LeavesMarks}
 use Rattle.setting.specs.declared.cells.Cell.{Cell}
 use Rattle.evaluate.specs.declared.Spent.{Spent}
 use Rattle.evaluate.specs.declared.Evaluation.the-variants.{Evaluated, NotEvaluated}
@@ -18,6 +19,7 @@ use Rattle.evaluate.specs.Laws.{runNumbers}
 use Rattle.judge.specs.declared.Verdict.{Verdict}
 use Rattle.judge.specs.declared.Judgement.the-variants.{Judged}
 use Rattle.judge.specs.Judgement as judges
+use Rattle.judge.specs.Laws.{judgeNumbers}
 use Rattle.finish.specs.declared.Extent.{Extent}
 use Rattle.finish.specs.declared.Finishing.{Finishing}
 use Rattle.finish.specs.declared.Finishing.the-variants.{Finished, NotFinished}
@@ -25,18 +27,18 @@ use Rattle.finish.specs.Finished.{finishing}
 use Rattle.finish.specs.Laws.{SameAnswers, finishNumbers}
 use Rattle.finish.specs.Laws as finishes
 use Rattle.records.specs.Answers as recorded
-use Rattle.records.specs.Laws.{recordNumbers}
+use Rattle.records.specs.Laws.{recordNumbers, recordJudgeNumbers}
 use Rattle.printer.specs.Printing.{printing, printNumbers}
 use Rattle.parser.specs.Parsing.{parsing}
 use Rattle.meanings.specs.Numbers.{parseNumbers}
 use Rattle.replies.specs.Replies.{admissionReply, finishingReply, evaluationReply, judgementReply, printingReply, parsingReply}
 
 -- Of a finished table f, evaluated through the record entrance: it is refused as the table's setting is, and by 22 and 23; in the setting
--- of a judgement that is not refused it leaves rule, condition and their conjunction in its room.
+-- of a judgement that is not refused, under a sheet that leaves the table's marks, it leaves rule, condition and their conjunction in its room.
 pub record RecordFaithful (w f : List ℕ) (e : Extent) : Type 0 where
   pub evaluated : (values : List ℕ) (cells : List Cell) (allowance room : ℕ)
       → recorded.evaluation f values cells allowance room ≡ andThen NotEvaluated (recorded.check w values cells) (evaluates.afford f 1 allowance room)
-  pub agrees : (values : List ℕ) (cells : List Cell) (allowance room : ℕ) (v : Verdict) → recorded.judgement w values cells allowance room ≡ Judged v
+  pub agrees : (sheet values : List ℕ) (cells : List Cell) (allowance room : ℕ) (v : Verdict) → LeavesMarks w sheet → recorded.judgement w sheet values cells allowance room ≡ Judged v
       → (allowance′ : ℕ) (work : List ℕ) (s : Spent) → recorded.evaluation f values cells allowance′ (length work) ≡ Evaluated s
       → SameAnswers w e v (recorded.evaluationRoom (Evaluated s) f values cells work)
 
@@ -57,13 +59,13 @@ pub record KnownNumbers : Type 0 where
   pub admit : (w : List ℕ) → orZero (between 1 10) (admissionReply (admission w) .number) ≡ true
   pub finish : (w : List ℕ) (room : ℕ) → orZero finishNumbers (finishingReply (finishing w room) .number) ≡ true
   pub evaluate : (w values cells : List ℕ) (allowance room : ℕ) → orZero runNumbers (evaluationReply (evaluates.evaluation w values cells allowance room) .number) ≡ true
-  pub judge : (w values cells : List ℕ) (allowance room : ℕ) → orZero runNumbers (judgementReply (judges.judgement w values cells allowance room) .number) ≡ true
+  pub judge : (w sheet values cells : List ℕ) (allowance room : ℕ) → orZero judgeNumbers (judgementReply (judges.judgement w sheet values cells allowance room) .number) ≡ true
   pub evaluate-records : (w values : List ℕ) (cells : List Cell) (allowance room : ℕ) → orZero recordNumbers (evaluationReply (recorded.evaluation w values cells allowance room) .number) ≡ true
-  pub judge-records : (w values : List ℕ) (cells : List Cell) (allowance room : ℕ) → orZero recordNumbers (judgementReply (recorded.judgement w values cells allowance room) .number) ≡ true
+  pub judge-records : (w sheet values : List ℕ) (cells : List Cell) (allowance room : ℕ) → orZero recordJudgeNumbers (judgementReply (recorded.judgement w sheet values cells allowance room) .number) ≡ true
   pub print : (w : List ℕ) (room : ℕ) → orZero printNumbers (printingReply (printing w room) .number) ≡ true
   pub parse : (text : List ℕ) (room : ℕ) → orZero parseNumbers (parsingReply (parsing text room) .number) ≡ true
 
 -- 11 cannot occur over records.
 pub record NeverEleven : Type 0 where
   pub evaluate-records : (w values : List ℕ) (cells : List Cell) (allowance room : ℕ) → evaluationReply (recorded.evaluation w values cells allowance room) .number ≡ 11 → ⊥
-  pub judge-records : (w values : List ℕ) (cells : List Cell) (allowance room : ℕ) → judgementReply (recorded.judgement w values cells allowance room) .number ≡ 11 → ⊥
+  pub judge-records : (w sheet values : List ℕ) (cells : List Cell) (allowance room : ℕ) → judgementReply (recorded.judgement w sheet values cells allowance room) .number ≡ 11 → ⊥

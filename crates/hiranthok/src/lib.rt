@@ -81,33 +81,35 @@ pub extern "C" fn hiranthok_evaluate(
     )
 }
 
-// rule, condition, steps, left
+// Under a mark sheet, which may be empty: rule, condition, steps, left.
 #[no_mangle]
 pub extern "C" fn hiranthok_judge(
     table: &[u32],
+    sheet: &[u32],
     values: &[u32],
     cells: &[u32],
     allowance: u64,
     work: &mut [u32],
     answer: &mut [u64; 4],
 ) -> u32
-    ensures { λ r. ⌜ r ≡ judgementReply (judgement (now (table .entry)) (now (values .entry))
+    ensures { λ r. ⌜ r ≡ judgementReply (judgement (now (table .entry)) (now (sheet .entry)) (now (values .entry))
         (now (cells .entry)) allowance (length (now (work .entry)))) .number ⌝ }
-    ensures { λ r. ⌜ now (answer .exit)
-        ≡ row (judgementReply (judgement (now (table .entry)) (now (values .entry)) (now (cells .entry)) allowance
-        (length (now (work .entry))))) ⌝ }
-    ensures { λ r. ⌜ now (work .exit)
-        ≡ judges.roomAfter (judgement (now (table .entry)) (now (values .entry)) (now (cells .entry)) allowance
-        (length (now (work .entry)))) (now (table .entry)) (now (values .entry)) (now (cells .entry))
-        (now (work .entry)) ⌝ }
-    ensures { λ r. ⌜ judges-laws.JudgementPromise (now (table .entry)) (now (values .entry))
-        (now (cells .entry)) (judgement (now (table .entry)) (now (values .entry)) (now (cells .entry)) allowance
-        (length (now (work .entry)))) ⌝ }
-    ensures { λ r. ⌜ recorded-laws.FlatJudgementPromise (now (table .entry)) (now (values .entry)) (now (cells .entry))
-        (judgement (now (table .entry)) (now (values .entry)) (now (cells .entry)) allowance
-        (length (now (work .entry)))) ⌝ }
+    ensures { λ r. ⌜ now (answer .exit) ≡ row (judgementReply (judgement (now (table .entry))
+        (now (sheet .entry)) (now (values .entry)) (now (cells .entry)) allowance (length (now (work .entry))))) ⌝ }
+    ensures { λ r. ⌜ now (work .exit) ≡ judges.roomAfter (judgement (now (table .entry)) (now (sheet .entry)) (now (values .entry))
+        (now (cells .entry)) allowance (length (now (work .entry)))) (now (table .entry)) (now (sheet .entry)) (now (values .entry))
+        (now (cells .entry)) (now (work .entry)) ⌝ }
+    ensures { λ r. ⌜ judges-laws.JudgementPromise (now (table .entry)) (now (sheet .entry)) (now (values .entry))
+        (now (cells .entry)) (judgement (now (table .entry)) (now (sheet .entry)) (now (values .entry))
+        (now (cells .entry)) allowance (length (now (work .entry)))) ⌝ }
+    ensures { λ r. ⌜ recorded-laws.FlatJudgementPromise (now (table .entry)) (now (sheet .entry)) (now (values .entry))
+        (now (cells .entry)) (judgement (now (table .entry)) (now (sheet .entry)) (now (values .entry))
+        (now (cells .entry)) allowance (length (now (work .entry)))) ⌝ }
 {
-    answer_judged(judge::judge(table, values, cells, allowance, work), answer)
+    answer_judged(
+        judge::judge(table, sheet, values, cells, allowance, work),
+        answer,
+    )
 }
 
 // The record entrance: the cells as a row of records; 11 cannot occur. Steps, left.
@@ -134,30 +136,29 @@ pub extern "C" fn hiranthok_evaluate_records(
     answer_evaluated(evaluation, answer)
 }
 
-// The record entrance: rule, condition, steps, left.
+// The record entrance, under a mark sheet: rule, condition, steps, left.
 #[no_mangle]
 pub extern "C" fn hiranthok_judge_records(
     table: &[u32],
+    sheet: &[u32],
     values: &[u32],
     cells: &[Cell],
     allowance: u64,
     work: &mut [u32],
     answer: &mut [u64; 4],
 ) -> u32
-    ensures { λ r. ⌜ r ≡ judgementReply (recorded.judgement (now (table .entry)) (now (values .entry))
+    ensures { λ r. ⌜ r ≡ judgementReply (recorded.judgement (now (table .entry)) (now (sheet .entry)) (now (values .entry))
         (now (cells .entry)) allowance (length (now (work .entry)))) .number ⌝ }
-    ensures { λ r. ⌜ now (answer .exit)
-        ≡ row (judgementReply (recorded.judgement (now (table .entry)) (now (values .entry)) (now (cells .entry))
-        allowance (length (now (work .entry))))) ⌝ }
-    ensures { λ r. ⌜ now (work .exit)
-        ≡ recorded.judgementRoom (recorded.judgement (now (table .entry)) (now (values .entry)) (now (cells .entry))
-        allowance (length (now (work .entry)))) (now (table .entry)) (now (values .entry)) (now (cells .entry))
-        (now (work .entry)) ⌝ }
-    ensures { λ r. ⌜ recorded-laws.RecordJudgementPromise (now (table .entry)) (now (values .entry))
-        (now (cells .entry)) (recorded.judgement (now (table .entry)) (now (values .entry)) (now (cells .entry))
-        allowance (length (now (work .entry)))) ⌝ }
+    ensures { λ r. ⌜ now (answer .exit) ≡ row (judgementReply (recorded.judgement (now (table .entry))
+        (now (sheet .entry)) (now (values .entry)) (now (cells .entry)) allowance (length (now (work .entry))))) ⌝ }
+    ensures { λ r. ⌜ now (work .exit) ≡ recorded.judgementRoom (recorded.judgement (now (table .entry)) (now (sheet .entry)) (now (values .entry))
+        (now (cells .entry)) allowance (length (now (work .entry)))) (now (table .entry)) (now (sheet .entry)) (now (values .entry))
+        (now (cells .entry)) (now (work .entry)) ⌝ }
+    ensures { λ r. ⌜ recorded-laws.RecordJudgementPromise (now (table .entry)) (now (sheet .entry)) (now (values .entry))
+        (now (cells .entry)) (recorded.judgement (now (table .entry)) (now (sheet .entry)) (now (values .entry))
+        (now (cells .entry)) allowance (length (now (work .entry)))) ⌝ }
 {
-    let judgement = records::judge_records(table, values, cells, allowance, work);
+    let judgement = records::judge_records(table, sheet, values, cells, allowance, work);
     answer_judged(judgement, answer)
 }
 

@@ -1,4 +1,5 @@
 pub mod Alike
+pub mod SheetMarks
 pub mod Marks
 pub mod Promises
 pub mod Chains
@@ -9,4 +10,5 @@ pub mod Rooms
 pub mod Fills
 pub mod Verdicts
 pub mod Pairs
+pub mod Sheeted
 pub mod Answers

@@ -24,33 +24,39 @@ use Rattle.evaluate.specs.Evaluation.{afford}
 use Rattle.evaluate.specs.Steps.{steps}
 use Rattle.evaluate.specs.Values.{valueBy}
 use Rattle.judge.specs.declared.Judgement.the-variants.{Judged}
-use Rattle.judge.specs.Conditions.{conditionBy, ownMarks}
+use Rattle.judge.specs.Conditions.{conditionBy}
+use Rattle.sheets.specs.Marks.{marksUnder}
+use Rattle.sheets.specs.Check.{sheetCheck}
 use Rattle.judge.specs.Judgement.{judgement}
 use Rattle.judge.specs.Demand3.{JudgementPromise}
-use Rattle.judge.specs.Pairs.{Pair, Compared, otherVector, otherListing, otherArray, ComparedPairs, SureOfG}
+use Rattle.judge.specs.Pairs.{Pair, Compared, otherVector, otherListing, otherArray, otherParty, ComparedPairs, OtherVerdict, SureOfG}
 use Rattle.judge.proofs.Promises.{demand3}
 
 -- two judgements, of settings that do not differ in an unmarked input
-compared : (x : Pair) → judgement (x .table) (x .values) (x .cells) 9 99 ≡ Judged (x .verdict) → judgement (x .table) (x .values′) (x .cells′) 9 99 ≡ Judged (x .verdict′)
-    → differ (x .table) ownMarks (x .values) (look (x .cells)) (x .values′) (look (x .cells′)) ≡ false → Compared x
+compared : (x : Pair) → judgement (x .table) (x .sheet) (x .values) (x .cells) 9 99 ≡ Judged (x .verdict) → judgement (x .table) (x .sheet) (x .values′) (x .cells′) 9 99 ≡ Judged (x .verdict′)
+    → differ (x .table) (marksUnder (x .sheet)) (x .values) (look (x .cells)) (x .values′) (look (x .cells′)) ≡ false → Compared x
 compared x first second same =
-    let agree = agreement-computed (x .table) ownMarks (x .values) (look (x .cells)) (x .values′) (look (x .cells′)) same in
+    let agree = agreement-computed (x .table) (marksUnder (x .sheet)) (x .values) (look (x .cells)) (x .values′) (look (x .cells′)) same in
     record {
       first = first;
       second = second;
       agree = agree;
-      same = subst (JudgementPromise (x .table) (x .values) (x .cells)) first (demand3 ownMarks (x .table) (x .values) (x .cells) 9 99) .same (x .values′) (x .cells′) 9 99 (x .verdict′) second agree;
+      same = subst (JudgementPromise (x .table) (x .sheet) (x .values) (x .cells)) first (demand3 (x .table) (x .sheet) (x .values) (x .cells) 9 99) .same (x .values′) (x .cells′) 9 99 (x .verdict′) second agree;
     }
 
 -- by computation
 pub compared-pairs : ComparedPairs
-unfolding admissionWithin scan fault faultIf typed anyBelow clash chain steps fold valueBy conditionBy apply settles lookFrom check slotSort arrayEntry afford
-compared-pairs = (compared otherVector refl refl refl, compared otherListing refl refl refl, compared otherArray refl refl refl)
+unfolding sheetCheck admissionWithin scan fault faultIf typed anyBelow clash chain steps fold valueBy conditionBy apply settles lookFrom check slotSort arrayEntry afford
+compared-pairs = (compared otherVector refl refl refl, compared otherListing refl refl refl, compared otherArray refl refl refl, compared otherParty refl refl refl)
+
+pub other-verdict : OtherVerdict
+unfolding sheetCheck admissionWithin scan fault faultIf typed anyBelow clash chain steps fold valueBy conditionBy apply settles lookFrom check slotSort arrayEntry afford
+other-verdict = refl
 
 pub sure-of-G : SureOfG
-unfolding admissionWithin scan fault faultIf typed anyBelow clash chain steps fold valueBy conditionBy apply settles lookFrom check slotSort arrayEntry afford
+unfolding sheetCheck admissionWithin scan fault faultIf typed anyBelow clash chain steps fold valueBy conditionBy apply settles lookFrom check slotSort arrayEntry afford
 sure-of-G x b =
     let checked : check ruleG (0 ∷ x ∷ 1 ∷ []) [] ≡ Accepted = rw (lt-ltb x 256 b) in
     let fit = checked-fits 512 ruleG (0 ∷ x ∷ 1 ∷ []) [] (admission-sound 512 ruleG refl) checked in
-    let agree = agreement-computed ruleG ownMarks (0 ∷ 5 ∷ 1 ∷ []) (look []) (0 ∷ x ∷ 1 ∷ []) (look []) refl in
-    subst (JudgementPromise ruleG (0 ∷ 5 ∷ 1 ∷ []) []) (compared-pairs .0 .first) (demand3 ownMarks ruleG (0 ∷ 5 ∷ 1 ∷ []) [] 9 99) .sure refl (interpret (0 ∷ x ∷ 1 ∷ []) (look [])) fit agree
+    let agree = agreement-computed ruleG (marksUnder []) (0 ∷ 5 ∷ 1 ∷ []) (look []) (0 ∷ x ∷ 1 ∷ []) (look []) refl in
+    subst (JudgementPromise ruleG [] (0 ∷ 5 ∷ 1 ∷ []) []) (compared-pairs .0 .first) (demand3 ruleG [] (0 ∷ 5 ∷ 1 ∷ []) [] 9 99) .sure refl (interpret (0 ∷ x ∷ 1 ∷ []) (look [])) fit agree

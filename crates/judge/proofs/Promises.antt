@@ -11,9 +11,10 @@ use Rattle.table.specs.declared.Acceptance.{Acceptance}
 use Rattle.table.specs.declared.Acceptance.the-variants.{Accepted, Refused}
 use Rattle.table.specs.declared.words.Term.{Term}
 use Rattle.table.specs.Terms.{terms}
-use Rattle.table.specs.Admission.{andThen, admissionWithin}
+use Rattle.table.specs.Admission.{andThen}
 use Rattle.table.specs.WellFormed.{WellFormed}
 use Rattle.table.proofs.Admitted.{admission-sound}
+use Rattle.sheets.specs.Marks.{marksUnder}
 use Rattle.setting.specs.Cells.{look}
 use Rattle.setting.specs.Check.{check}
 use Rattle.setting.specs.Interpretation.{Interpretation, interpret, FitInputs, AgreeUnmarked}
@@ -21,14 +22,14 @@ use Rattle.setting.proofs.Checked.{checked-fits}
 use Rattle.evaluate.specs.declared.Evaluation.{Evaluation}
 use Rattle.evaluate.specs.declared.Evaluation.the-variants.{Evaluated, NotEvaluated}
 use Rattle.evaluate.specs.Steps.{steps}
-use Rattle.evaluate.specs.Evaluation.{notEvaluated, evaluates, afford, ready}
-use Rattle.evaluate.proofs.Answers.{passed}
+use Rattle.evaluate.specs.Evaluation.{notEvaluated, evaluates, afford, readyBy}
 use Rattle.judge.specs.declared.Verdict.{Verdict}
 use Rattle.judge.specs.declared.Judgement.{Judgement}
 use Rattle.judge.specs.declared.Judgement.the-variants.{Judged, NotJudged}
-use Rattle.judge.specs.Judgement.{ruleIn, ruleCondition, verdict, judgementUnder, passes}
-use Rattle.judge.specs.Demand3.{SameVerdict, JudgementPromiseUnder, Demand3}
+use Rattle.judge.specs.Judgement.{admissionUnder, ruleIn, ruleCondition, verdict, judgement, passes}
+use Rattle.judge.specs.Demand3.{SameVerdict, JudgementPromise, Demand3}
 use Rattle.judge.proofs.Alike.{independence}
+use Rattle.judge.proofs.SheetMarks.{passed-under}
 
 -- The steps that an evaluation spent
 
@@ -55,64 +56,64 @@ afford-spends w each allowance room =
     spends-unless spent (ltb room (terms w * each)) 22 (terms w * each) (cond (ltb allowance spent) (notEvaluated 23 spent) last)
     (spends-unless spent (ltb allowance spent) 23 spent last refl)
 
-ready-spends : (limit : ℕ) (w values cells : List ℕ) (each allowance room : ℕ) → Spends (steps w (terms w)) (ready limit w values cells each allowance room)
-ready-spends limit w values cells each allowance room =
-    spends-then (steps w (terms w)) (admissionWithin limit w) (andThen NotEvaluated (check w values cells) (afford w each allowance room))
-    (spends-then (steps w (terms w)) (check w values cells) (afford w each allowance room) (afford-spends w each allowance room))
+ready-spends : (w : List ℕ) (admitted checked : Acceptance) (each allowance room : ℕ) → Spends (steps w (terms w)) (readyBy w admitted checked each allowance room)
+ready-spends w admitted checked each allowance room =
+    spends-then (steps w (terms w)) admitted (andThen NotEvaluated checked (afford w each allowance room))
+    (spends-then (steps w (terms w)) checked (afford w each allowance room) (afford-spends w each allowance room))
 
 -- What is known of a verdict
 
-module _ (marked : Term → Bool) where
-  -- a judgement that is no refusal: the table is well formed, the setting fits, and this is what it says
-  pub record Known (w values cells : List ℕ) (v : Verdict) : Type 0 where
-    pub formed : WellFormed 512 w
-    pub fit : FitInputs w (interpret values (look cells))
-    pub rule : v .rule ≡ ruleIn w (interpret values (look cells))
-    pub condition : v .condition ≡ ruleCondition w marked (interpret values (look cells))
-    pub steps : v .steps ≡ steps w (terms w)
+-- a judgement that is no refusal: the table is well formed, the setting fits, and this is what it says
+pub record Known (marked : Term → Bool) (w values cells : List ℕ) (v : Verdict) : Type 0 where
+  pub formed : WellFormed 512 w
+  pub fit : FitInputs w (interpret values (look cells))
+  pub rule : v .rule ≡ ruleIn w (interpret values (look cells))
+  pub condition : v .condition ≡ ruleCondition w marked (interpret values (look cells))
+  pub steps : v .steps ≡ steps w (terms w)
 
-  -- the same of a judgement: nothing of a refusal
-  abbrev KnownOf : List ℕ → List ℕ → List ℕ → Judgement → Type 0
-  KnownOf w values cells (Judged v) = Known w values cells v
-  KnownOf w values cells (NotJudged r) = Unit {0}
+-- (a) two verdicts of settings that agree on every unmarked input
+same-verdict : (marked : Term → Bool) (w values cells values′ cells′ : List ℕ) (v v′ : Verdict) → Known marked w values cells v → Known marked w values′ cells′ v′
+    → AgreeUnmarked w marked (interpret values (look cells)) (interpret values′ (look cells′)) → SameVerdict v v′
+same-verdict marked w values cells values′ cells′ v v′ k k′ agree =
+    let one = independence 512 w marked (interpret values (look cells)) (interpret values′ (look cells′)) (k .formed) (k .fit) (k′ .fit) agree in
+    record {
+      condition = k .condition ∙ one .condition ∙ sym (k′ .condition);
+      steps = k .steps ∙ sym (k′ .steps);
+      rule = λ h. k .rule ∙ one .rule (sym (k .condition) ∙ h) ∙ sym (k′ .rule);
+    }
+
+-- (b) a verdict that passes, and an interpretation that agrees
+sure-of : (marked : Term → Bool) (w values cells : List ℕ) (v : Verdict) → Known marked w values cells v → passes v ≡ true
+    → (I : Interpretation) → FitInputs w I → AgreeUnmarked w marked (interpret values (look cells)) I → ruleIn w I ≡ true
+sure-of marked w values cells v k h I fit agree =
+    let both = and-parts (v .rule) (v .condition) h in
+    sym (independence 512 w marked (interpret values (look cells)) I (k .formed) (k .fit) fit agree .rule (sym (k .condition) ∙ both .1)) ∙ sym (k .rule) ∙ both .0
+
+module _ (w sheet : List ℕ) where
+  -- the same of a judgement under a sheet: nothing of a refusal
+  abbrev KnownOf : List ℕ → List ℕ → Judgement → Type 0
+  KnownOf values cells (Judged v) = Known (marksUnder sheet) w values cells v
+  KnownOf values cells (NotJudged r) = Unit {0}
 
   -- it is so of every judgement
-  known : (w values cells : List ℕ) (allowance room : ℕ) → KnownOf w values cells (judgementUnder marked w values cells allowance room)
-  known w values cells allowance room =
-      go (ready 512 w values cells 2 allowance room) (ready-spends 512 w values cells 2 allowance room)
-      (λ h. let p = passed 512 w values cells 2 allowance room h in let f = admission-sound 512 w (p .admitted) in (f, checked-fits 512 w values cells f (p .checked)))
+  known : (values cells : List ℕ) (allowance room : ℕ) → KnownOf values cells (judgement w sheet values cells allowance room)
+  known values cells allowance room =
+      go (readyBy w (admissionUnder w sheet) (check w values cells) 2 allowance room) (ready-spends w (admissionUnder w sheet) (check w values cells) 2 allowance room)
+      (λ h. let p = passed-under w sheet (check w values cells) 2 allowance room h in let f = admission-sound 512 w (p .admitted) in (f, checked-fits 512 w values cells f (p .checked)))
     where
-      go : (e : Evaluation) → Spends (steps w (terms w)) e → (evaluates e ≡ true → WellFormed 512 w × FitInputs w (interpret values (look cells))) → KnownOf w values cells (verdict e w marked (interpret values (look cells)))
+      go : (e : Evaluation) → Spends (steps w (terms w)) e → (evaluates e ≡ true → WellFormed 512 w × FitInputs w (interpret values (look cells))) → KnownOf values cells (verdict e w (marksUnder sheet) (interpret values (look cells)))
       go (Evaluated s) h f = record { formed = f refl .0; fit = f refl .1; rule = refl; condition = refl; steps = h }
       go (NotEvaluated r) h f = tt
 
-  -- (a) two verdicts of settings that agree on every unmarked input
-  same-verdict : (w values cells values′ cells′ : List ℕ) (v v′ : Verdict) → Known w values cells v → Known w values′ cells′ v′
-      → AgreeUnmarked w marked (interpret values (look cells)) (interpret values′ (look cells′)) → SameVerdict v v′
-  same-verdict w values cells values′ cells′ v v′ k k′ agree =
-      let one = independence 512 w marked (interpret values (look cells)) (interpret values′ (look cells′)) (k .formed) (k .fit) (k′ .fit) agree in
-      record {
-        condition = k .condition ∙ one .condition ∙ sym (k′ .condition);
-        steps = k .steps ∙ sym (k′ .steps);
-        rule = λ h. k .rule ∙ one .rule (sym (k .condition) ∙ h) ∙ sym (k′ .rule);
-      }
-
-  -- (b) a verdict that passes, and an interpretation that agrees
-  sure-of : (w values cells : List ℕ) (v : Verdict) → Known w values cells v → passes v ≡ true
-      → (I : Interpretation) → FitInputs w I → AgreeUnmarked w marked (interpret values (look cells)) I → ruleIn w I ≡ true
-  sure-of w values cells v k h I fit agree =
-      let both = and-parts (v .rule) (v .condition) h in
-      sym (independence 512 w marked (interpret values (look cells)) I (k .formed) (k .fit) fit agree .rule (sym (k .condition) ∙ both .1)) ∙ sym (k .rule) ∙ both .0
-
   -- both, of every judgement
-  promised : (w values cells : List ℕ) (j : Judgement) → KnownOf w values cells j → JudgementPromiseUnder marked w values cells j
-  promised w values cells (Judged v) k =
+  promised : (values cells : List ℕ) (j : Judgement) → KnownOf values cells j → JudgementPromise w sheet values cells j
+  promised values cells (Judged v) k =
       record {
         same = λ values′ cells′ allowance′ room′ v′ e agree.
-            same-verdict w values cells values′ cells′ v v′ k (subst (KnownOf w values′ cells′) e (known w values′ cells′ allowance′ room′)) agree;
-        sure = sure-of w values cells v k;
+            same-verdict (marksUnder sheet) w values cells values′ cells′ v v′ k (subst (KnownOf values′ cells′) e (known values′ cells′ allowance′ room′)) agree;
+        sure = sure-of (marksUnder sheet) w values cells v k;
       }
-  promised w values cells (NotJudged r) k = tt
+  promised values cells (NotJudged r) k = tt
 
 pub demand3 : Demand3
-demand3 marked w values cells allowance room = promised marked w values cells (judgementUnder marked w values cells allowance room) (known marked w values cells allowance room)
+demand3 w sheet values cells allowance room = promised w sheet values cells (judgement w sheet values cells allowance room) (known w sheet values cells allowance room)

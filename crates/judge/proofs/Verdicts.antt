@@ -12,17 +12,16 @@ use Rattle.ops.specs.Meaning.{bit, holds}
 use Rattle.ops.proofs.Booleans.{never}
 use Rattle.table.specs.declared.words.Term.{Term}
 use Rattle.table.specs.Terms.{terms}
-use Rattle.setting.specs.Cells.{look}
-use Rattle.setting.specs.Interpretation.{Interpretation, interpret}
+use Rattle.setting.specs.Interpretation.{Interpretation}
 use Rattle.evaluate.specs.declared.Evaluation.{Evaluation}
 use Rattle.evaluate.specs.declared.Evaluation.the-variants.{Evaluated, NotEvaluated}
 use Rattle.evaluate.specs.Evaluation.{evaluates}
 use Rattle.evaluate.specs.Values.{values, valueAt, numbers}
 use Rattle.evaluate.proofs.Folds.{length-numbers, number-in, value-below}
 use Rattle.setting.specs.Interpretation.{Value}
-use Rattle.judge.specs.Conditions.{Condition, conditionAt, truths, ownMarks}
+use Rattle.judge.specs.Conditions.{Condition, conditionAt, truths}
 use Rattle.judge.specs.Code.Labelled.{truthIn}
-use Rattle.judge.specs.Judgement.{ruleIn, ruleCondition, verdictBy, roomAfter}
+use Rattle.judge.specs.Judgement.{ruleIn, ruleCondition, verdictBy, roomIn}
 use Rattle.judge.proofs.Alike.{condition-below}
 use Rattle.judge.proofs.Meaning.{length-truths, truth-in}
 
@@ -31,14 +30,14 @@ pub stands : (e : Evaluation) (a b a′ b′ : Bool) → evaluates e ≡ false �
 stands (Evaluated s) a b a′ b′ h = never (sym h)
 stands (NotEvaluated r) a b a′ b′ h = refl
 
-pub room-kept : (e : Evaluation) (a b : Bool) (w values cells room : List ℕ) → evaluates e ≡ false → room ≡ roomAfter (verdictBy e a b) w values cells room
-room-kept (Evaluated s) a b w values cells room h = never (sym h)
-room-kept (NotEvaluated r) a b w values cells room h = refl
+pub room-kept : (e : Evaluation) (a b : Bool) (w : List ℕ) (marked : Term → Bool) (I : Interpretation) (room : List ℕ) → evaluates e ≡ false → room ≡ roomIn (verdictBy e a b) w marked I room
+room-kept (Evaluated s) a b w marked I room h = never (sym h)
+room-kept (NotEvaluated r) a b w marked I room h = refl
 
-pub room-filled : (e : Evaluation) (a b : Bool) (w values cells room : List ℕ) → evaluates e ≡ true
-    → numbers w (interpret values (look cells)) (terms w) ++ truths w ownMarks (interpret values (look cells)) (terms w) ++ drop (terms w * 2) room ≡ roomAfter (verdictBy e a b) w values cells room
-room-filled (Evaluated s) a b w values cells room h = refl
-room-filled (NotEvaluated r) a b w values cells room h = never h
+pub room-filled : (e : Evaluation) (a b : Bool) (w : List ℕ) (marked : Term → Bool) (I : Interpretation) (room : List ℕ) → evaluates e ≡ true
+    → numbers w I (terms w) ++ truths w marked I (terms w) ++ drop (terms w * 2) room ≡ roomIn (verdictBy e a b) w marked I room
+room-filled (Evaluated s) a b w marked I room h = refl
+room-filled (NotEvaluated r) a b w marked I room h = never h
 
 -- the last term's value and truth stand at the ends of the two fronts
 module _ (w : List ℕ) (marked : Term → Bool) (I : Interpretation) (rest : List ℕ) (some : 0 < terms w) where

@@ -16,7 +16,8 @@ use Rattle.setting.specs.Cells.{lookFrom, look}
 use Rattle.setting.specs.Interpretation.{interpret}
 use Rattle.evaluate.specs.Steps.{steps}
 use Rattle.evaluate.specs.Values.{valueBy, valueAt}
-use Rattle.judge.specs.Conditions.{conditionBy, conditionAt, ownMarks}
+use Rattle.judge.specs.Conditions.{conditionBy, conditionAt}
+use Rattle.sheets.specs.Marks.{ownMarks}
 
 -- a table in a setting: of the term at, the value and the condition that the paper says; of the table, the steps
 pub record Row : Type 0 where

@@ -63,7 +63,3 @@ conditionAt w marked I k = conditionFrom w marked (valueIn (values w I k)) (cond
 -- the truths of the first k terms' conditions: 1 or 0; 0 for stores
 abbrev pub truths : List ℕ → (Term → Bool) → Interpretation → ℕ → List ℕ
 truths w marked I k = map (λ c. bit (c .free)) (conditions w marked I k)
-
--- the marks of a table's own variables
-abbrev pub ownMarks : Term → Bool
-ownMarks x = eqb (x .q) 1

@@ -6,14 +6,15 @@ use mathlib.Core.List.{List}
 use Prim.Native.Nat.{ℕ}
 use Rattle.table.specs.declared.words.Term.{Term}
 use Rattle.table.specs.WellFormed.{WellFormed}
+use Rattle.sheets.specs.Marks.{marksUnder}
 use Rattle.setting.specs.Cells.{look}
 use Rattle.setting.specs.Interpretation.{Interpretation, interpret, FitInputs, AgreeUnmarked}
 use Rattle.evaluate.specs.Values.{valueAt}
 use Rattle.judge.specs.declared.Verdict.{Verdict}
 use Rattle.judge.specs.declared.Judgement.{Judgement}
 use Rattle.judge.specs.declared.Judgement.the-variants.{Judged, NotJudged}
-use Rattle.judge.specs.Conditions.{ownMarks, conditionAt}
-use Rattle.judge.specs.Judgement.{ruleIn, ruleCondition, judgementUnder, passes}
+use Rattle.judge.specs.Conditions.{conditionAt}
+use Rattle.judge.specs.Judgement.{ruleIn, ruleCondition, judgement, passes}
 
 -- Of interpretations, under any marks: two that fit and agree on every unmarked input give the rule one condition, and where it is true one value.
 pub record OneCondition (w : List ℕ) (marked : Term → Bool) (I I′ : Interpretation) : Type 0 where
@@ -25,29 +26,25 @@ Independence =
     (limit : ℕ) (w : List ℕ) (marked : Term → Bool) (I I′ : Interpretation) → WellFormed limit w → FitInputs w I → FitInputs w I′
     → AgreeUnmarked w marked I I′ → OneCondition w marked I I′
 
--- (a) of two judgements of one table that are not refused, in settings that agree on every unmarked input, whatever the marked inputs,
--- the rows' lengths and listings, the allowances and the rooms: one condition, one count of steps, and where the condition is true one
--- value of the rule
+-- (a) of two judgements of one table under one sheet that are not refused, in settings that agree on every input that is unmarked
+-- under it, whatever the marked inputs, the rows' lengths and listings, the allowances and the rooms: one condition, one count of steps,
+-- and where the condition is true one value of the rule
 pub record SameVerdict (v v′ : Verdict) : Type 0 where
   pub condition : v .condition ≡ v′ .condition
   pub steps : v .steps ≡ v′ .steps
   pub rule : v .condition ≡ true → v .rule ≡ v′ .rule
 
--- (b) where a setting passes, the rule's SMT-LIB value is true in every fitting interpretation that agrees with it on the unmarked inputs
-pub record Independent (marked : Term → Bool) (w values cells : List ℕ) (v : Verdict) : Type 0 where
-  pub same : (values′ cells′ : List ℕ) (allowance′ room′ : ℕ) (v′ : Verdict) → judgementUnder marked w values′ cells′ allowance′ room′ ≡ Judged v′
-      → AgreeUnmarked w marked (interpret values (look cells)) (interpret values′ (look cells′)) → SameVerdict v v′
-  pub sure : passes v ≡ true → (I : Interpretation) → FitInputs w I → AgreeUnmarked w marked (interpret values (look cells)) I → ruleIn w I ≡ true
+-- (b) where a setting passes, the rule's SMT-LIB value is true in every fitting interpretation that agrees with it on these inputs
+pub record Independent (w sheet values cells : List ℕ) (v : Verdict) : Type 0 where
+  pub same : (values′ cells′ : List ℕ) (allowance′ room′ : ℕ) (v′ : Verdict) → judgement w sheet values′ cells′ allowance′ room′ ≡ Judged v′
+      → AgreeUnmarked w (marksUnder sheet) (interpret values (look cells)) (interpret values′ (look cells′)) → SameVerdict v v′
+  pub sure : passes v ≡ true → (I : Interpretation) → FitInputs w I → AgreeUnmarked w (marksUnder sheet) (interpret values (look cells)) I → ruleIn w I ≡ true
 
 -- what a judgement promises besides its answer: nothing for a refusal
-abbrev pub JudgementPromiseUnder : (Term → Bool) → List ℕ → List ℕ → List ℕ → Judgement → Type 0
-JudgementPromiseUnder marked w values cells (Judged v) = Independent marked w values cells v
-JudgementPromiseUnder marked w values cells (NotJudged r) = Unit {0}
+abbrev pub JudgementPromise : List ℕ → List ℕ → List ℕ → List ℕ → Judgement → Type 0
+JudgementPromise w sheet values cells (Judged v) = Independent w sheet values cells v
+JudgementPromise w sheet values cells (NotJudged r) = Unit {0}
 
--- by the table's own marks
-abbrev pub JudgementPromise : List ℕ → List ℕ → List ℕ → Judgement → Type 0
-JudgementPromise w values cells j = JudgementPromiseUnder ownMarks w values cells j
-
--- Demand 3, of every judgement, under any marks
+-- Demand 3, of every judgement
 abbrev pub Demand3 : Type 0
-Demand3 = (marked : Term → Bool) (w values cells : List ℕ) (allowance room : ℕ) → JudgementPromiseUnder marked w values cells (judgementUnder marked w values cells allowance room)
+Demand3 = (w sheet values cells : List ℕ) (allowance room : ℕ) → JudgementPromise w sheet values cells (judgement w sheet values cells allowance room)

@@ -5,4 +5,5 @@ pub mod Marks
 pub mod Demand3
 pub mod Bench
 pub mod Laws
+pub mod Sheets
 pub mod Pairs

@@ -9,13 +9,14 @@ use Rattle.setting.specs.Cells.{look}
 use Rattle.setting.specs.Interpretation.{interpret, AgreeUnmarked}
 use Rattle.judge.specs.declared.Verdict.{Verdict}
 use Rattle.judge.specs.declared.Judgement.the-variants.{Judged}
-use Rattle.judge.specs.Conditions.{ownMarks}
+use Rattle.sheets.specs.Marks.{marksUnder}
 use Rattle.judge.specs.Judgement.{ruleIn, judgement}
 use Rattle.judge.specs.Demand3.{SameVerdict}
 
--- a table, two settings and the verdict in each
+-- a table, a sheet, two settings and the verdict in each
 pub record Pair : Type 0 where
   pub table : List ℕ
+  pub sheet : List ℕ
   pub values : List ℕ
   pub cells : List ℕ
   pub verdict : Verdict
@@ -25,9 +26,9 @@ pub record Pair : Type 0 where
 
 -- The settings are judged, they agree, and so demand 3 speaks of them.
 pub record Compared (x : Pair) : Type 0 where
-  pub first : judgement (x .table) (x .values) (x .cells) 9 99 ≡ Judged (x .verdict)
-  pub second : judgement (x .table) (x .values′) (x .cells′) 9 99 ≡ Judged (x .verdict′)
-  pub agree : AgreeUnmarked (x .table) ownMarks (interpret (x .values) (look (x .cells))) (interpret (x .values′) (look (x .cells′)))
+  pub first : judgement (x .table) (x .sheet) (x .values) (x .cells) 9 99 ≡ Judged (x .verdict)
+  pub second : judgement (x .table) (x .sheet) (x .values′) (x .cells′) 9 99 ≡ Judged (x .verdict′)
+  pub agree : AgreeUnmarked (x .table) (marksUnder (x .sheet)) (interpret (x .values) (look (x .cells))) (interpret (x .values′) (look (x .cells′)))
   pub same : SameVerdict (x .verdict) (x .verdict′)
 
 -- what u holds at j, stored at j in t and read again there, is 42: array u and index j unmarked, array t marked (slots 0, 2, 1)
@@ -50,6 +51,7 @@ abbrev pub otherVector : Pair
 otherVector =
     record {
       table = ruleG;
+      sheet = [];
       values = 0 ∷ 5 ∷ 1 ∷ [];
       cells = [];
       verdict = passing 0;
@@ -63,6 +65,7 @@ abbrev pub otherListing : Pair
 otherListing =
     record {
       table = copied;
+      sheet = [];
       values = 7 ∷ 0 ∷ 1 ∷ [];
       cells = 0 ∷ 1 ∷ 42 ∷ [];
       verdict = passing 1;
@@ -76,6 +79,7 @@ abbrev pub otherArray : Pair
 otherArray =
     record {
       table = copied;
+      sheet = [];
       values = 7 ∷ 0 ∷ 1 ∷ [];
       cells = 0 ∷ 1 ∷ 42 ∷ [];
       verdict = passing 1;
@@ -84,8 +88,26 @@ otherArray =
       verdict′ = passing 1;
     }
 
+-- rule G under a sheet that marks a and keeps x: x is 0 and free, and so a does not matter, 5 or 77
+abbrev pub otherParty : Pair
+otherParty =
+    record {
+      table = ruleG;
+      sheet = 1 ∷ 0 ∷ 0 ∷ 0 ∷ 1 ∷ 1 ∷ [];
+      values = 5 ∷ 0 ∷ 1 ∷ [];
+      cells = [];
+      verdict = passing 0;
+      values′ = 77 ∷ 0 ∷ 1 ∷ [];
+      cells′ = [];
+      verdict′ = passing 0;
+    }
+
 abbrev pub ComparedPairs : Type 0
-ComparedPairs = Compared otherVector × Compared otherListing × Compared otherArray
+ComparedPairs = Compared otherVector × Compared otherListing × Compared otherArray × Compared otherParty
+
+-- By the table's own marks the same setting does not pass: of two parties each has its own verdict.
+abbrev pub OtherVerdict : Type 0
+OtherVerdict = judgement ruleG [] (otherParty .values) [] 9 99 ≡ Judged (record { rule = true; condition = false; steps = 0; left = 9 })
 
 -- And the last sentence of demand 3: rule G passes at a 0, x 5, b 1 (P1), so it is true there at every x that fits.
 abbrev pub SureOfG : Type 0

@@ -8,16 +8,17 @@ ghost use Rattle.table.specs.WellFormed.{WellFormed};
 ghost use Rattle.setting.specs.Cells.{look};
 ghost use Rattle.setting.specs.Interpretation.{interpret};
 ghost use Rattle.evaluate.specs.Values.{numbers};
-ghost use Rattle.judge.specs.Conditions.{ownMarks, truths};
+ghost use Rattle.sheets.specs.Code.Said.{marksBy};
+ghost use Rattle.judge.specs.Conditions.{truths};
 use crate::terms::step;
 
-// The front of work holds the terms' values, and after them the truths of their conditions.
-pub fn fill(table: &[u32], values: &[u32], cells: &[u32], work: &mut [u32])
+// Said is what the sheet says by slot. The front of work holds the terms' values, and after them the truths of their conditions.
+pub fn fill(table: &[u32], said: &[u32; 256], values: &[u32], cells: &[u32], work: &mut [u32])
     requires { ⌜ WellFormed 80000 (now table) ⌝ }
     requires { ⌜ terms (now table) * 2 ≤ length (now work) ⌝ }
     ensures { λ _. ⌜ now (work .exit)
         ≡ numbers (now (table .entry)) (interpret (now (values .entry)) (look (now (cells .entry))))
-        (terms (now (table .entry))) ++ truths (now (table .entry)) ownMarks
+        (terms (now (table .entry))) ++ truths (now (table .entry)) (marksBy (now (said .entry)))
         (interpret (now (values .entry)) (look (now (cells .entry)))) (terms (now (table .entry))) ++ drop
         (terms (now (table .entry)) * 2) (now (work .entry)) ⌝ }
 {
@@ -26,6 +27,6 @@ pub fn fill(table: &[u32], values: &[u32], cells: &[u32], work: &mut [u32])
     let mut turn = evaluate::turn_at(table, values, count, terms, &work[..0], 0);
     while turn.pending {
         let answer = setting::look(cells, turn.count, turn.slot, turn.index, turn.other);
-        turn = step(table, values, count, terms, work, turn, answer);
+        turn = step(table, said, values, count, terms, work, turn, answer);
     }
 }

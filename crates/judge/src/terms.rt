@@ -5,7 +5,7 @@ ghost use lib.ListN.{length};
 ghost use Rattle.table.specs.Terms as tables;
 ghost use Rattle.table.specs.WellFormed.{WellFormed};
 ghost use Rattle.evaluate.specs.Code.Turns.{nextRead, onward, Next, Behind};
-ghost use Rattle.judge.specs.Conditions.{ownMarks};
+ghost use Rattle.sheets.specs.Code.Said.{marksBy};
 ghost use Rattle.judge.specs.Code.Labelled.{operatedLabelled, labelledOf, labelledHere, entered, noted};
 ghost use Rattle.judge.specs.Code.Turns.{turnHere};
 use crate::reads::Labelled;
@@ -47,9 +47,10 @@ fn operated(table: &[u32], front: &[u32], truths: &[u32], x: Term) -> Labelled
     }
 }
 
-// Value and truth of a term.
+// Value and truth of a term; said is what the sheet says by slot.
 fn labelled_of(
     table: &[u32],
+    said: &[u32; 256],
     values: &[u32],
     front: &[u32],
     truths: &[u32],
@@ -60,7 +61,7 @@ fn labelled_of(
     requires { ⌜ Next (now table) (now front) x ⌝ }
     requires { ⌜ length (now truths) ≡ length (now front) ⌝ }
     ensures { λ r. ⌜ r
-        ≡ labelledOf (now (table .entry)) ownMarks (now (values .entry)) (now (front .entry)) (now (truths .entry)) x
+        ≡ labelledOf (now (table .entry)) (marksBy (now (said .entry))) (now (values .entry)) (now (front .entry)) (now (truths .entry)) x
         answer ⌝ }
 {
     if table::is_read(x) {
@@ -87,7 +88,7 @@ fn labelled_of(
     if table::is_variable(x) {
         return Labelled {
             value: evaluate::variable_number(values, x),
-            free: x.q != 1,
+            free: !sheets::marked(said, x),
         };
     }
     operated(table, front, truths, x)
@@ -96,6 +97,7 @@ fn labelled_of(
 // The same at a place of the room: the numbers stand at its front, the truths from number terms on.
 fn labelled_here(
     table: &[u32],
+    said: &[u32; 256],
     values: &[u32],
     terms: u32,
     room: &[u32],
@@ -106,13 +108,21 @@ fn labelled_here(
     requires { ⌜ terms ≡ tables.terms (now table) ⌝ }
     requires { ⌜ (at < terms) × (terms + at ≤ length (now room)) ⌝ }
     ensures { λ r. ⌜ r
-        ≡ labelledHere (now (table .entry)) ownMarks (now (values .entry)) terms (now (room .entry)) at answer ⌝ }
+        ≡ labelledHere (now (table .entry)) (marksBy (now (said .entry))) (now (values .entry)) terms (now (room .entry)) at answer ⌝ }
 {
     let end = at as usize;
     let start = terms as usize;
     let last = start + end;
     let x = table::term_at(table, at);
-    labelled_of(table, values, &room[..end], &room[start..last], x, answer)
+    labelled_of(
+        table,
+        said,
+        values,
+        &room[..end],
+        &room[start..last],
+        x,
+        answer,
+    )
 }
 
 // Writes value and truth of term `at`.
@@ -131,6 +141,7 @@ fn note(work: &mut [u32], terms: u32, at: u32, r: Labelled)
 // Writes value and truth of a turn's term and of those after it, up to the next read, and answers what that asks.
 pub fn step(
     table: &[u32],
+    said: &[u32; 256],
     values: &[u32],
     count: usize,
     terms: u32,
@@ -144,8 +155,8 @@ pub fn step(
     ensures { λ r. ⌜ r ≡ turnHere (now (table .entry)) (now (values .entry)) count terms (now (work .exit))
         (nextRead (now (table .entry)) terms (turn .at + 1)) ⌝ }
     ensures { λ r. ⌜ now (work .exit)
-        ≡ onward (now (table .entry)) (noted (now (table .entry)) ownMarks (now (values .entry)) terms 0) terms
-        (noted (now (table .entry)) ownMarks (now (values .entry)) terms answer (now (work .entry)) (turn .at))
+        ≡ onward (now (table .entry)) (noted (now (table .entry)) (marksBy (now (said .entry))) (now (values .entry)) terms 0) terms
+        (noted (now (table .entry)) (marksBy (now (said .entry))) (now (values .entry)) terms answer (now (work .entry)) (turn .at))
         (turn .at + 1) ⌝ }
 {
     let at = turn.at;
@@ -154,7 +165,7 @@ pub fn step(
         if (i != at) & table::is_read(table::term_at(table, i)) {
             break;
         }
-        let r = labelled_here(table, values, terms, &work[..], i, answer);
+        let r = labelled_here(table, said, values, terms, &work[..], i, answer);
         note(work, terms, i, r);
         i += 1;
     }

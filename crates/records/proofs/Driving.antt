@@ -9,19 +9,18 @@ use lib.Dec.{T}
 use lib.ListN.{length}
 use borrow.Author.Tests.{lt-ltb, le-ltb}
 use Rattle.ops.proofs.Booleans.{never}
+use Rattle.table.specs.declared.Acceptance.{Acceptance}
 use Rattle.table.specs.Terms.{terms}
+use Rattle.table.specs.Admission.{accepts}
 use Rattle.table.specs.WellFormed.{WellFormed}
-use Rattle.table.proofs.Admitted.{admission-sound, wider}
 use Rattle.setting.specs.declared.cells.Cell.{Cell}
 use Rattle.evaluate.specs.declared.Evaluation.{Evaluation}
 use Rattle.evaluate.specs.declared.turns.Turn.{Turn}
-use Rattle.evaluate.specs.Evaluation.{evaluates, readyBy}
+use Rattle.evaluate.specs.Evaluation.{evaluates}
 use Rattle.evaluate.specs.Code.Turns.{turnOf}
-use Rattle.evaluate.proofs.Answers.{Passed, passed}
-use Rattle.records.specs.Rows.{flattened}
-use Rattle.records.specs.Answers.{ready}
+use Rattle.evaluate.proofs.Answers.{PassedBy, passed-by}
+use Rattle.records.specs.Answers.{check, ready}
 use Rattle.records.specs.Code.Drive.{firstBy, firstTurn}
-use Rattle.records.proofs.Flattened.{laid-check}
 
 -- a test's two ways
 pub taken : (b : Bool) → T b → b ≡ true
@@ -48,19 +47,19 @@ module _ (e : Evaluation) (begin : List ℕ) (Filling : List ℕ → Turn → Ty
   pub goes-on : evaluates e ≡ true → (room : List ℕ) (turn : Turn) → Filling room turn → Driven room turn
   goes-on on room turn f = record { running = λ _. f; resting = λ off. never (sym off ∙ on) }
 
-module _ (limit : ℕ) (w values : List ℕ) (cells : List Cell) (each allowance : ℕ) (begin : List ℕ) (small : limit ≤ 80000) (e : Evaluation) (is : e ≡ ready limit w values cells each allowance (length begin)) where
+module _ (admitted : Acceptance) (w values : List ℕ) (cells : List Cell) (each allowance : ℕ) (begin : List ℕ) (sound : accepts admitted ≡ true → WellFormed 80000 w) (e : Evaluation) (is : e ≡ ready admitted w values cells each allowance (length begin)) where
   module _ (on : evaluates e ≡ true) where
-    left : Passed limit w values (flattened cells) each allowance (length begin)
-    left = passed limit w values (flattened cells) each allowance (length begin) (ap (λ c. evaluates (readyBy limit w c each allowance (length begin))) (laid-check cells w values) ∙ sym (ap evaluates is) ∙ on)
+    left : PassedBy w admitted (check w values cells) each allowance (length begin)
+    left = passed-by w admitted (check w values cells) each allowance (length begin) (sym (ap evaluates is) ∙ on)
 
     pub formed : WellFormed 80000 w
-    formed = wider limit 80000 w small (admission-sound limit w (left .admitted))
+    formed = sound (ap accepts (left .admitted))
 
     pub long : terms w * each ≤ length begin
     long = left .long
 
     pub some : 0 < terms w
-    some = admission-sound limit w (left .admitted) .some
+    some = formed .some
 
   -- so many terms are run
   module _ (n : ℕ) (is-n : n ≡ cond (evaluates e) (terms w) 0) where

@@ -8,6 +8,7 @@ use native.Mathlib.Omega.{arith}
 use lib.ListN.{length, take, drop}
 use Rattle.ops.proofs.Booleans.{never}
 use Rattle.table.specs.Terms.{terms}
+use Rattle.table.specs.Admission.{admissionWithin, accepts}
 use Rattle.table.specs.WellFormed.{WellFormed}
 use Rattle.setting.specs.declared.cells.Cell.{Cell}
 use Rattle.setting.specs.Cells.{lookFrom}
@@ -23,6 +24,7 @@ use Rattle.evaluate.proofs.Fills as fills
 use Rattle.records.specs.Rows.{recordAt}
 use Rattle.records.specs.Answers.{inRecords, evaluation, evaluationRoom}
 use Rattle.records.specs.Code.Drive.{firstTurn}
+use Rattle.records.proofs.Readiness.{formed as admitted-formed}
 use Rattle.records.proofs.Driving as driving
 
 filled-room : (e : Evaluation) (w : List ℕ) (I : Interpretation) (room : List ℕ) → evaluates e ≡ true → numbers w I (terms w) ++ drop (terms w) room ≡ roomIn e w I room
@@ -33,13 +35,16 @@ kept-room : (e : Evaluation) (w : List ℕ) (I : Interpretation) (room : List �
 kept-room (Evaluated s) w I room h = never (sym h)
 kept-room (NotEvaluated r) w I room h = refl
 
+sound : (w : List ℕ) → accepts (admissionWithin 80000 w) ≡ true → WellFormed 80000 w
+sound w = admitted-formed w (admissionWithin 80000 w) refl
+
 module _ (w values : List ℕ) (cells : List Cell) (allowance : ℕ) (begin : List ℕ) (e : Evaluation) (is : e ≡ evaluation w values cells allowance (length begin)) where
   pub formed : evaluates e ≡ true → WellFormed 80000 w
-  formed = driving.formed 80000 w values cells 1 allowance begin (omega arith) e is
+  formed = driving.formed (admissionWithin 80000 w) w values cells 1 allowance begin (sound w) e is
 
   module _ (n : ℕ) (is-n : n ≡ cond (evaluates e) (terms w) 0) where
     pub formed-some : 0 < n → WellFormed 80000 w
-    formed-some b = formed (driving.counted 80000 w values cells 1 allowance begin (omega arith) e is n is-n b)
+    formed-some b = formed (driving.counted (admissionWithin 80000 w) w values cells 1 allowance begin (sound w) e is n is-n b)
 
     abbrev Filling : List ℕ → Turn → Type 0
     Filling = fills.Filling w values (recordAt cells) (length cells) n begin
@@ -48,14 +53,14 @@ module _ (w values : List ℕ) (cells : List Cell) (allowance : ℕ) (begin : Li
     Driven = driving.Driven e begin Filling
 
     pub started : (turn : Turn) → turn ≡ firstTurn w values (length cells) n → Driven begin turn
-    started turn first = driving.started 80000 w values cells 1 allowance begin (omega arith) e is n is-n Filling turn first (fills.started w values (recordAt cells) (length cells) n begin turn)
+    started turn first = driving.started (admissionWithin 80000 w) w values cells 1 allowance begin (sound w) e is n is-n Filling turn first (fills.started w values (recordAt cells) (length cells) n begin turn)
 
     module _ (on : evaluates e ≡ true) where
       all : n ≡ terms w
-      all = driving.all 80000 w values cells 1 allowance begin (omega arith) e is n is-n on
+      all = driving.all (admissionWithin 80000 w) w values cells 1 allowance begin (sound w) e is n is-n on
 
       enough : n ≤ length begin
-      enough = omega (arith, all, driving.long 80000 w values cells 1 allowance begin (omega arith) e is on)
+      enough = omega (arith, all, driving.long (admissionWithin 80000 w) w values cells 1 allowance begin (sound w) e is on)
 
     module _ (room : List ℕ) (turn : Turn) (h : Driven room turn) where
       same-by : (b : Bool) → evaluates e ≡ b → length room ≡ length begin

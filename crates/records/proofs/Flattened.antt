@@ -5,13 +5,14 @@ use mathlib.Core.List.{List, [], _∷_}
 use Prim.Native.Nat.{ℕ, zero, suc, _+_, _*_, _%_}
 use native.Mathlib.Omega.{arith}
 use lib.ListN.{length}
+use Rattle.table.specs.Admission.{admissionWithin}
 use Rattle.setting.specs.declared.cells.Cell.{Cell}
 use Rattle.setting.specs.Cells as flat
 use Rattle.setting.specs.Check as checks
 use Rattle.setting.specs.Interpretation.{interpret}
 use Rattle.evaluate.specs.Evaluation as evaluates
 use Rattle.evaluate.proofs.UnusedSlots.{unused-unevaluated}
-use Rattle.judge.specs.Conditions.{ownMarks}
+use Rattle.sheets.specs.Marks.{marksUnder}
 use Rattle.judge.specs.Judgement as judges
 use Rattle.judge.proofs.Answers.{unused-unjudged}
 use Rattle.records.specs.Rows.{recordAt, look, flattened}
@@ -55,24 +56,23 @@ module _ (cells : List Cell) where
   unfolding checks.check
   laid-check w values = rw laid-whole (λ i. checks.checkCells w values (laid-cells i) (laid-count i))
 
-module _ (w values : List ℕ) (cells : List Cell) (allowance : ℕ) where
-  pub equal-evaluation : (room : ℕ) → evaluation w values cells allowance room ≡ evaluates.evaluation w values (flattened cells) allowance room
-  equal-evaluation room = ap (λ c. evaluates.readyBy 80000 w c 1 allowance room) (sym (laid-check cells w values))
+pub equal-evaluation : (w values : List ℕ) (cells : List Cell) (allowance room : ℕ) → evaluation w values cells allowance room ≡ evaluates.evaluation w values (flattened cells) allowance room
+equal-evaluation w values cells allowance room = ap (λ c. evaluates.readyBy w (admissionWithin 80000 w) c 1 allowance room) (sym (laid-check cells w values))
 
-  pub equal-judgement : (room : ℕ) → judgement w values cells allowance room ≡ judges.judgement w values (flattened cells) allowance room
-  equal-judgement room =
-      ap₂ (λ c I. judges.verdict (evaluates.readyBy 512 w c 2 allowance room) w ownMarks I) (sym (laid-check cells w values)) (sym (laid-interpret cells values))
+pub equal-judgement : (w sheet values : List ℕ) (cells : List Cell) (allowance room : ℕ) → judgement w sheet values cells allowance room ≡ judges.judgement w sheet values (flattened cells) allowance room
+equal-judgement w sheet values cells allowance room =
+    ap₂ (λ c I. judges.verdict (evaluates.readyBy w (judges.admissionUnder w sheet) c 2 allowance room) w (marksUnder sheet) I) (sym (laid-check cells w values)) (sym (laid-interpret cells values))
 
 pub equal-answers : EqualAnswers
-equal-answers w values cells allowance room =
+equal-answers w sheet values cells allowance room =
     let answer = equal-evaluation w values cells allowance (length room) in
-    let verdict = equal-judgement w values cells allowance (length room) in
+    let verdict = equal-judgement w sheet values cells allowance (length room) in
     let setting = sym (laid-interpret cells values) in
     record {
       answer = answer;
       answer-room = λ i. evaluates.roomIn (answer i) w (setting i) room;
       verdict = verdict;
-      verdict-room = λ i. judges.roomIn (verdict i) w ownMarks (setting i) room;
+      verdict-room = λ i. judges.roomIn (verdict i) w (marksUnder sheet) (setting i) room;
     }
 
 -- Each row of whole cells is that of some records
@@ -89,11 +89,11 @@ whole-rows-are-laid (a ∷ b ∷ c ∷ cells) h =
 -- Values of slots that no variable uses are not looked at
 
 pub unused-unseen : UnusedUnseen
-unused-unseen w values values′ cells allowance room one =
-    let laid-first = equal-answers w values cells allowance room in
-    let laid-second = equal-answers w values′ cells allowance room in
+unused-unseen w sheet values values′ cells allowance room one =
+    let laid-first = equal-answers w sheet values cells allowance room in
+    let laid-second = equal-answers w sheet values′ cells allowance room in
     let evaluation = unused-unevaluated w values values′ (flattened cells) allowance room one in
-    let judgement = unused-unjudged w values values′ (flattened cells) allowance room one in
+    let judgement = unused-unjudged w sheet values values′ (flattened cells) allowance room one in
     record {
       answer = laid-first .answer ∙ evaluation .answer ∙ sym (laid-second .answer);
       answer-room = laid-first .answer-room ∙ evaluation .left ∙ sym (laid-second .answer-room);

@@ -1,71 +1,65 @@
--- The run of judging over a row of records, turn by turn, and its verdict.
+-- The run of judging over a row of records, by any marks, turn by turn, and its verdict.
 -- Assumes nothing.
-use mathlib.Core.Path.{_≡_, refl, sym, ap, ap₂, _∙_}
+use mathlib.Core.Path.{_≡_, refl, ap, ap₂, _∙_}
 use mathlib.Core.Bool.{Bool, true, false, cond}
 use mathlib.Core.List.{List, _++_}
 use Prim.Native.Nat.{ℕ, _+_, _-_, _*_, _≤_, _<_}
 use native.Mathlib.Omega.{arith}
-use lib.ListN.{length, take, drop}
-use Rattle.ops.proofs.Booleans.{never}
+use lib.ListN.{length, drop}
+use Rattle.table.specs.declared.Acceptance.{Acceptance}
+use Rattle.table.specs.declared.words.Term.{Term}
 use Rattle.table.specs.Terms.{terms}
+use Rattle.table.specs.Admission.{accepts}
 use Rattle.table.specs.WellFormed.{WellFormed}
 use Rattle.setting.specs.declared.cells.Cell.{Cell}
 use Rattle.setting.specs.Cells.{lookFrom}
 use Rattle.setting.specs.Interpretation.{Interpretation}
 use Rattle.evaluate.specs.declared.Evaluation.{Evaluation}
-use Rattle.evaluate.specs.declared.Evaluation.the-variants.{Evaluated, NotEvaluated}
 use Rattle.evaluate.specs.declared.turns.Turn.{Turn}
 use Rattle.evaluate.specs.Evaluation.{evaluates}
 use Rattle.evaluate.specs.Values.{numbers}
 use Rattle.evaluate.specs.Code.Turns.{nextRead, onward}
 use Rattle.evaluate.proofs.Runs.{count-here, going, ended}
-use Rattle.judge.specs.Conditions.{ownMarks, truths}
+use Rattle.judge.specs.Conditions.{truths}
 use Rattle.judge.specs.Judgement.{ruleIn, ruleCondition, verdictBy, roomIn}
 use Rattle.judge.specs.Code.Labelled.{noted}
 use Rattle.judge.specs.Code.Turns.{turnHere}
 use Rattle.judge.proofs.Fills as fills
 use Rattle.judge.proofs.Rooms.{laid-all}
-use Rattle.judge.proofs.Verdicts.{stands, rule-read, condition-read}
+use Rattle.judge.proofs.Verdicts.{stands, room-kept, room-filled, rule-read, condition-read}
 use Rattle.records.specs.Rows.{recordAt}
-use Rattle.records.specs.Answers.{inRecords, ready, judgement, judgementRoom}
+use Rattle.records.specs.Answers.{inRecords, ready, judgementBy, roomBy}
 use Rattle.records.specs.Code.Drive.{firstTurn, verdictFrom}
 use Rattle.records.proofs.Driving as driving
 
-filled-room : (e : Evaluation) (a b : Bool) (w : List ℕ) (I : Interpretation) (room : List ℕ) → evaluates e ≡ true → numbers w I (terms w) ++ truths w ownMarks I (terms w) ++ drop (terms w * 2) room ≡ roomIn (verdictBy e a b) w ownMarks I room
-filled-room (Evaluated s) a b w I room h = refl
-filled-room (NotEvaluated r) a b w I room h = never h
-
-kept-room : (e : Evaluation) (a b : Bool) (w : List ℕ) (I : Interpretation) (room : List ℕ) → evaluates e ≡ false → room ≡ roomIn (verdictBy e a b) w ownMarks I room
-kept-room (Evaluated s) a b w I room h = never (sym h)
-kept-room (NotEvaluated r) a b w I room h = refl
-
-module _ (w values : List ℕ) (cells : List Cell) (allowance : ℕ) (begin : List ℕ) (e : Evaluation) (is : e ≡ ready 512 w values cells 2 allowance (length begin)) where
+module _ (marked : Term → Bool) (admitted : Acceptance) (w values : List ℕ) (cells : List Cell) (allowance : ℕ) (begin : List ℕ) (sound : accepts admitted ≡ true → WellFormed 80000 w) (e : Evaluation)
+    (is : e ≡ ready admitted w values cells 2 allowance (length begin)) where
   pub formed : evaluates e ≡ true → WellFormed 80000 w
-  formed = driving.formed 512 w values cells 2 allowance begin (omega arith) e is
+  formed = driving.formed admitted w values cells 2 allowance begin sound e is
 
   module _ (n : ℕ) (is-n : n ≡ cond (evaluates e) (terms w) 0) where
     pub formed-some : 0 < n → WellFormed 80000 w
-    formed-some b = formed (driving.counted 512 w values cells 2 allowance begin (omega arith) e is n is-n b)
+    formed-some b = formed (driving.counted admitted w values cells 2 allowance begin sound e is n is-n b)
 
     abbrev Filling : List ℕ → Turn → Type 0
-    Filling = fills.Filling w ownMarks values (recordAt cells) (length cells) n begin
+    Filling = fills.Filling w marked values (recordAt cells) (length cells) n begin
 
     abbrev pub Driven : List ℕ → Turn → Type 0
     Driven = driving.Driven e begin Filling
 
     pub started : (turn : Turn) → turn ≡ firstTurn w values (length cells) n → Driven begin turn
-    started turn first = driving.started 512 w values cells 2 allowance begin (omega arith) e is n is-n Filling turn first (fills.started w ownMarks values (recordAt cells) (length cells) n begin turn)
+    started turn first = driving.started admitted w values cells 2 allowance begin sound e is n is-n Filling turn first (fills.started w marked values (recordAt cells) (length cells) n begin turn)
 
     module _ (on : evaluates e ≡ true) where
       all : n ≡ terms w
-      all = driving.all 512 w values cells 2 allowance begin (omega arith) e is n is-n on
+      all = driving.all admitted w values cells 2 allowance begin sound e is n is-n on
 
       enough : n + n ≤ length begin
-      enough = omega (arith, all, driving.long 512 w values cells 2 allowance begin (omega arith) e is on)
+      enough = omega (arith, all, driving.long admitted w values cells 2 allowance begin sound e is on)
 
     module _ (room : List ℕ) (turn : Turn) (h : Driven room turn) where
       same-by : (b : Bool) → evaluates e ≡ b → length room ≡ length begin
-      same-by true on = fills.same-length w ownMarks values (recordAt cells) (length cells) n begin 80000 (formed on) (all on) (enough on) room turn (h .running on)
+      same-by true on = fills.same-length w marked values (recordAt cells) (length cells) n begin 80000 (formed on) (all on) (enough on) room turn (h .running on)
       same-by false off = ap length (h .resting off .0)
 
       pub same-length : length room ≡ length begin
@@ -83,51 +77,51 @@ module _ (w values : List ℕ) (cells : List Cell) (allowance : ℕ) (begin : Li
         every = all runs
 
         pub most : turn .count ≤ length cells
-        most = count-here n (fills.filled w ownMarks values (recordAt cells) (length cells) n begin) (fills.asking w ownMarks values (recordAt cells) (length cells) n begin) (length cells) (fills.asks w ownMarks values (recordAt cells) (length cells) n begin) room turn (h .running runs)
+        most = count-here n (fills.filled w marked values (recordAt cells) (length cells) n begin) (fills.asking w marked values (recordAt cells) (length cells) n begin) (length cells) (fills.asks w marked values (recordAt cells) (length cells) n begin) room turn (h .running runs)
 
         inside : turn .at < n
-        inside = going n (fills.filled w ownMarks values (recordAt cells) (length cells) n begin) (fills.asking w ownMarks values (recordAt cells) (length cells) n begin) (length cells) (fills.asks w ownMarks values (recordAt cells) (length cells) n begin) room turn (h .running runs) on
+        inside = going n (fills.filled w marked values (recordAt cells) (length cells) n begin) (fills.asking w marked values (recordAt cells) (length cells) n begin) (length cells) (fills.asks w marked values (recordAt cells) (length cells) n begin) room turn (h .running runs) on
 
         pub place : (turn .at < n) × (n + n ≤ length room)
         place = (inside, omega (arith, enough runs, same-length))
 
         pub turned : (answer : ℕ) → answer ≡ lookFrom (recordAt cells) (turn .count) 0 (turn .slot) (turn .index) (turn .other) → (next : List ℕ) (after : Turn)
             → after ≡ turnHere w values (length cells) n next (nextRead w n (turn .at + 1))
-            → next ≡ onward w (noted w ownMarks values n 0) n (noted w ownMarks values n answer room (turn .at)) (turn .at + 1) → Driven next after × (n - after .at < n - turn .at)
+            → next ≡ onward w (noted w marked values n 0) n (noted w marked values n answer room (turn .at)) (turn .at + 1) → Driven next after × (n - after .at < n - turn .at)
         turned answer answered next after t e′ =
-            let f = fills.turned w ownMarks values (recordAt cells) (length cells) n begin 80000 well (all runs) (enough runs) room turn (h .running runs) on answer answered next after e′ t in
+            let f = fills.turned w marked values (recordAt cells) (length cells) n begin 80000 well (all runs) (enough runs) room turn (h .running runs) on answer answered next after e′ t in
             (driving.goes-on e begin Filling runs next after (f .0), omega (arith, f .1, inside))
 
       -- the loop is left
       abbrev I : Interpretation
       I = inRecords values cells
 
-      whole : evaluates e ≡ true → turn .pending ≡ false → room ≡ numbers w I (terms w) ++ truths w ownMarks I (terms w) ++ drop (terms w * 2) begin
+      whole : evaluates e ≡ true → turn .pending ≡ false → room ≡ numbers w I (terms w) ++ truths w marked I (terms w) ++ drop (terms w * 2) begin
       whole on off =
-          ended n (fills.filled w ownMarks values (recordAt cells) (length cells) n begin) (fills.asking w ownMarks values (recordAt cells) (length cells) n begin) (length cells) (fills.asks w ownMarks values (recordAt cells) (length cells) n begin) room turn (h .running on) off
-          ∙ laid-all (numbers w I n) (truths w ownMarks I n) n begin (enough on)
-          ∙ ap (λ (k : ℕ). numbers w I k ++ truths w ownMarks I k ++ drop (k * 2) begin) (all on)
+          ended n (fills.filled w marked values (recordAt cells) (length cells) n begin) (fills.asking w marked values (recordAt cells) (length cells) n begin) (length cells) (fills.asks w marked values (recordAt cells) (length cells) n begin) room turn (h .running on) off
+          ∙ laid-all (numbers w I n) (truths w marked I n) n begin (enough on)
+          ∙ ap (λ (k : ℕ). numbers w I k ++ truths w marked I k ++ drop (k * 2) begin) (all on)
 
       -- what the verdict asks of the room
       pub rows-there : evaluates e ≡ true → (0 < n) × (n * 2 ≤ length room)
       rows-there on =
-          let some = driving.some 512 w values cells 2 allowance begin (omega arith) e is on in
+          let some = driving.some admitted w values cells 2 allowance begin sound e is on in
           (omega (arith, all on, some), omega (arith, enough on, same-length))
 
-      verdict-by : (b : Bool) → evaluates e ≡ b → turn .pending ≡ false → verdictFrom e n room ≡ verdictBy e (ruleIn w I) (ruleCondition w ownMarks I)
+      verdict-by : (b : Bool) → evaluates e ≡ b → turn .pending ≡ false → verdictFrom e n room ≡ verdictBy e (ruleIn w I) (ruleCondition w marked I)
       verdict-by true on off =
-          let some = driving.some 512 w values cells 2 allowance begin (omega arith) e is on in
+          let some = driving.some admitted w values cells 2 allowance begin sound e is on in
           let rest = drop (terms w * 2) begin in
           ap₂ (λ (k : ℕ) (l : List ℕ). verdictFrom e k l) (all on) (whole on off)
-          ∙ ap₂ (λ (x y : Bool). verdictBy e x y) (rule-read w ownMarks I rest some) (condition-read w ownMarks I rest some)
+          ∙ ap₂ (λ (x y : Bool). verdictBy e x y) (rule-read w marked I rest some) (condition-read w marked I rest some)
       verdict-by false refused off = stands e _ _ _ _ refused
 
-      pub verdict-is : turn .pending ≡ false → verdictFrom e n room ≡ judgement w values cells allowance (length begin)
-      verdict-is off = verdict-by (evaluates e) refl off ∙ ap (λ (x : Evaluation). verdictBy x (ruleIn w I) (ruleCondition w ownMarks I)) is
+      pub verdict-is : turn .pending ≡ false → verdictFrom e n room ≡ judgementBy marked admitted w values cells allowance (length begin)
+      verdict-is off = verdict-by (evaluates e) refl off ∙ ap (λ (x : Evaluation). verdictBy x (ruleIn w I) (ruleCondition w marked I)) is
 
-      left-by : (b : Bool) → evaluates e ≡ b → (x y : Bool) → turn .pending ≡ false → room ≡ roomIn (verdictBy e x y) w ownMarks I begin
-      left-by true on x y off = whole on off ∙ filled-room e x y w I begin on
-      left-by false refused x y off = h .resting refused .0 ∙ kept-room e x y w I begin refused
+      left-by : (b : Bool) → evaluates e ≡ b → (x y : Bool) → turn .pending ≡ false → room ≡ roomIn (verdictBy e x y) w marked I begin
+      left-by true on x y off = whole on off ∙ room-filled e x y w marked I begin on
+      left-by false refused x y off = h .resting refused .0 ∙ room-kept e x y w marked I begin refused
 
-      pub left : turn .pending ≡ false → room ≡ judgementRoom (verdictFrom e n room) w values cells begin
+      pub left : turn .pending ≡ false → room ≡ roomBy marked (verdictFrom e n room) w values cells begin
       left off = left-by (evaluates e) refl _ _ off

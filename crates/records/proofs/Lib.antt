@@ -10,4 +10,5 @@ pub mod Again
 pub mod Driving
 pub mod Evaluating
 pub mod Judging
+pub mod Sheeted
 pub mod Pairs

@@ -12,7 +12,7 @@ use Rattle.table.specs.Terms.{terms, termAt}
 use Rattle.table.specs.Admission.{andThen, admissionWithin, scan, accepts}
 use Rattle.evaluate.specs.declared.Evaluation.the-variants.{NotEvaluated}
 use Rattle.table.specs.WellFormed.{WellFormed}
-use Rattle.table.proofs.Admitted.{admission-sound, wider}
+use Rattle.table.proofs.Admitted.{admission-sound}
 use Rattle.setting.specs.declared.cells.Cell.{Cell}
 use Rattle.setting.specs.Check.{variableFault, cellFault}
 use Rattle.evaluate.specs.declared.Evaluation.{Evaluation}
@@ -21,10 +21,11 @@ use Rattle.evaluate.proofs.Answers.{is-admitted}
 use Rattle.records.specs.Rows.{recordAt}
 use Rattle.records.specs.Answers.{ready}
 
--- the table is well-formed where it is admitted, and no cells are counted where it is not
-pub formed : (limit : ℕ) (w : List ℕ) (a : Acceptance) → limit ≤ 80000 → a ≡ admissionWithin limit w → accepts a ≡ true → WellFormed 80000 w
-formed limit w a small e h = wider limit 80000 w small (admission-sound limit w (sym e ∙ is-admitted a h))
+-- a table that is admitted is well-formed
+pub formed : (w : List ℕ) (a : Acceptance) → a ≡ admissionWithin 80000 w → accepts a ≡ true → WellFormed 80000 w
+formed w a e h = admission-sound 80000 w (sym e ∙ is-admitted a h)
 
+-- no cells are counted where it is not
 counted : (a : Acceptance) (n : ℕ) → 0 < cond (accepts a) n 0 → accepts a ≡ true
 counted Accepted n b = refl
 counted (Refused r) n b = absurd (none b)
@@ -46,11 +47,9 @@ uncounted : (a : Acceptance) (n : ℕ) (rest : ℕ → Evaluation) → andThen N
 uncounted Accepted n rest = refl
 uncounted (Refused r) n rest = refl
 
-pub ready-is : (limit : ℕ) (w values : List ℕ) (cells : List Cell) (each allowance room : ℕ) (a checked : Acceptance) (count : ℕ) → a ≡ admissionWithin limit w → count ≡ cond (accepts a) (length cells) 0
-    → checked ≡ scan (λ k. cellFault w (recordAt cells k)) count 0 Accepted
-    → andThen NotEvaluated a (andThen NotEvaluated (scan (λ k. variableFault values (termAt w k)) (terms w) 0 checked) (afford w each allowance room)) ≡ ready limit w values cells each allowance room
-ready-is limit w values cells each allowance room a checked count is-a is-count is-checked =
+pub ready-is : (w values : List ℕ) (cells : List Cell) (each allowance room : ℕ) (a checked : Acceptance) (count : ℕ) → count ≡ cond (accepts a) (length cells) 0 → checked ≡ scan (λ k. cellFault w (recordAt cells k)) count 0 Accepted
+    → andThen NotEvaluated a (andThen NotEvaluated (scan (λ k. variableFault values (termAt w k)) (terms w) 0 checked) (afford w each allowance room)) ≡ ready a w values cells each allowance room
+ready-is w values cells each allowance room a checked count is-count is-checked =
     let rest : ℕ → Evaluation = λ n. andThen NotEvaluated (scan (λ k. variableFault values (termAt w k)) (terms w) 0 (scan (λ k. cellFault w (recordAt cells k)) n 0 Accepted)) (afford w each allowance room) in
     ap (λ (c : Acceptance). andThen NotEvaluated a (andThen NotEvaluated (scan (λ k. variableFault values (termAt w k)) (terms w) 0 c) (afford w each allowance room))) (is-checked ∙ ap (λ (n : ℕ). scan (λ k. cellFault w (recordAt cells k)) n 0 Accepted) is-count)
     ∙ uncounted a (length cells) rest
-    ∙ ap (λ (x : Acceptance). andThen NotEvaluated x (rest (length cells))) is-a

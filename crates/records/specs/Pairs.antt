@@ -9,7 +9,7 @@ use Rattle.setting.specs.Cells as flat
 use Rattle.setting.specs.Interpretation.{interpret, AgreeUnmarked}
 use Rattle.judge.specs.declared.Verdict.{Verdict}
 use Rattle.judge.specs.declared.Judgement.the-variants.{Judged}
-use Rattle.judge.specs.Conditions.{ownMarks}
+use Rattle.sheets.specs.Marks.{marksUnder}
 use Rattle.judge.specs.Judgement as judges
 use Rattle.judge.specs.Demand3.{SameVerdict}
 use Rattle.judge.specs.Pairs.{copied}
@@ -34,12 +34,12 @@ short = 7 ∷ 0 ∷ 1 ∷ []
 abbrev pub long : List ℕ
 long = 9 ∷ 200 ∷ 1 ∷ 4 ∷ []
 
--- Both are judged, they agree, and so demand 3 speaks of them: of two rows of records, and of one beside a row of numbers.
+-- Both are judged under the empty sheet, they agree, and so demand 3 speaks of them: of two rows of records, and of one beside a row of numbers.
 pub record Compared : Type 0 where
-  pub first : judgement copied short few 9 99 ≡ Judged passed
-  pub second : judgement copied long many 9 99 ≡ Judged passed
-  pub agree : AgreeUnmarked copied ownMarks (inRecords short few) (inRecords long many)
+  pub first : judgement copied [] short few 9 99 ≡ Judged passed
+  pub second : judgement copied [] long many 9 99 ≡ Judged passed
+  pub agree : AgreeUnmarked copied (marksUnder []) (inRecords short few) (inRecords long many)
   pub same : SameVerdict passed passed
-  pub flatly : judges.judgement copied short (0 ∷ 1 ∷ 42 ∷ []) 9 99 ≡ Judged passed
-  pub agree-across : AgreeUnmarked copied ownMarks (inRecords long many) (interpret short (flat.look (0 ∷ 1 ∷ 42 ∷ [])))
+  pub flatly : judges.judgement copied [] short (0 ∷ 1 ∷ 42 ∷ []) 9 99 ≡ Judged passed
+  pub agree-across : AgreeUnmarked copied (marksUnder []) (inRecords long many) (interpret short (flat.look (0 ∷ 1 ∷ 42 ∷ [])))
   pub across : SameVerdict passed passed

@@ -81,22 +81,22 @@ fn afforded(
     evaluate::afford(table, each, allowance, room)
 }
 
-// The first refusal, or what a run spends: 1 to 10 by a limit, 12 to 15, then 22 and 23 for each numbers a term.
+// The first refusal, or what a run spends, from what admission says: then 12 to 15, then 22 and 23 for each numbers a
+// term.
 pub fn ready(
     table: &[u32],
-    limit: u32,
+    admitted: Acceptance,
     values: &[u32],
     cells: &[Cell],
     each: u32,
     allowance: u64,
     room: usize,
 ) -> Evaluation
-    requires { ⌜ limit ≤ 80000 ⌝ }
+    requires { ⌜ (accepts admitted ≡ true → WellFormed 80000 (now table)) ⌝ }
     requires { ⌜ each ≤ 8 ⌝ }
     ensures { λ r. ⌜ r
-        ≡ ready limit (now (table .entry)) (now (values .entry)) (now (cells .entry)) each allowance room ⌝ }
+        ≡ ready admitted (now (table .entry)) (now (values .entry)) (now (cells .entry)) each allowance room ⌝ }
 {
-    let admitted = admission::admit_within(table, limit);
     let count = count_when(admitted, cells.len());
     let entries = entries_when(table, count);
     let checked = cells_checked(table, &entries, cells, count);

@@ -10,7 +10,7 @@ use Rattle.ops.specs.Signed.{greatest, least}
 use Rattle.table.specs.declared.words.Term.{Term}
 use Rattle.table.specs.Terms.{terms}
 use Rattle.table.specs.Code.Writing.{placed}
-use Rattle.judge.specs.Conditions.{ownMarks}
+use Rattle.sheets.specs.Marks.{ownMarks}
 use Rattle.groups.specs.declared.groups.Written.{Written}
 use Rattle.groups.specs.Groups.{boundsGroup}
 use Rattle.groups.specs.Plans.{lastOf, next, plans, planAt}

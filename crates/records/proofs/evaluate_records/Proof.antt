@@ -1,7 +1,7 @@
--- `records::evaluate_records` meets its contract: a walk of its MIR, by hand: three calls, then a loop whose turn calls `look` on the row and `step` on the work, which is lent again for the call.
+-- `records::evaluate_records` meets its contract: a walk of its MIR, by hand: four calls, then a loop whose turn calls `look` on the row and `step` on the work, which is lent again for the call.
 -- The loop's variant is the work, the turn, and what is known of them (`Driven`): each turn is of a later term.
 -- Assumes nothing.
-use mathlib.Core.Path.{_≡_, refl, sym, ap, subst}
+use mathlib.Core.Path.{_≡_, refl, sym, ap, subst, _∙_}
 use Prim.Native.Nat.{ℕ, _<_, _≤_, _+_, _-_, _^_}
 use native.Mathlib.Omega.{arith}
 use mathlib.Core.Bool.{true, cond}
@@ -46,8 +46,16 @@ use denote.Triple.Table.{entered, cited}
 use denote.Triple.Walked.{says, Stays, stay-dropped, stay-slice, walkOf, goes-dropped, goes-slice, Walks, ends-at, walked, walk-meets}
 use denote.Triple.Clauses.{ensured, lasts}
 use denote.Exit.{yes}
+use Rattle.table.specs.declared.Acceptance.{Acceptance}
 use Rattle.table.specs.Terms.{terms}
+use Rattle.table.specs.Admission.{admissionWithin, accepts}
 use Rattle.table.specs.WellFormed.{WellFormed}
+use Rattle.table.proofs.Acceptance as E
+use Rattle.table.proofs.Acceptance.Laws as E′
+use Rattle.admission.proofs.admit_within as admit-within
+use Rattle.admission.proofs.admit_within.Symbol as admit-within-def
+use Rattle.admission.proofs.admit_within.Symbol.{name as #admit-within}
+use Rattle.admission.proofs.admit_within.Met as admit-within-thm
 use Rattle.setting.specs.declared.cells.Cell.{Cell}
 use Rattle.setting.specs.Cells.{lookFrom}
 use Rattle.setting.proofs.cells.Cell as T
@@ -64,10 +72,12 @@ use Rattle.evaluate.proofs.step.Symbol as step-def
 use Rattle.evaluate.proofs.step.Symbol.{name as #step}
 use Rattle.evaluate.proofs.step.Met as step-thm
 use Rattle.records.specs.Rows.{recordAt}
+use Rattle.records.specs.Answers as answers
 use Rattle.records.specs.Answers.{evaluation, evaluationRoom}
 use Rattle.records.specs.Code.Drive.{firstTurn}
 use Rattle.records.proofs.Again.{LentAgain, lends-again, comes-back}
 use Rattle.records.proofs.Facts.{two, three, tells, together, big-lit}
+use Rattle.records.proofs.Readiness.{formed}
 use Rattle.records.proofs.Driving.{taken, passed-over}
 use Rattle.records.proofs.Evaluating as drive
 use Rattle.records.proofs.rows.look as looking
@@ -98,13 +108,16 @@ stayed = (stay-dropped (shrSliceOf (0 ∷ []) tt (plain (λ _. u32))) yes, (stay
 
 -- what follows the test, which the generated MIR has under no name
 abbrev more : Body
-more = seq (call #look (copy (place 3 []) ∷ copy (place 9 (field 2 ∷ [])) ∷ copy (place 9 (field 3 ∷ [])) ∷ copy (place 9 (field 4 ∷ [])) ∷ copy (place 9 (field 5 ∷ [])) ∷ []) (place 10 []))
-    (seq (assign (place 13 []) (addrOf (place 5 (field 0 ∷ deref (tyInt w32) ∷ []))))
-    (seq (assign (place 14 []) (aggregate (copy (place 13 []) ∷ copy (place 5 (field 1 ∷ [])) ∷ [])))
-    (call #step (copy (place 1 []) ∷ copy (place 2 []) ∷ copy (place 7 []) ∷ copy (place 8 []) ∷ copy (place 14 []) ∷ copy (place 9 []) ∷ copy (place 10 []) ∷ []) (place 9 []))))
+more = seq (call #look (copy (place 3 []) ∷ copy (place 10 (field 2 ∷ [])) ∷ copy (place 10 (field 3 ∷ [])) ∷ copy (place 10 (field 4 ∷ [])) ∷ copy (place 10 (field 5 ∷ [])) ∷ []) (place 11 []))
+    (seq (assign (place 14 []) (addrOf (place 5 (field 0 ∷ deref (tyInt w32) ∷ []))))
+    (seq (assign (place 15 []) (aggregate (copy (place 14 []) ∷ copy (place 5 (field 1 ∷ [])) ∷ [])))
+    (call #step (copy (place 1 []) ∷ copy (place 2 []) ∷ copy (place 8 []) ∷ copy (place 9 []) ∷ copy (place 15 []) ∷ copy (place 10 []) ∷ copy (place 11 []) ∷ []) (place 10 []))))
 
 module _ {M : Type 1} (𝓤 : URA M) (H : Heap 𝓤) (A : Atoms 𝓤) (mem : Memory → SProp 𝓤) (run : Routine → Fun 𝓤) where
   -- the contracts that the proof cites
+  abbrev AdmitWithin : Contract 𝓤
+  AdmitWithin = tripleOf 𝓤 H A admit-within.signature (admit-within.spec 𝓤 H A mem run)
+
   abbrev Ready : Contract 𝓤
   Ready = tripleOf 𝓤 H A ready.signature (ready.spec 𝓤 H A mem run)
 
@@ -122,6 +135,7 @@ module _ {M : Type 1} (𝓤 : URA M) (H : Heap 𝓤) (A : Atoms 𝓤) (mem : Mem
 
   -- the callees
   pub record Known (𝓣 : Tables 𝓤 H) : Type 1 where
+    pub admit-within : Triple 𝓤 (𝓣 .C #admit-within) AdmitWithin
     pub ready : Triple 𝓤 (𝓣 .C #ready) Ready
     pub terms-when : Triple 𝓤 (𝓣 .C #terms-when) TermsWhen
     pub first-turn : Triple 𝓤 (𝓣 .C #first-turn) FirstTurn
@@ -193,21 +207,34 @@ module _ {M : Type 1} (𝓤 : URA M) (H : Heap 𝓤) (A : Atoms 𝓤) (W : Given
       owned ! Ev.the-row (Is Ev.the-row) (LE.makes Ev.the-type Ev′.the-plain 𝓤 H A) e _ low $ done !
 
   -- ---- what each callee's triple binds outside, what it asks, and what it says
-  abbrev asked : RefT (List ℕ) × (ℕ × (RefT (List ℕ) × (RefT (List Cell) × (ℕ × (ℕ × (ℕ × Unit {0}))))))
-  asked = (x₀, (80000, (x₁, (x₂, (1, (allowance, (length ws, tt)))))))
+  abbrev to-admit : AdmitWithin 𝓤 H A mem run .Ghost
+  to-admit = (((κ₀, tt), (q₀, tt), tt, (x₀, (80000, tt)), (v₀ ∷ [], (vint w32 80000 ∷ [], tt))), tt)
 
-  abbrev to-ready : Ready 𝓤 H A mem run .Ghost
-  to-ready = (((κ₀, (κ₁, (κ₂, tt))), (q₀, (q₁, (q₂, tt))), tt, asked, (v₀ ∷ [], (vint w32 80000 ∷ [], (v₁ ∷ [], (v₂ ∷ [], (vint w32 1 ∷ [], (vint w64 allowance ∷ [], (vint w64 (length ws) ∷ [], tt)))))))), tt)
+  goes-admit : ent 𝓤 (⋆ 𝓤 H A (‵ (flft κ₀ q₀) ∷ ‵ Own₀ ∷ [])) (AdmitWithin 𝓤 H A mem run .pre to-admit)
+  goes-admit = qed W (‵ (flft κ₀ q₀) ∷ ‵ Own₀ ∷ []) ∵ nothing ! $ move ! (1 ∷ 0 ∷ []) $ join ! $ nothing ! $ owned ! u32 (Is u32) (uint-makes 𝓤 H A W w32) 80000 _ (refl, lit< tt) $ fjoin ! $ move ! (2 ∷ 0 ∷ []) $ fjoin ! $ move ! (1 ∷ 0 ∷ []) $ join ! $ frame ! $ done !
 
-  goes-ready : ent 𝓤 (⋆ 𝓤 H A ((‵ (flft κ₀ q₀) ⊛ (‵ (flft κ₁ q₁) ⊛ ‵ (flft κ₂ q₂))) ∷ (‵ Own₀ ⊛ (‵ Own₁ ⊛ ‵ Own₂)) ∷ [])) (Ready 𝓤 H A mem run .pre to-ready)
-  goes-ready =
-      qed W ((‵ (flft κ₀ q₀) ⊛ (‵ (flft κ₁ q₁) ⊛ ‵ (flft κ₂ q₂))) ∷ (‵ Own₀ ⊛ (‵ Own₁ ⊛ ‵ Own₂)) ∷ []) ∵ tells ! (two 𝓤 (omega arith) (omega arith)) $
+  said-admit : (r : Acceptance) → ent 𝓤 (ensured 𝓤 H A admit-within.ended (admit-within.clauses 𝓤 H A mem run) (κ₀, tt) (x₀, (80000, tt)) tt r) (fact 𝓤 (r ≡ admissionWithin 80000 w))
+  said-admit r = exE 𝓤 _ (λ zs. snd∗ 𝓤 (sem 𝓤 H A (lasts admit-within.ended (κ₀, tt) (x₀, (80000, tt)) zs)) (fact 𝓤 (r ≡ admissionWithin 80000 w)))
+
+  abbrev asked : Acceptance → RefT (List ℕ) × (Acceptance × (RefT (List ℕ) × (RefT (List Cell) × (ℕ × (ℕ × (ℕ × Unit {0}))))))
+  asked a = (x₀, (a, (x₁, (x₂, (1, (allowance, (length ws, tt)))))))
+
+  abbrev to-ready : Acceptance → Ready 𝓤 H A mem run .Ghost
+  to-ready a = (((κ₀, (κ₁, (κ₂, tt))), (q₀, (q₁, (q₂, tt))), tt, asked a, (v₀ ∷ [], (E′.lowered a ∷ [], (v₁ ∷ [], (v₂ ∷ [], (vint w32 1 ∷ [], (vint w64 allowance ∷ [], (vint w64 (length ws) ∷ [], tt)))))))), tt)
+
+  goes-ready : (a : Acceptance) → Is E.the-row a (E′.lowered a ∷ []) → (accepts a ≡ true → WellFormed 80000 w)
+      → ent 𝓤 (⋆ 𝓤 H A ((‵ (flft κ₀ q₀) ⊛ (‵ (flft κ₁ q₁) ⊛ ‵ (flft κ₂ q₂))) ∷ (‵ Own₀ ⊛ (‵ Own₁ ⊛ ‵ Own₂)) ∷ [])) (Ready 𝓤 H A mem run .pre (to-ready a))
+  goes-ready a low-a f =
+      qed W ((‵ (flft κ₀ q₀) ⊛ (‵ (flft κ₁ q₁) ⊛ ‵ (flft κ₂ q₂))) ∷ (‵ Own₀ ⊛ (‵ Own₁ ⊛ ‵ Own₂)) ∷ []) ∵ tells ! (two 𝓤 f (omega arith)) $
       split ! $ move ! (1 ∷ []) $ split ! $ move ! (1 ∷ []) $ nothing ! $ move ! (1 ∷ 0 ∷ []) $ join ! $ move ! (1 ∷ 0 ∷ []) $ join ! $ move ! (1 ∷ 0 ∷ []) $ join ! $ frame ! $
       split ! $ move ! (1 ∷ []) $ split ! $ move ! (1 ∷ []) $ nothing ! $ owned ! usize (Is usize) (uint-makes 𝓤 H A W w64) (length ws) _ (refl, room .0) $ fjoin ! $ owned ! u64 (Is u64) (uint-makes 𝓤 H A W w64) allowance _ (refl, fa) $ fjoin ! $ owned ! u32 (Is u32) (uint-makes 𝓤 H A W w32) 1 _ (refl, lit< tt) $ fjoin ! $
-      move ! (1 ∷ 0 ∷ []) $ fjoin ! $ move ! (1 ∷ 0 ∷ []) $ fjoin ! $ owned ! u32 (Is u32) (uint-makes 𝓤 H A W w32) 80000 _ (refl, lit< tt) $ fjoin ! $ move ! (1 ∷ 0 ∷ []) $ fjoin ! $ done !
+      move ! (1 ∷ 0 ∷ []) $ fjoin ! $ move ! (1 ∷ 0 ∷ []) $ fjoin ! $ owned ! E.the-row (Is E.the-row) (LE.makes E.the-type E′.the-plain 𝓤 H A) a _ low-a $ fjoin ! $ move ! (1 ∷ 0 ∷ []) $ fjoin ! $ done !
 
-  said-ready : (r : Evaluation) → ent 𝓤 (ensured 𝓤 H A ready.ended (ready.clauses 𝓤 H A mem run) (κ₀, (κ₁, (κ₂, tt))) asked tt r) (fact 𝓤 (r ≡ evaluation w values cells allowance (length ws)))
-  said-ready r = exE 𝓤 _ (λ zs. snd∗ 𝓤 (sem 𝓤 H A (lasts ready.ended (κ₀, (κ₁, (κ₂, tt))) asked zs)) (fact 𝓤 (r ≡ evaluation w values cells allowance (length ws))))
+  abbrev ready-by : Acceptance → Evaluation
+  ready-by a = answers.ready a w values cells 1 allowance (length ws)
+
+  said-ready : (a : Acceptance) (r : Evaluation) → ent 𝓤 (ensured 𝓤 H A ready.ended (ready.clauses 𝓤 H A mem run) (κ₀, (κ₁, (κ₂, tt))) (asked a) tt r) (fact 𝓤 (r ≡ ready-by a))
+  said-ready a r = exE 𝓤 _ (λ zs. snd∗ 𝓤 (sem 𝓤 H A (lasts ready.ended (κ₀, (κ₁, (κ₂, tt))) (asked a) zs)) (fact 𝓤 (r ≡ ready-by a)))
 
   abbrev to-terms : Evaluation → TermsWhen 𝓤 H A mem run .Ghost
   to-terms e = (((κ₀, tt), (q₀, tt), tt, (x₀, (e, tt)), (v₀ ∷ [], (Ev′.lowered e ∷ [], tt))), tt)
@@ -292,6 +319,9 @@ module _ {M : Type 1} (𝓤 : URA M) (H : Heap 𝓤) (A : Atoms 𝓤) (W : Given
   abbrev ptr : Ty
   ptr = tyRef erased mut (tyInt w32)
 
+  taken-in : (a : Acceptance) (u : Val) → Is E.the-row a (u ∷ []) → Is E.the-row a (E′.lowered a ∷ [])
+  taken-in a u is = subst (Is E.the-row a) (E′.lowers .val-is a (u ∷ []) is) is
+
   lowers : (r : Evaluation) (u : Val) → Is Ev.the-row r (u ∷ []) → Is Ev.the-row r (Ev′.lowered r ∷ [])
   lowers r u is = subst (Is Ev.the-row r) (Ev′.lowers .val-is r (u ∷ []) is) is
 
@@ -310,7 +340,7 @@ module _ {M : Type 1} (𝓤 : URA M) (H : Heap 𝓤) (A : Atoms 𝓤) (W : Given
         → drive.Driven w values cells allowance ws e is-e n is-n z r × (n - r .at < n - k .1 .0 .at)
     next-driven k on v found z r said = drive.turned w values cells allowance ws e is-e n is-n (k .0) (k .1 .0) (k .1 .1 .0) (taken (k .1 .0 .pending) on) v found z r (said .0) (said .1)
 
-    module _ (𝓣 : Tables 𝓤 H) (known : Known 𝓤 H A mem run 𝓣) (l₀ l₁ l₂ l₃ l₄ l₅ l₆ l₇ l₈ l₉ l₁₀ l₁₁ l₁₂ l₁₃ l₁₄ : ℕ) where
+    module _ (𝓣 : Tables 𝓤 H) (known : Known 𝓤 H A mem run 𝓣) (l₀ l₁ l₂ l₃ l₄ l₅ l₆ l₇ l₈ l₉ l₁₀ l₁₁ l₁₂ l₁₃ l₁₄ l₁₅ : ℕ) where
       abbrev C : Calls 𝓤 H
       C = 𝓣 .C
 
@@ -318,19 +348,19 @@ module _ {M : Type 1} (𝓤 : URA M) (H : Heap 𝓤) (A : Atoms 𝓤) (W : Given
       Λ = 𝓣 .Λ
 
       abbrev En : Env 𝓤 H
-      En = (Ev′.mir, l₀) ∷ (sl₀, l₁) ∷ (sl₁, l₂) ∷ (sl₂, l₃) ∷ (tyInt w64, l₄) ∷ (sl₃, l₅) ∷ (Ev′.mir, l₆) ∷ (tyInt w64, l₇) ∷ (tyInt w32, l₈) ∷ (U′.mir, l₉) ∷ (tyInt w32, l₁₀) ∷ (tyInt w64, l₁₁) ∷ (tyBool, l₁₂) ∷ (ptr, l₁₃) ∷ (sliceTy ptr, l₁₄) ∷ []
+      En = (Ev′.mir, l₀) ∷ (sl₀, l₁) ∷ (sl₁, l₂) ∷ (sl₂, l₃) ∷ (tyInt w64, l₄) ∷ (sl₃, l₅) ∷ (E′.mir, l₆) ∷ (Ev′.mir, l₇) ∷ (tyInt w64, l₈) ∷ (tyInt w32, l₉) ∷ (U′.mir, l₁₀) ∷ (tyInt w32, l₁₁) ∷ (tyInt w64, l₁₂) ∷ (tyBool, l₁₃) ∷ (ptr, l₁₄) ∷ (sliceTy ptr, l₁₅) ∷ []
 
-      -- the tokens; what the slices own; _14; …; _0; …
+      -- the tokens; what the slices own; _15; …; _0; …
       abbrev At : Left → List (Item 𝓤)
-      At k = ‵ (flft κ₀ q₀) ∷ ‵ (flft κ₁ q₁) ∷ ‵ (flft κ₂ q₂) ∷ ‵ (flft κ₃ q₃) ∷ ‵ Own₀ ∷ ‵ Own₁ ∷ ‵ Own₂ ∷ ‵ (Own₃ (k .0) (length ws)) ∷ ‵ (froom (sliceTy ptr) l₁₄ 0) ∷ ‵ (fdies (sliceTy ptr) l₁₄) ∷ ‵ (froom ptr l₁₃ 0) ∷ ‵ (fdies ptr l₁₃) ∷ ‵ (froom tyBool l₁₂ 0) ∷ ‵ (fdies tyBool l₁₂)
-          ∷ ‵ (fat fullShare (tyInt w64) l₁₁ 0 (vint w64 (length ws))) ∷ ‵ (fdies (tyInt w64) l₁₁) ∷ ‵ (froom (tyInt w32) l₁₀ 0) ∷ ‵ (fdies (tyInt w32) l₁₀) ∷ ‵ (fat fullShare U′.mir l₉ 0 (U′.lowered (k .1 .0))) ∷ ‵ (fdies U′.mir l₉)
-          ∷ ‵ (fat fullShare (tyInt w32) l₈ 0 (vint w32 n)) ∷ ‵ (fdies (tyInt w32) l₈) ∷ ‵ (fat fullShare (tyInt w64) l₇ 0 (vint w64 (length cells))) ∷ ‵ (fdies (tyInt w64) l₇) ∷ ‵ (fat fullShare Ev′.mir l₆ 0 (Ev′.lowered e)) ∷ ‵ (fdies Ev′.mir l₆)
+      At k = ‵ (flft κ₀ q₀) ∷ ‵ (flft κ₁ q₁) ∷ ‵ (flft κ₂ q₂) ∷ ‵ (flft κ₃ q₃) ∷ ‵ Own₀ ∷ ‵ Own₁ ∷ ‵ Own₂ ∷ ‵ (Own₃ (k .0) (length ws)) ∷ ‵ (froom (sliceTy ptr) l₁₅ 0) ∷ ‵ (fdies (sliceTy ptr) l₁₅) ∷ ‵ (froom ptr l₁₄ 0) ∷ ‵ (fdies ptr l₁₄) ∷ ‵ (froom tyBool l₁₃ 0) ∷ ‵ (fdies tyBool l₁₃)
+          ∷ ‵ (fat fullShare (tyInt w64) l₁₂ 0 (vint w64 (length ws))) ∷ ‵ (fdies (tyInt w64) l₁₂) ∷ ‵ (froom (tyInt w32) l₁₁ 0) ∷ ‵ (fdies (tyInt w32) l₁₁) ∷ ‵ (fat fullShare U′.mir l₁₀ 0 (U′.lowered (k .1 .0))) ∷ ‵ (fdies U′.mir l₁₀)
+          ∷ ‵ (fat fullShare (tyInt w32) l₉ 0 (vint w32 n)) ∷ ‵ (fdies (tyInt w32) l₉) ∷ ‵ (fat fullShare (tyInt w64) l₈ 0 (vint w64 (length cells))) ∷ ‵ (fdies (tyInt w64) l₈) ∷ ‵ (fat fullShare Ev′.mir l₇ 0 (Ev′.lowered e)) ∷ ‵ (fdies Ev′.mir l₇) ∷ ‵ (froom E′.mir l₆ 0) ∷ ‵ (fdies E′.mir l₆)
           ∷ ‵ (fat fullShare sl₃ l₅ 0 (s (length ws))) ∷ ‵ (fdies sl₃ l₅) ∷ ‵ (fat fullShare (tyInt w64) l₄ 0 (vint w64 allowance)) ∷ ‵ (fdies (tyInt w64) l₄) ∷ ‵ (fat fullShare sl₂ l₃ 0 v₂) ∷ ‵ (fdies sl₂ l₃) ∷ ‵ (fat fullShare sl₁ l₂ 0 v₁) ∷ ‵ (fdies sl₁ l₂)
           ∷ ‵ (fat fullShare sl₀ l₁ 0 v₀) ∷ ‵ (fdies sl₀ l₁) ∷ ‵ (froom Ev′.mir l₀ 0) ∷ ‵ (fdies Ev′.mir l₀) ∷ []
 
       -- a turn's postcondition: the next is of a later term, or the loop is left and the rest of the body runs
       abbrev Turned : Left → Out → SProp 𝓤
-      Turned k = afterTurn 𝓤 H (Below 𝓤 H A Nearer At k) (afterBlock 𝓤 H (afterSeq 𝓤 H (Wp 𝓤 H C Λ En mirs.t-7 (atReturn 𝓤 H En Post)) (atReturn 𝓤 H En Post)))
+      Turned k = afterTurn 𝓤 H (Below 𝓤 H A Nearer At k) (afterBlock 𝓤 H (afterSeq 𝓤 H (Wp 𝓤 H C Λ En mirs.t-8 (atReturn 𝓤 H En Post)) (atReturn 𝓤 H En Post)))
 
       turns : (k : Left) → Sq W (At k) (runs C Λ En mirs.turn-1 (anyQ (Turned k)))
       unfolding afterTurn
@@ -347,24 +377,24 @@ module _ {M : Type 1} (𝓤 : URA M) (H : Heap 𝓤) (A : Atoms 𝓤) (W : Given
           move ! (6 ∷ []) $ use1 W (‵ Own₂ ⊛ ‵ Own₂) (shr-slice-copy 𝓤 H A W (named 2) κ₂ T.the-row .twice x₂ (v₂ ∷ [])) $ split ! $ move ! (4 ∷ 0 ∷ []) $
           use2 W (raw (Look 𝓤 H A mem run .pre (to-look t))) (goes-look t low (drive.most w values cells allowance ws e is-e n is-n l t driven (taken (t .pending) on))) $
           calls-at ! (fmOf 𝓤 H (W .laws) 𝓣) (Look 𝓤 H A mem run) (known .looks) (to-look t)
-          (and-then ! (load ! (from ! (stop !)) (look ! 30 refl)) (and-then ! (load ! (from ! (fld ! refl (stop !))) (look-in ! 18 (sub ! 2 refl (whole !)))) (and-then ! (load ! (from ! (fld ! refl (stop !))) (look-in ! 18 (sub ! 3 refl (whole !))))
+          (and-then ! (load ! (from ! (stop !)) (look ! 32 refl)) (and-then ! (load ! (from ! (fld ! refl (stop !))) (look-in ! 18 (sub ! 2 refl (whole !)))) (and-then ! (load ! (from ! (fld ! refl (stop !))) (look-in ! 18 (sub ! 3 refl (whole !))))
           (and-then ! (load ! (from ! (fld ! refl (stop !))) (look-in ! 18 (sub ! 4 refl (whole !)))) (and-then ! (load ! (from ! (fld ! refl (stop !))) (look-in ! 18 (sub ! 5 refl (whole !)))) (no-more !)))))) (λ u.
           use1 W (later (some (λ (r : ℕ). ((‵ (flft κ₂ q₂) ⊛ ‵ ftrue) ⊛ ‵ (u32 .own r (u ∷ []))) ⊛ raw (ensured 𝓤 H A looking.ended (looking.clauses 𝓤 H A mem run) (κ₂, tt) (look-of t) tt r)))) (id⊢ 𝓤 _) $ await ! tt $ pick ! (λ v.
           split ! $ move ! (1 ∷ []) $ use1 W (raw (fact 𝓤 (v ≡ found-by t))) (said-look t v) $ heard ! (v ≡ found-by t) (λ found. split ! $ move ! (1 ∷ []) $
-          peeks ! u32 (Is u32) (shows 𝓤 H A u32) v (u ∷ []) (λ is-v. land ! (from ! (stop !)) (init ! 17 refl (uint-lawful 𝓤 H A W w32 .typed v _ is-v .0)) $ rewrite ! 17 (λ (z : Val). ‵ (fat fullShare (tyInt w32) l₁₀ 0 z)) (ap only (is-v .0)) refl $
+          peeks ! u32 (Is u32) (shows 𝓤 H A u32) v (u ∷ []) (λ is-v. land ! (from ! (stop !)) (init ! 17 refl (uint-lawful 𝓤 H A W w32 .typed v _ is-v .0)) $ rewrite ! 17 (λ (z : Val). ‵ (fat fullShare (tyInt w32) l₁₁ 0 z)) (ap only (is-v .0)) refl $
           drop ! $ split ! $ move ! (1 ∷ []) $ drop ! $
-          -- [the row's token; what the row owns; the other tokens; what the others own; _14; …]: the work is lent again for a lifetime ν
-          assigns ! (addr ! (from ! (fld ! refl (hop ! (look-in ! 26 (sub ! 0 refl (whole !))) (stop !))))) (from ! (stop !)) (init ! 10 refl (tt, tt)) $
-          assigns ! (agg ! (and-then ! (load ! (from ! (stop !)) (look ! 10 refl)) (and-then ! (load ! (from ! (fld ! refl (stop !))) (look-in ! 26 (sub ! 1 refl (whole !)))) (no-more !)))) (from ! (stop !)) (init ! 8 refl (tt, (tt, (record { fits = room .0 }, tt)))) $
-          rewrite ! 8 (λ (m : ℕ). ‵ (fat fullShare (sliceTy ptr) l₁₄ 0 (s m))) (sym long) refl $ rewrite ! 7 (λ (m : ℕ). ‵ (Own₃ l m)) (sym long) refl $
+          -- [the row's token; what the row owns; the other tokens; what the others own; _15; …]: the work is lent again for a lifetime ν
+          assigns ! (addr ! (from ! (fld ! refl (hop ! (look-in ! 28 (sub ! 0 refl (whole !))) (stop !))))) (from ! (stop !)) (init ! 10 refl (tt, tt)) $
+          assigns ! (agg ! (and-then ! (load ! (from ! (stop !)) (look ! 10 refl)) (and-then ! (load ! (from ! (fld ! refl (stop !))) (look-in ! 28 (sub ! 1 refl (whole !)))) (no-more !)))) (from ! (stop !)) (init ! 8 refl (tt, (tt, (record { fits = room .0 }, tt)))) $
+          rewrite ! 8 (λ (m : ℕ). ‵ (fat fullShare (sliceTy ptr) l₁₅ 0 (s m))) (sym long) refl $ rewrite ! 7 (λ (m : ℕ). ‵ (Own₃ l m)) (sym long) refl $
           lft-new ! tt (λ ν. move ! (8 ∷ 5 ∷ []) $
           use2 W (later (some (λ (δ : GName). ‵ (Lent ν δ l) ⊛ ‵ (LentAgain u32 κ₃ (ν ∷ []) q₃ γ b o δ l)))) (lends-again u32 κ₃ (ν ∷ []) q₃ γ b o 𝓤 H A W (named 3) (named 2) l) $ await ! tt $ pick ! (λ δ. split ! $
-          -- [the work, lent; the lender's part; ν's token; the row's token; what the row owns; the two other tokens; what the two own; _14; …]: `step`
+          -- [the work, lent; the lender's part; ν's token; the row's token; what the row owns; the two other tokens; what the two own; _15; …]: `step`
           move ! (7 ∷ []) $ use1 W (‵ Own₀ ⊛ ‵ Own₀) (shr-slice-copy 𝓤 H A W (named 0) κ₀ u32 .twice x₀ (v₀ ∷ [])) $ split ! $ move ! (9 ∷ []) $ use1 W (‵ Own₁ ⊛ ‵ Own₁) (shr-slice-copy 𝓤 H A W (named 1) κ₁ u32 .twice x₁ (v₁ ∷ [])) $ split ! $
           move ! (0 ∷ 4 ∷ []) $ join ! $ move ! (2 ∷ 0 ∷ []) $ join ! $ move ! (8 ∷ 4 ∷ []) $ join ! $ move ! (7 ∷ 0 ∷ []) $ join ! $
           use2 W (raw (StepC 𝓤 H A mem run .pre (to-step n ν δ l t v))) (goes-step n ν δ l t v fits low (is-v .1) (drive.well w values cells allowance ws e is-e n is-n l t driven (taken (t .pending) on)) (drive.every w values cells allowance ws e is-e n is-n l t driven (taken (t .pending) on)) (drive.place w values cells allowance ws e is-e n is-n l t driven (taken (t .pending) on))) $
           calls-at-last ! (fmOf 𝓤 H (W .laws) 𝓣) (StepC 𝓤 H A mem run) (known .step) (to-step n ν δ l t v)
-          (and-then ! (load ! (from ! (stop !)) (look ! 32 refl)) (and-then ! (load ! (from ! (stop !)) (look ! 30 refl)) (and-then ! (load ! (from ! (stop !)) (look ! 20 refl)) (and-then ! (load ! (from ! (stop !)) (look ! 18 refl))
+          (and-then ! (load ! (from ! (stop !)) (look ! 34 refl)) (and-then ! (load ! (from ! (stop !)) (look ! 32 refl)) (and-then ! (load ! (from ! (stop !)) (look ! 20 refl)) (and-then ! (load ! (from ! (stop !)) (look ! 18 refl))
           (and-then ! (load ! (from ! (stop !)) (look ! 6 refl)) (and-then ! (load ! (from ! (stop !)) (look ! 16 refl)) (and-then ! (load ! (from ! (stop !)) (look ! 14 refl)) (no-more !)))))))) (λ u′.
           use1 W (later (some (λ (r : Turn). ((‵ (flft κ₀ q₀) ⊛ (‵ (flft κ₁ q₁) ⊛ (‵ (flft (ν ∷ []) fullShare) ⊛ ‵ ftrue))) ⊛ ‵ (U.the-row .own r (u′ ∷ []))) ⊛ raw (ensured 𝓤 H A step.ended (step.clauses 𝓤 H A mem run) (κ₀, (κ₁, (ν ∷ [], tt))) (step-of n δ l t v) tt r)))) (id⊢ 𝓤 _) $ await ! tt $ pick ! (λ r.
           -- what `step` ensures, at some last list
@@ -372,77 +402,87 @@ module _ {M : Type 1} (𝓤 : URA M) (H : Heap 𝓤) (A : Atoms 𝓤) (W : Given
           let z = zs .1 .1 .1 .1 .0 in
           split ! $ move ! (1 ∷ []) $ use1 W (raw (fact 𝓤 (next-turn n t r z × next-work n l t v z))) (together 𝓤 (next-turn n t r z) (next-work n l t v z)) $ heard ! (next-turn n t r z × next-work n l t v z) (λ said.
           fsplit ! $ drop ! $ fsplit ! $ drop ! $ fsplit ! $ drop ! $ fsplit ! $ drop ! $ fsplit ! $ fsplit ! $ move ! (1 ∷ []) $ feqL ! (λ same.
-          -- [the last list, said; …; the tokens and the turn; what values and table own; the lender's part; the row's token; what the row owns; _14; …]: ν is ended, and the work comes back at that list
+          -- [the last list, said; …; the tokens and the turn; what values and table own; the lender's part; the row's token; what the row owns; _15; …]: ν is ended, and the work comes back at that list
           move ! (2 ∷ []) $ split ! $ split ! $ move ! (1 ∷ []) $ split ! $ move ! (1 ∷ []) $ split ! $ lft-end ! tt $ move ! (0 ∷ 9 ∷ 5 ∷ []) $
           use3 W (later (‵ (Own₃ z (length l)) ⊛ ‵ (flft κ₃ q₃))) (comes-back u32 κ₃ (ν ∷ []) q₃ γ b o 𝓤 H A W (named 3) (named 2) l δ z (subst (Room u32) (sym long) room) same) $ await ! tt $ split ! $ move ! (5 ∷ []) $
-          -- [the next turn; what the work owns; its token; true; the tokens of values and table; …; what values and table own; the row's token; what the row owns; _14; …]
+          -- [the next turn; what the work owns; its token; true; the tokens of values and table; …; what values and table own; the row's token; what the row owns; _15; …]
           peeks ! U.the-row (Is U.the-row) (shows 𝓤 H A U.the-row) r (u′ ∷ []) (λ is-r. land-last ! (from ! (stop !)) (store ! 21 refl (LL.lawful U.the-type U′.the-laws 𝓤 H A W .typed r _ is-r .0)) $
-          rewrite ! 21 (λ (y : Val). ‵ (fat fullShare U′.mir l₉ 0 y)) (ap only (LL.tells U.the-type U′.the-laws r (u′ ∷ []) is-r)) refl $ rewrite ! 1 (λ (m : ℕ). ‵ (Own₃ z m)) long refl $
+          rewrite ! 21 (λ (y : Val). ‵ (fat fullShare U′.mir l₁₀ 0 y)) (ap only (LL.tells U.the-type U′.the-laws r (u′ ∷ []) is-r)) refl $ rewrite ! 1 (λ (m : ℕ). ‵ (Own₃ z m)) long refl $
           forget ! 11 refl $ forget ! 13 refl $ forget ! 15 refl $ forget ! 19 refl $
-          keep ! (5 ∷ 4 ∷ 9 ∷ 2 ∷ 8 ∷ 7 ∷ 10 ∷ 1 ∷ 11 ∷ 12 ∷ 13 ∷ 14 ∷ 15 ∷ 16 ∷ 17 ∷ 18 ∷ 19 ∷ 20 ∷ 21 ∷ 22 ∷ 23 ∷ 24 ∷ 25 ∷ 26 ∷ 27 ∷ 28 ∷ 29 ∷ 30 ∷ 31 ∷ 32 ∷ 33 ∷ 34 ∷ 35 ∷ 36 ∷ 37 ∷ 38 ∷ 39 ∷ 40 ∷ []) $
+          keep ! (5 ∷ 4 ∷ 9 ∷ 2 ∷ 8 ∷ 7 ∷ 10 ∷ 1 ∷ 11 ∷ 12 ∷ 13 ∷ 14 ∷ 15 ∷ 16 ∷ 17 ∷ 18 ∷ 19 ∷ 20 ∷ 21 ∷ 22 ∷ 23 ∷ 24 ∷ 25 ∷ 26 ∷ 27 ∷ 28 ∷ 29 ∷ 30 ∷ 31 ∷ 32 ∷ 33 ∷ 34 ∷ 35 ∷ 36 ∷ 37 ∷ 38 ∷ 39 ∷ 40 ∷ 41 ∷ 42 ∷ []) $
           again ! Nearer At k (z, (r, (next-driven k on v found z r said .0, subst (Is U.the-row r) (LL.tells U.the-type U′.the-laws r (u′ ∷ []) is-r) is-r))) (next-driven k on v found z r said .1))))))))))))))
-          (λ off. jumps ! $ exec ! C Λ En mirs.t-7 (atRet En Post) $
-          assigns ! (of-opd ! (load ! (from ! (stop !)) (look ! 24 refl))) (from ! (stop !)) (init ! 36 refl (LE.lawful Ev.the-type Ev′.the-laws 𝓤 H A W tt .typed e _ low-e .0)) $
-          returns ! (look ! 36 refl) $ forget ! 12 refl $ forget ! 14 refl $ forget ! 18 refl $ forget ! 20 refl $ forget ! 22 refl $ forget ! 24 refl $ forget ! 26 refl $ forget ! 28 refl $ forget ! 30 refl $ forget ! 32 refl $ forget ! 34 refl $ forget ! 36 refl $
-          move ! (36 ∷ 37 ∷ []) $ free1 ! $ move ! (34 ∷ 35 ∷ []) $ free1 ! $ move ! (32 ∷ 33 ∷ []) $ free1 ! $ move ! (30 ∷ 31 ∷ []) $ free1 ! $ move ! (28 ∷ 29 ∷ []) $ free1 ! $ move ! (26 ∷ 27 ∷ []) $ free1 ! $ move ! (24 ∷ 25 ∷ []) $ free1 ! $ move ! (22 ∷ 23 ∷ []) $ free1 ! $ move ! (20 ∷ 21 ∷ []) $ free1 ! $ move ! (18 ∷ 19 ∷ []) $ free1 ! $ move ! (16 ∷ 17 ∷ []) $ free1 ! $ move ! (14 ∷ 15 ∷ []) $ free1 ! $ move ! (12 ∷ 13 ∷ []) $ free1 ! $ move ! (10 ∷ 11 ∷ []) $ free1 ! $ move ! (8 ∷ 9 ∷ []) $ free1 ! $ free0 ! $
+          (λ off. jumps ! $ exec ! C Λ En mirs.t-8 (atRet En Post) $
+          assigns ! (of-opd ! (load ! (from ! (stop !)) (look ! 24 refl))) (from ! (stop !)) (init ! 38 refl (LE.lawful Ev.the-type Ev′.the-laws 𝓤 H A W tt .typed e _ low-e .0)) $
+          returns ! (look ! 38 refl) $ forget ! 12 refl $ forget ! 14 refl $ forget ! 18 refl $ forget ! 20 refl $ forget ! 22 refl $ forget ! 24 refl $ forget ! 28 refl $ forget ! 30 refl $ forget ! 32 refl $ forget ! 34 refl $ forget ! 36 refl $ forget ! 38 refl $
+          move ! (38 ∷ 39 ∷ []) $ free1 ! $ move ! (36 ∷ 37 ∷ []) $ free1 ! $ move ! (34 ∷ 35 ∷ []) $ free1 ! $ move ! (32 ∷ 33 ∷ []) $ free1 ! $ move ! (30 ∷ 31 ∷ []) $ free1 ! $ move ! (28 ∷ 29 ∷ []) $ free1 ! $ move ! (26 ∷ 27 ∷ []) $ free1 ! $ move ! (24 ∷ 25 ∷ []) $ free1 ! $ move ! (22 ∷ 23 ∷ []) $ free1 ! $ move ! (20 ∷ 21 ∷ []) $ free1 ! $ move ! (18 ∷ 19 ∷ []) $ free1 ! $ move ! (16 ∷ 17 ∷ []) $ free1 ! $ move ! (14 ∷ 15 ∷ []) $ free1 ! $ move ! (12 ∷ 13 ∷ []) $ free1 ! $ move ! (10 ∷ 11 ∷ []) $ free1 ! $ move ! (8 ∷ 9 ∷ []) $ free1 ! $ free0 ! $
           by ! (exits e is-e low-e l long (drive.left w values cells allowance ws e is-e n is-n l t driven (passed-over (t .pending) off))))
 
-      starts : (t : Turn) (is-t : t ≡ firstTurn w values (length cells) n) (low : Is U.the-row t (U′.lowered t ∷ [])) → Sq W (At (ws, (t, (drive.started w values cells allowance ws e is-e n is-n t is-t, low)))) (runs C Λ En mirs.t-6 (atRet En Post))
+      starts : (t : Turn) (is-t : t ≡ firstTurn w values (length cells) n) (low : Is U.the-row t (U′.lowered t ∷ [])) → Sq W (At (ws, (t, (drive.started w values cells allowance ws e is-e n is-n t is-t, low)))) (runs C Λ En mirs.t-7 (atRet En Post))
       starts t is-t low = first ! $ blocks ! $ loops ! 𝓣 Nearer Nearer-wf At turns (ws, (t, (drive.started w values cells allowance ws e is-e n is-n t is-t, low)))
 
   -- ---- up to the loop
-  module _ (𝓣 : Tables 𝓤 H) (known : Known 𝓤 H A mem run 𝓣) (l₀ l₁ l₂ l₃ l₄ l₅ l₆ l₇ l₈ l₉ l₁₀ l₁₁ l₁₂ l₁₃ l₁₄ : ℕ) where
+  module _ (𝓣 : Tables 𝓤 H) (known : Known 𝓤 H A mem run 𝓣) (l₀ l₁ l₂ l₃ l₄ l₅ l₆ l₇ l₈ l₉ l₁₀ l₁₁ l₁₂ l₁₃ l₁₄ l₁₅ : ℕ) where
     abbrev Ev₀ : Env 𝓤 H
-    Ev₀ = (Ev′.mir, l₀) ∷ (sl₀, l₁) ∷ (sl₁, l₂) ∷ (sl₂, l₃) ∷ (tyInt w64, l₄) ∷ (sl₃, l₅) ∷ (Ev′.mir, l₆) ∷ (tyInt w64, l₇) ∷ (tyInt w32, l₈) ∷ (U′.mir, l₉) ∷ (tyInt w32, l₁₀) ∷ (tyInt w64, l₁₁) ∷ (tyBool, l₁₂) ∷ (ptr, l₁₃) ∷ (sliceTy ptr, l₁₄) ∷ []
+    Ev₀ = (Ev′.mir, l₀) ∷ (sl₀, l₁) ∷ (sl₁, l₂) ∷ (sl₂, l₃) ∷ (tyInt w64, l₄) ∷ (sl₃, l₅) ∷ (E′.mir, l₆) ∷ (Ev′.mir, l₇) ∷ (tyInt w64, l₈) ∷ (tyInt w32, l₉) ∷ (U′.mir, l₁₀) ∷ (tyInt w32, l₁₁) ∷ (tyInt w64, l₁₂) ∷ (tyBool, l₁₃) ∷ (ptr, l₁₄) ∷ (sliceTy ptr, l₁₅) ∷ []
 
-    opens : Sq W (‵ (flft κ₀ q₀) ∷ ‵ (flft κ₁ q₁) ∷ ‵ (flft κ₂ q₂) ∷ ‵ (flft κ₃ q₃) ∷ ‵ Own₀ ∷ ‵ Own₁ ∷ ‵ Own₂ ∷ ‵ (Own₃ ws (length ws)) ∷ ‵ (froom (sliceTy ptr) l₁₄ 0) ∷ ‵ (fdies (sliceTy ptr) l₁₄) ∷ ‵ (froom ptr l₁₃ 0) ∷ ‵ (fdies ptr l₁₃) ∷ ‵ (froom tyBool l₁₂ 0) ∷ ‵ (fdies tyBool l₁₂)
-        ∷ ‵ (froom (tyInt w64) l₁₁ 0) ∷ ‵ (fdies (tyInt w64) l₁₁) ∷ ‵ (froom (tyInt w32) l₁₀ 0) ∷ ‵ (fdies (tyInt w32) l₁₀) ∷ ‵ (froom U′.mir l₉ 0) ∷ ‵ (fdies U′.mir l₉)
-        ∷ ‵ (froom (tyInt w32) l₈ 0) ∷ ‵ (fdies (tyInt w32) l₈) ∷ ‵ (froom (tyInt w64) l₇ 0) ∷ ‵ (fdies (tyInt w64) l₇) ∷ ‵ (froom Ev′.mir l₆ 0) ∷ ‵ (fdies Ev′.mir l₆)
+    opens : Sq W (‵ (flft κ₀ q₀) ∷ ‵ (flft κ₁ q₁) ∷ ‵ (flft κ₂ q₂) ∷ ‵ (flft κ₃ q₃) ∷ ‵ Own₀ ∷ ‵ Own₁ ∷ ‵ Own₂ ∷ ‵ (Own₃ ws (length ws)) ∷ ‵ (froom (sliceTy ptr) l₁₅ 0) ∷ ‵ (fdies (sliceTy ptr) l₁₅) ∷ ‵ (froom ptr l₁₄ 0) ∷ ‵ (fdies ptr l₁₄) ∷ ‵ (froom tyBool l₁₃ 0) ∷ ‵ (fdies tyBool l₁₃)
+        ∷ ‵ (froom (tyInt w64) l₁₂ 0) ∷ ‵ (fdies (tyInt w64) l₁₂) ∷ ‵ (froom (tyInt w32) l₁₁ 0) ∷ ‵ (fdies (tyInt w32) l₁₁) ∷ ‵ (froom U′.mir l₁₀ 0) ∷ ‵ (fdies U′.mir l₁₀)
+        ∷ ‵ (froom (tyInt w32) l₉ 0) ∷ ‵ (fdies (tyInt w32) l₉) ∷ ‵ (froom (tyInt w64) l₈ 0) ∷ ‵ (fdies (tyInt w64) l₈) ∷ ‵ (froom Ev′.mir l₇ 0) ∷ ‵ (fdies Ev′.mir l₇) ∷ ‵ (froom E′.mir l₆ 0) ∷ ‵ (fdies E′.mir l₆)
         ∷ ‵ (fat fullShare sl₃ l₅ 0 (s (length ws))) ∷ ‵ (fdies sl₃ l₅) ∷ ‵ (fat fullShare (tyInt w64) l₄ 0 (vint w64 allowance)) ∷ ‵ (fdies (tyInt w64) l₄) ∷ ‵ (fat fullShare sl₂ l₃ 0 v₂) ∷ ‵ (fdies sl₂ l₃) ∷ ‵ (fat fullShare sl₁ l₂ 0 v₁) ∷ ‵ (fdies sl₁ l₂)
         ∷ ‵ (fat fullShare sl₀ l₁ 0 v₀) ∷ ‵ (fdies sl₀ l₁) ∷ ‵ (froom Ev′.mir l₀ 0) ∷ ‵ (fdies Ev′.mir l₀) ∷ []) (runs (𝓣 .C) (𝓣 .Λ) Ev₀ mirs.t-1 (atRet Ev₀ Post))
     opens =
-        assigns ! (of-opd ! (load ! (from ! (fld ! refl (stop !))) (look-in ! 26 (sub ! 1 refl (whole !))))) (from ! (stop !)) (init ! 14 refl (tt, record { fits = room .0 })) $
+        -- `admit_within`, on a copy of what the table owns
+        move ! (4 ∷ []) $ use1 W (‵ Own₀ ⊛ ‵ Own₀) (shr-slice-copy 𝓤 H A W (named 0) κ₀ u32 .twice x₀ (v₀ ∷ [])) $ split ! $ move ! (2 ∷ 0 ∷ []) $ use2 W (raw (AdmitWithin 𝓤 H A mem run .pre to-admit)) goes-admit $
+        calls-at ! (fmOf 𝓤 H (W .laws) 𝓣) (AdmitWithin 𝓤 H A mem run) (known .admit-within) to-admit (and-then ! (load ! (from ! (stop !)) (look ! 36 refl)) (and-then ! (big-lit ! (record { fits = lit< tt })) (no-more !))) (λ u-a.
+        use1 W (later (some (λ (r : Acceptance). ((‵ (flft κ₀ q₀) ⊛ ‵ ftrue) ⊛ ‵ (E.the-row .own r (u-a ∷ []))) ⊛ raw (ensured 𝓤 H A admit-within.ended (admit-within.clauses 𝓤 H A mem run) (κ₀, tt) (x₀, (80000, tt)) tt r)))) (id⊢ 𝓤 _) $ await ! tt $ pick ! (λ a.
+        split ! $ move ! (1 ∷ []) $ use1 W (raw (fact 𝓤 (a ≡ admissionWithin 80000 w))) (said-admit a) $ heard ! (a ≡ admissionWithin 80000 w) (λ is-a. split ! $ move ! (1 ∷ []) $
+        peeks ! E.the-row (Is E.the-row) (shows 𝓤 H A E.the-row) a (u-a ∷ []) (λ was-a. land ! (from ! (stop !)) (init ! 27 refl (LE.lawful E.the-type E′.the-laws 𝓤 H A W tt .typed a _ was-a .0)) $
+        rewrite ! 27 (λ (z : Val). ‵ (fat fullShare E′.mir l₆ 0 z)) (ap only (E′.lowers .val-is a (u-a ∷ []) was-a)) refl $ drop ! $ split ! $ move ! (1 ∷ []) $ drop ! $ move ! (0 ∷ 2 ∷ 3 ∷ 4 ∷ 1 ∷ []) $
+        assigns ! (of-opd ! (load ! (from ! (fld ! refl (stop !))) (look-in ! 28 (sub ! 1 refl (whole !))))) (from ! (stop !)) (init ! 14 refl (tt, record { fits = room .0 })) $
         -- `ready`, on copies of what the shared slices own
         move ! (4 ∷ []) $ use1 W (‵ Own₀ ⊛ ‵ Own₀) (shr-slice-copy 𝓤 H A W (named 0) κ₀ u32 .twice x₀ (v₀ ∷ [])) $ split ! $ move ! (6 ∷ []) $ use1 W (‵ Own₁ ⊛ ‵ Own₁) (shr-slice-copy 𝓤 H A W (named 1) κ₁ u32 .twice x₁ (v₁ ∷ [])) $ split ! $
         move ! (8 ∷ []) $ use1 W (‵ Own₂ ⊛ ‵ Own₂) (shr-slice-copy 𝓤 H A W (named 2) κ₂ T.the-row .twice x₂ (v₂ ∷ [])) $ split ! $ move ! (2 ∷ 0 ∷ []) $ join ! $ move ! (3 ∷ 0 ∷ []) $ join ! $ move ! (5 ∷ 6 ∷ []) $ join ! $ move ! (5 ∷ 0 ∷ []) $ join ! $
-        use2 W (raw (Ready 𝓤 H A mem run .pre to-ready)) goes-ready $
-        calls-at ! (fmOf 𝓤 H (W .laws) 𝓣) (Ready 𝓤 H A mem run) (known .ready) to-ready
-        (and-then ! (load ! (from ! (stop !)) (look ! 32 refl)) (and-then ! (big-lit ! (record { fits = lit< tt })) (and-then ! (load ! (from ! (stop !)) (look ! 30 refl)) (and-then ! (load ! (from ! (stop !)) (look ! 28 refl)) (and-then ! (lit ! tt) (and-then ! (load ! (from ! (stop !)) (look ! 26 refl)) (and-then ! (load ! (from ! (stop !)) (look ! 12 refl)) (no-more !)))))))) (λ u-e.
-        use1 W (later (some (λ (e : Evaluation). ((‵ (flft κ₀ q₀) ⊛ (‵ (flft κ₁ q₁) ⊛ (‵ (flft κ₂ q₂) ⊛ ‵ ftrue))) ⊛ ‵ (Ev.the-row .own e (u-e ∷ []))) ⊛ raw (ensured 𝓤 H A ready.ended (ready.clauses 𝓤 H A mem run) (κ₀, (κ₁, (κ₂, tt))) asked tt e)))) (id⊢ 𝓤 _) $ await ! tt $ pick ! (λ e.
-        split ! $ move ! (1 ∷ []) $ use1 W (raw (fact 𝓤 (e ≡ evaluation w values cells allowance (length ws)))) (said-ready e) $ heard ! (e ≡ evaluation w values cells allowance (length ws)) (λ is-e. split ! $ move ! (1 ∷ []) $
+        use2 W (raw (Ready 𝓤 H A mem run .pre (to-ready a))) (goes-ready a (taken-in a u-a was-a) (formed w a is-a)) $
+        calls-at ! (fmOf 𝓤 H (W .laws) 𝓣) (Ready 𝓤 H A mem run) (known .ready) (to-ready a)
+        (and-then ! (load ! (from ! (stop !)) (look ! 34 refl)) (and-then ! (load ! (from ! (stop !)) (look ! 24 refl)) (and-then ! (load ! (from ! (stop !)) (look ! 32 refl)) (and-then ! (load ! (from ! (stop !)) (look ! 30 refl)) (and-then ! (lit ! tt) (and-then ! (load ! (from ! (stop !)) (look ! 28 refl)) (and-then ! (load ! (from ! (stop !)) (look ! 12 refl)) (no-more !)))))))) (λ u-e.
+        use1 W (later (some (λ (e : Evaluation). ((‵ (flft κ₀ q₀) ⊛ (‵ (flft κ₁ q₁) ⊛ (‵ (flft κ₂ q₂) ⊛ ‵ ftrue))) ⊛ ‵ (Ev.the-row .own e (u-e ∷ []))) ⊛ raw (ensured 𝓤 H A ready.ended (ready.clauses 𝓤 H A mem run) (κ₀, (κ₁, (κ₂, tt))) (asked a) tt e)))) (id⊢ 𝓤 _) $ await ! tt $ pick ! (λ e.
+        split ! $ move ! (1 ∷ []) $ use1 W (raw (fact 𝓤 (e ≡ ready-by a))) (said-ready a e) $ heard ! (e ≡ ready-by a) (λ said-e. split ! $ move ! (1 ∷ []) $
         peeks ! Ev.the-row (Is Ev.the-row) (shows 𝓤 H A Ev.the-row) e (u-e ∷ []) (λ was-e. land ! (from ! (stop !)) (init ! 23 refl (LE.lawful Ev.the-type Ev′.the-laws 𝓤 H A W tt .typed e _ was-e .0)) $
-        rewrite ! 23 (λ (z : Val). ‵ (fat fullShare Ev′.mir l₆ 0 z)) (ap only (Ev′.lowers .val-is e (u-e ∷ []) was-e)) refl $ drop ! $ split ! $ move ! (1 ∷ []) $ split ! $ move ! (1 ∷ []) $ split ! $ move ! (3 ∷ 2 ∷ 0 ∷ 7 ∷ 6 ∷ 5 ∷ 4 ∷ 8 ∷ []) $ move ! (8 ∷ []) $ drop ! $
-        assigns ! (of-opd ! (load ! (from ! (fld ! refl (stop !))) (look-in ! 30 (sub ! 1 refl (whole !))))) (from ! (stop !)) (init ! 22 refl (tt, record { fits = room₂ .0 })) $
+        rewrite ! 23 (λ (z : Val). ‵ (fat fullShare Ev′.mir l₇ 0 z)) (ap only (Ev′.lowers .val-is e (u-e ∷ []) was-e)) refl $ drop ! $ split ! $ move ! (1 ∷ []) $ split ! $ move ! (1 ∷ []) $ split ! $ move ! (3 ∷ 2 ∷ 0 ∷ 7 ∷ 6 ∷ 5 ∷ 4 ∷ 8 ∷ []) $ move ! (8 ∷ []) $ drop ! $
+        -- what admission said is used no more
+        forget ! 26 refl $
+        assigns ! (of-opd ! (load ! (from ! (fld ! refl (stop !))) (look-in ! 32 (sub ! 1 refl (whole !))))) (from ! (stop !)) (init ! 22 refl (tt, record { fits = room₂ .0 })) $
+        let is-e : e ≡ evaluation w values cells allowance (length ws) = said-e ∙ ap ready-by is-a in
         -- `terms_when`
         move ! (4 ∷ []) $ use1 W (‵ Own₀ ⊛ ‵ Own₀) (shr-slice-copy 𝓤 H A W (named 0) κ₀ u32 .twice x₀ (v₀ ∷ [])) $ split ! $ move ! (2 ∷ 0 ∷ []) $
         use2 W (raw (TermsWhen 𝓤 H A mem run .pre (to-terms e))) (goes-terms e (lowers e u-e was-e) (drive.formed w values cells allowance ws e is-e)) $
-        calls-at ! (fmOf 𝓤 H (W .laws) 𝓣) (TermsWhen 𝓤 H A mem run) (known .terms-when) (to-terms e) (and-then ! (load ! (from ! (stop !)) (look ! 34 refl)) (and-then ! (load ! (from ! (stop !)) (look ! 24 refl)) (no-more !))) (λ u-n.
+        calls-at ! (fmOf 𝓤 H (W .laws) 𝓣) (TermsWhen 𝓤 H A mem run) (known .terms-when) (to-terms e) (and-then ! (load ! (from ! (stop !)) (look ! 36 refl)) (and-then ! (load ! (from ! (stop !)) (look ! 24 refl)) (no-more !))) (λ u-n.
         use1 W (later (some (λ (n : ℕ). ((‵ (flft κ₀ q₀) ⊛ ‵ ftrue) ⊛ ‵ (u32 .own n (u-n ∷ []))) ⊛ raw (ensured 𝓤 H A terms-when.ended (terms-when.clauses 𝓤 H A mem run) (κ₀, tt) (x₀, (e, tt)) tt n)))) (id⊢ 𝓤 _) $ await ! tt $ pick ! (λ n.
         split ! $ move ! (1 ∷ []) $ use1 W (raw (fact 𝓤 (n ≡ cond (evaluates e) (terms w) 0))) (said-terms e n) $ heard ! (n ≡ cond (evaluates e) (terms w) 0) (λ is-n. split ! $ move ! (1 ∷ []) $
-        peeks ! u32 (Is u32) (shows 𝓤 H A u32) n (u-n ∷ []) (λ was-n. land ! (from ! (stop !)) (init ! 21 refl (uint-lawful 𝓤 H A W w32 .typed n _ was-n .0)) $ rewrite ! 21 (λ (z : Val). ‵ (fat fullShare (tyInt w32) l₈ 0 z)) (ap only (was-n .0)) refl $
+        peeks ! u32 (Is u32) (shows 𝓤 H A u32) n (u-n ∷ []) (λ was-n. land ! (from ! (stop !)) (init ! 21 refl (uint-lawful 𝓤 H A W w32 .typed n _ was-n .0)) $ rewrite ! 21 (λ (z : Val). ‵ (fat fullShare (tyInt w32) l₉ 0 z)) (ap only (was-n .0)) refl $
         drop ! $ split ! $ move ! (1 ∷ []) $ drop ! $ move ! (0 ∷ 2 ∷ 3 ∷ 4 ∷ 1 ∷ []) $
         -- `first_turn`
         move ! (4 ∷ []) $ use1 W (‵ Own₀ ⊛ ‵ Own₀) (shr-slice-copy 𝓤 H A W (named 0) κ₀ u32 .twice x₀ (v₀ ∷ [])) $ split ! $ move ! (6 ∷ []) $ use1 W (‵ Own₁ ⊛ ‵ Own₁) (shr-slice-copy 𝓤 H A W (named 1) κ₁ u32 .twice x₁ (v₁ ∷ [])) $ split ! $
         move ! (2 ∷ 0 ∷ []) $ join ! $ move ! (3 ∷ 4 ∷ []) $ join ! $ use2 W (raw (FirstTurn 𝓤 H A mem run .pre (to-first n))) (goes-first n (was-n .1) (drive.formed-some w values cells allowance ws e is-e n is-n)) $
         calls-at ! (fmOf 𝓤 H (W .laws) 𝓣) (FirstTurn 𝓤 H A mem run) (known .first-turn) (to-first n)
-        (and-then ! (load ! (from ! (stop !)) (look ! 33 refl)) (and-then ! (load ! (from ! (stop !)) (look ! 31 refl)) (and-then ! (load ! (from ! (stop !)) (look ! 21 refl)) (and-then ! (load ! (from ! (stop !)) (look ! 19 refl)) (no-more !))))) (λ u-t.
+        (and-then ! (load ! (from ! (stop !)) (look ! 35 refl)) (and-then ! (load ! (from ! (stop !)) (look ! 33 refl)) (and-then ! (load ! (from ! (stop !)) (look ! 21 refl)) (and-then ! (load ! (from ! (stop !)) (look ! 19 refl)) (no-more !))))) (λ u-t.
         use1 W (later (some (λ (t : Turn). ((‵ (flft κ₀ q₀) ⊛ (‵ (flft κ₁ q₁) ⊛ ‵ ftrue)) ⊛ ‵ (U.the-row .own t (u-t ∷ []))) ⊛ raw (ensured 𝓤 H A first-turn.ended (first-turn.clauses 𝓤 H A mem run) (κ₀, (κ₁, tt)) (first-of n) tt t)))) (id⊢ 𝓤 _) $ await ! tt $ pick ! (λ t.
         split ! $ move ! (1 ∷ []) $ use1 W (raw (fact 𝓤 (t ≡ firstTurn w values (length cells) n))) (said-first n t) $ heard ! (t ≡ firstTurn w values (length cells) n) (λ is-t. split ! $ move ! (1 ∷ []) $
         peeks ! U.the-row (Is U.the-row) (shows 𝓤 H A U.the-row) t (u-t ∷ []) (λ was-t. land ! (from ! (stop !)) (init ! 18 refl (LL.lawful U.the-type U′.the-laws 𝓤 H A W .typed t _ was-t .0)) $
-        rewrite ! 18 (λ (z : Val). ‵ (fat fullShare U′.mir l₉ 0 z)) (ap only (LL.tells U.the-type U′.the-laws t (u-t ∷ []) was-t)) refl $ drop ! $ split ! $ move ! (1 ∷ []) $ split ! $
-        keep ! (2 ∷ 0 ∷ 5 ∷ 6 ∷ 4 ∷ 3 ∷ 7 ∷ 8 ∷ 9 ∷ 10 ∷ 11 ∷ 12 ∷ 13 ∷ 14 ∷ 15 ∷ 16 ∷ 17 ∷ 18 ∷ 19 ∷ 20 ∷ 21 ∷ 22 ∷ 23 ∷ 24 ∷ 25 ∷ 26 ∷ 27 ∷ 28 ∷ 29 ∷ 30 ∷ 31 ∷ 32 ∷ 33 ∷ 34 ∷ 35 ∷ 36 ∷ 37 ∷ 38 ∷ []) $
-        starts e is-e (lowers e u-e was-e) n is-n (was-n .1) 𝓣 known l₀ l₁ l₂ l₃ l₄ l₅ l₆ l₇ l₈ l₉ l₁₀ l₁₁ l₁₂ l₁₃ l₁₄ t is-t (subst (Is U.the-row t) (LL.tells U.the-type U′.the-laws t (u-t ∷ []) was-t) was-t)))))))))))))
+        rewrite ! 18 (λ (z : Val). ‵ (fat fullShare U′.mir l₁₀ 0 z)) (ap only (LL.tells U.the-type U′.the-laws t (u-t ∷ []) was-t)) refl $ drop ! $ split ! $ move ! (1 ∷ []) $ split ! $
+        keep ! (2 ∷ 0 ∷ 5 ∷ 6 ∷ 4 ∷ 3 ∷ 7 ∷ 8 ∷ 9 ∷ 10 ∷ 11 ∷ 12 ∷ 13 ∷ 14 ∷ 15 ∷ 16 ∷ 17 ∷ 18 ∷ 19 ∷ 20 ∷ 21 ∷ 22 ∷ 23 ∷ 24 ∷ 25 ∷ 26 ∷ 27 ∷ 28 ∷ 29 ∷ 30 ∷ 31 ∷ 32 ∷ 33 ∷ 34 ∷ 35 ∷ 36 ∷ 37 ∷ 38 ∷ 39 ∷ 40 ∷ []) $
+        starts e is-e (lowers e u-e was-e) n is-n (was-n .1) 𝓣 known l₀ l₁ l₂ l₃ l₄ l₅ l₆ l₇ l₈ l₉ l₁₀ l₁₁ l₁₂ l₁₃ l₁₄ l₁₅ t is-t (subst (Is U.the-row t) (LL.tells U.the-type U′.the-laws t (u-t ∷ []) was-t) was-t)))))))))))))))))
 
   walk : (𝓣 : Tables 𝓤 H) → Known 𝓤 H A mem run 𝓣
       → ent 𝓤 (onEntry 𝓤 H A entrance.signature (κ₀, (κ₁, (κ₂, (κ₃, tt)))) (q₀, (q₁, (q₂, (q₃, tt)))) args at) (WpFn 𝓤 H (𝓣 .C) (𝓣 .Λ) code.function (v₀ ∷ v₁ ∷ v₂ ∷ vint w64 allowance ∷ s (length ws) ∷ []) Post)
   walk 𝓣 known =
       qed W ((‵ (flft κ₀ q₀) ⊛ ‵ (flft κ₁ q₁) ⊛ ‵ (flft κ₂ q₂) ⊛ ‵ (flft κ₃ q₃) ⊛ ‵ ftrue) ∷ ‵ (owns (ShrSlice (named 0) κ₀ u32 ∷ ShrSlice (named 1) κ₁ u32 ∷ ShrSlice (named 2) κ₂ T.the-row ∷ u64 ∷ MutSlice (named 3) κ₃ u32 ∷ []) args at) ∷ []) ∵
       enter ! (𝓣 .C) (𝓣 .Λ) code.function (v₀ ∷ v₁ ∷ v₂ ∷ vint w64 allowance ∷ s (length ws) ∷ []) _ $
-      alloc1 ! (λ l₀. alloc1 ! (λ l₁. alloc1 ! (λ l₂. alloc1 ! (λ l₃. alloc1 ! (λ l₄. alloc1 ! (λ l₅. alloc1 ! (λ l₆. alloc1 ! (λ l₇. alloc1 ! (λ l₈. alloc1 ! (λ l₉. alloc1 ! (λ l₁₀. alloc1 ! (λ l₁₁. alloc1 ! (λ l₁₂. alloc1 ! (λ l₁₃. alloc1 ! (λ l₁₄. alloc0 ! $ params1 ! $
-      pass1 ! (init ! 26 refl (tt, (tt, (record { fits = room₀ .0 }, tt)))) $ pass1 ! (init ! 24 refl (tt, (tt, (record { fits = room₁ .0 }, tt)))) $ pass1 ! (init ! 22 refl (tt, (tt, (record { fits = room₂ .0 }, tt)))) $ pass1 ! (init ! 20 refl (tt, record { fits = fa })) $ pass1 ! (init ! 18 refl (tt, (tt, (record { fits = room .0 }, tt)))) $ pass0 ! $
-      move ! (31 ∷ []) $ fsplit ! $ move ! (1 ∷ []) $ fsplit ! $ move ! (1 ∷ []) $ fsplit ! $ move ! (1 ∷ []) $ fsplit ! $ drop ! $ fsplit ! $ move ! (35 ∷ []) $ split ! $ move ! (1 ∷ []) $ split ! $ move ! (1 ∷ []) $ split ! $ move ! (1 ∷ []) $ split ! $
-      keep ! (4 ∷ 3 ∷ 2 ∷ 0 ∷ 9 ∷ 8 ∷ 7 ∷ 5 ∷ 10 ∷ 11 ∷ 12 ∷ 13 ∷ 14 ∷ 15 ∷ 16 ∷ 17 ∷ 18 ∷ 19 ∷ 20 ∷ 21 ∷ 22 ∷ 23 ∷ 24 ∷ 25 ∷ 26 ∷ 27 ∷ 28 ∷ 29 ∷ 30 ∷ 31 ∷ 32 ∷ 33 ∷ 34 ∷ 35 ∷ 36 ∷ 37 ∷ 38 ∷ 39 ∷ []) $
-      opens 𝓣 known l₀ l₁ l₂ l₃ l₄ l₅ l₆ l₇ l₈ l₉ l₁₀ l₁₁ l₁₂ l₁₃ l₁₄)))))))))))))))
+      alloc1 ! (λ l₀. alloc1 ! (λ l₁. alloc1 ! (λ l₂. alloc1 ! (λ l₃. alloc1 ! (λ l₄. alloc1 ! (λ l₅. alloc1 ! (λ l₆. alloc1 ! (λ l₇. alloc1 ! (λ l₈. alloc1 ! (λ l₉. alloc1 ! (λ l₁₀. alloc1 ! (λ l₁₁. alloc1 ! (λ l₁₂. alloc1 ! (λ l₁₃. alloc1 ! (λ l₁₄. alloc1 ! (λ l₁₅. alloc0 ! $ params1 ! $
+      pass1 ! (init ! 28 refl (tt, (tt, (record { fits = room₀ .0 }, tt)))) $ pass1 ! (init ! 26 refl (tt, (tt, (record { fits = room₁ .0 }, tt)))) $ pass1 ! (init ! 24 refl (tt, (tt, (record { fits = room₂ .0 }, tt)))) $ pass1 ! (init ! 22 refl (tt, record { fits = fa })) $ pass1 ! (init ! 20 refl (tt, (tt, (record { fits = room .0 }, tt)))) $ pass0 ! $
+      move ! (33 ∷ []) $ fsplit ! $ move ! (1 ∷ []) $ fsplit ! $ move ! (1 ∷ []) $ fsplit ! $ move ! (1 ∷ []) $ fsplit ! $ drop ! $ fsplit ! $ move ! (37 ∷ []) $ split ! $ move ! (1 ∷ []) $ split ! $ move ! (1 ∷ []) $ split ! $ move ! (1 ∷ []) $ split ! $
+      keep ! (4 ∷ 3 ∷ 2 ∷ 0 ∷ 9 ∷ 8 ∷ 7 ∷ 5 ∷ 10 ∷ 11 ∷ 12 ∷ 13 ∷ 14 ∷ 15 ∷ 16 ∷ 17 ∷ 18 ∷ 19 ∷ 20 ∷ 21 ∷ 22 ∷ 23 ∷ 24 ∷ 25 ∷ 26 ∷ 27 ∷ 28 ∷ 29 ∷ 30 ∷ 31 ∷ 32 ∷ 33 ∷ 34 ∷ 35 ∷ 36 ∷ 37 ∷ 38 ∷ 39 ∷ 40 ∷ 41 ∷ []) $
+      opens 𝓣 known l₀ l₁ l₂ l₃ l₄ l₅ l₆ l₇ l₈ l₉ l₁₀ l₁₁ l₁₂ l₁₃ l₁₄ l₁₅))))))))))))))))
 
 module _ {M : Type 1} (𝓤 : URA M) (H : Heap 𝓤) (A : Atoms 𝓤) (W : Given 𝓤 H A) (mem : Memory → SProp 𝓤) (run : Routine → Fun 𝓤) (𝓣 : Tables 𝓤 H) (known : Known 𝓤 H A mem run 𝓣) where
   walks : Walks 𝓤 H A entrance.ended stayed (WpFn 𝓤 H (𝓣 .C) (𝓣 .Λ) code.function) (entrance.clauses 𝓤 H A mem run)
@@ -471,6 +511,7 @@ evaluate-records-spec 𝓤 H 𝓜 𝓖 𝓡 =
     entered 𝓤 H (tripleOf 𝓤 H (𝓖 .A) entrance.signature (entrance.spec 𝓤 H (𝓖 .A) (𝓜 .mem) (𝓡 .run)))
     (tables 𝓤 H 𝓜 𝓡 code.env .C) (tables 𝓤 H 𝓜 𝓡 code.env .Λ) #evaluate-records code.function (code.unfolded 𝓤 H 𝓜 𝓡)
     (meets 𝓤 H (𝓖 .A) (givenOf 𝓤 H 𝓜 𝓖) (𝓜 .mem) (𝓡 .run) (tablesOf 𝓤 H 𝓜 (tables 𝓤 H 𝓜 𝓡 code.env)) (record {
+      admit-within = cited 𝓤 H (AdmitWithin 𝓤 H (𝓖 .A) (𝓜 .mem) (𝓡 .run)) 𝓜 𝓡 code.env #admit-within admit-within-def.routine code.calls-admission·admit-within (admit-within-thm.met 𝓤 H 𝓜 𝓖 𝓡);
       ready = cited 𝓤 H (Ready 𝓤 H (𝓖 .A) (𝓜 .mem) (𝓡 .run)) 𝓜 𝓡 code.env #ready ready-def.routine code.calls-records·checks·ready (ready-thm.met 𝓤 H 𝓜 𝓖 𝓡);
       terms-when = cited 𝓤 H (TermsWhen 𝓤 H (𝓖 .A) (𝓜 .mem) (𝓡 .run)) 𝓜 𝓡 code.env #terms-when terms-when-def.routine code.calls-records·drive·terms-when (terms-when-thm.met 𝓤 H 𝓜 𝓖 𝓡);
       first-turn = cited 𝓤 H (FirstTurn 𝓤 H (𝓖 .A) (𝓜 .mem) (𝓡 .run)) 𝓜 𝓡 code.env #first-turn first-turn-def.routine code.calls-records·drive·first-turn (first-turn-thm.met 𝓤 H 𝓜 𝓖 𝓡);

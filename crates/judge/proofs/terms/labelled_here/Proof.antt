@@ -1,4 +1,4 @@
-use Rattle.judge.specs.Conditions.{ownMarks}
+use Rattle.sheets.specs.Code.Said.{marksBy}
 use Rattle.judge.specs.Code.Labelled.{labelledOf}
 use Rattle.table.specs.Terms.{terms, termAt}
 use Rattle.table.specs.declared.words.Term.{Term}
@@ -28,8 +28,8 @@ returns c =
     let a = c .before .before .before .before .before .before .before .args in
     let e : a .terms + a .at - a .terms ≡ a .at = omega arith in
     c .labelled-of .ensures
-    ∙ ap (λ (n : ℕ). labelledOf (a .table .now) ownMarks (a .values .now) (take (a .at) (a .room .now)) (take n (drop (a .terms) (a .room .now))) (c .before .before .before .term-at .result) (a .answer)) e
-    ∙ ap (λ (x : Term). labelledOf (a .table .now) ownMarks (a .values .now) (take (a .at) (a .room .now)) (take (a .at) (drop (a .terms) (a .room .now))) x (a .answer)) (c .before .before .before .term-at .ensures)
+    ∙ ap (λ (n : ℕ). labelledOf (a .table .now) (marksBy (a .said .now)) (a .values .now) (take (a .at) (a .room .now)) (take n (drop (a .terms) (a .room .now))) (c .before .before .before .term-at .result) (a .answer)) e
+    ∙ ap (λ (x : Term). labelledOf (a .table .now) (marksBy (a .said .now)) (a .values .now) (take (a .at) (a .room .now)) (take (a .at) (drop (a .terms) (a .room .now))) x (a .answer)) (c .before .before .before .term-at .ensures)
 
 pub labelled-here-spec : {M : Type 1} → statement M
 labelled-here-spec =

@@ -21,7 +21,7 @@ returns-3 c = rw (sym (c .before .before .before .is-read .ensures) ∙ c .befor
 
 returns-4 : tie.Need-returns-4
 unfolding labelledOf numberOf
-returns-4 c = rw (c .before .variable-number .ensures, sym (c .before .before .before .before .before .before .before .is-read .ensures) ∙ c .before .before .before .before .before .before .if1 .left, sym (c .before .before .before .before .before .is-constant .ensures) ∙ c .before .before .before .before .if3 .left, sym (c .before .before .before .is-variable .ensures) ∙ c .before .before .if4 .taken)
+returns-4 c = rw (c .marked .ensures, c .before .variable-number .ensures, sym (c .before .before .before .before .before .before .before .is-read .ensures) ∙ c .before .before .before .before .before .before .if1 .left, sym (c .before .before .before .before .before .is-constant .ensures) ∙ c .before .before .before .before .if3 .left, sym (c .before .before .before .is-variable .ensures) ∙ c .before .before .if4 .taken)
 
 operated-requires : tie.Need-operated-requires
 operated-requires c κs =
@@ -45,6 +45,7 @@ labelled-of-spec =
     returns-2
     (λ c κs. search needs)
     returns-3
+    (λ c κs. search needs)
     (λ c κs. search needs)
     (λ c κs. search needs)
     returns-4

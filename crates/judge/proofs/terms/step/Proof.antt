@@ -12,7 +12,7 @@ use Rattle.table.specs.Folds.{firstFrom}
 use Rattle.evaluate.specs.Code.Turns.{onFrom}
 use Rattle.evaluate.proofs.Onward.{Going, set-out, go-on, stopped, passed}
 use Rattle.judge.specs.declared.reads.Labelled.{Labelled}
-use Rattle.judge.specs.Conditions.{ownMarks}
+use Rattle.sheets.specs.Code.Said.{marksBy}
 use Rattle.judge.specs.Code.Labelled.{entered, noted}
 use Rattle.judge.specs.Code.Turns.{turnHere}
 use Rattle.judge.proofs.Steps.{stopsAfter, step-next, step-room}
@@ -20,16 +20,16 @@ use Rattle.judge.proofs.terms.step.Statement.{statement}
 use Rattle.judge.proofs.terms.step.Tie as tie
 
 abbrev Inv-loop : tie.InvT-loop
-Inv-loop table values count terms work₀ answer at i₀ work i = Going (stopsAfter table values terms at answer) (noted table ownMarks values terms answer) terms at work₀ i work × (length work ≡ length work₀)
+Inv-loop table said values count terms work₀ answer at i₀ work i = Going (stopsAfter table values terms at answer) (noted table (marksBy said) values terms answer) terms at work₀ i work × (length work ≡ length work₀)
 
 abbrev μ-loop : tie.MeasureT-loop
-μ-loop table values count terms work₀ answer at i₀ work i = terms - i
+μ-loop table said values count terms work₀ answer at i₀ work i = terms - i
 
 loop-holds : tie.Need-loop-holds Inv-loop μ-loop
 loop-holds c =
     let s = c .before .before .before in
     let a = s .args in
-    (set-out (stopsAfter (a .table .now) (a .values .now) (a .terms) (a .turn .at) (a .answer)) (noted (a .table .now) ownMarks (a .values .now) (a .terms) (a .answer)) (a .terms) (a .turn .at) (a .work .now) (omega (arith, s .pre .1 .1 .0)), refl)
+    (set-out (stopsAfter (a .table .now) (a .values .now) (a .terms) (a .turn .at) (a .answer)) (noted (a .table .now) (marksBy (a .said .now)) (a .values .now) (a .terms) (a .answer)) (a .terms) (a .turn .at) (a .work .now) (omega (arith, s .pre .1 .1 .0)), refl)
 
 -- the room is long enough
 enough : (c : tie.In-loop Inv-loop μ-loop) → c .before .before .before .before .before .args .terms + c .before .before .before .before .before .args .terms ≤ length (c .before .loop .work)
@@ -53,7 +53,7 @@ loop-again c =
     let l = c .before .before .before .before .before .before .before .before .before .before .loop in
     let plain : stopsAfter (a .table .now) (a .values .now) (a .terms) (a .turn .at) (a .answer) (l .i) ≡ false = sym (ap (λ (b : Bool). not (eqb (l .i) (a .turn .at)) && b) (c .before .before .before .before .before .before .before .is-read .ensures ∙ ap isRead (c .before .before .before .before .before .before .before .before .term-at .ensures))) ∙ c .before .before .before .before .before .before .if1 .left in
     let wrote = c .before .before .note .ensures ∙ ap (λ (r : Labelled). entered r (a .terms) (l .work) (l .i)) (c .before .before .before .before .labelled-here .ensures) in (
-      subst (Going (stopsAfter (a .table .now) (a .values .now) (a .terms) (a .turn .at) (a .answer)) (noted (a .table .now) ownMarks (a .values .now) (a .terms) (a .answer)) (a .terms) (a .turn .at) (a .work .now) _) (sym wrote) (go-on (stopsAfter (a .table .now) (a .values .now) (a .terms) (a .turn .at) (a .answer)) (noted (a .table .now) ownMarks (a .values .now) (a .terms) (a .answer)) (a .terms) (a .turn .at) (a .work .now) (l .i) (l .work) (l .inv .0) (c .before .before .before .before .before .before .before .before .before .loop-test .taken) plain),
+      subst (Going (stopsAfter (a .table .now) (a .values .now) (a .terms) (a .turn .at) (a .answer)) (noted (a .table .now) (marksBy (a .said .now)) (a .values .now) (a .terms) (a .answer)) (a .terms) (a .turn .at) (a .work .now) _) (sym wrote) (go-on (stopsAfter (a .table .now) (a .values .now) (a .terms) (a .turn .at) (a .answer)) (noted (a .table .now) (marksBy (a .said .now)) (a .values .now) (a .terms) (a .answer)) (a .terms) (a .turn .at) (a .work .now) (l .i) (l .work) (l .inv .0) (c .before .before .before .before .before .before .before .before .before .loop-test .taken) plain),
       c .before .before .note .kept .0 ∙ l .inv .1,
     )
 
@@ -61,13 +61,13 @@ loop-again c =
 arrives : (c : tie.Left-loop Inv-loop μ-loop) →
     let a = c .before .before .before .before .before .args in
     let l = c .before .loop in
-    (l .i ≡ firstFrom (stopsAfter (a .table .now) (a .values .now) (a .terms) (a .turn .at) (a .answer)) (a .terms - a .turn .at) (a .turn .at)) × (l .work ≡ onFrom (stopsAfter (a .table .now) (a .values .now) (a .terms) (a .turn .at) (a .answer)) (noted (a .table .now) ownMarks (a .values .now) (a .terms) (a .answer)) (a .terms - a .turn .at) (a .work .now) (a .turn .at))
+    (l .i ≡ firstFrom (stopsAfter (a .table .now) (a .values .now) (a .terms) (a .turn .at) (a .answer)) (a .terms - a .turn .at) (a .turn .at)) × (l .work ≡ onFrom (stopsAfter (a .table .now) (a .values .now) (a .terms) (a .turn .at) (a .answer)) (noted (a .table .now) (marksBy (a .said .now)) (a .values .now) (a .terms) (a .answer)) (a .terms - a .turn .at) (a .work .now) (a .turn .at))
 arrives c =
     let a = c .before .before .before .before .before .args in
     let l = c .before .loop in
     ⊎-elim
-    (λ e. passed (stopsAfter (a .table .now) (a .values .now) (a .terms) (a .turn .at) (a .answer)) (noted (a .table .now) ownMarks (a .values .now) (a .terms) (a .answer)) (a .terms) (a .turn .at) (a .work .now) (l .i) (l .work) (l .inv .0) (e .left))
-    (λ e. stopped (stopsAfter (a .table .now) (a .values .now) (a .terms) (a .turn .at) (a .answer)) (noted (a .table .now) ownMarks (a .values .now) (a .terms) (a .answer)) (a .terms) (a .turn .at) (a .work .now) (l .i) (l .work) (l .inv .0) (e .0 .taken) (sym (ap (λ (b : Bool). not (eqb (l .i) (a .turn .at)) && b) (e .2 .ensures ∙ ap isRead (e .1 .ensures))) ∙ e .3 .taken))
+    (λ e. passed (stopsAfter (a .table .now) (a .values .now) (a .terms) (a .turn .at) (a .answer)) (noted (a .table .now) (marksBy (a .said .now)) (a .values .now) (a .terms) (a .answer)) (a .terms) (a .turn .at) (a .work .now) (l .i) (l .work) (l .inv .0) (e .left))
+    (λ e. stopped (stopsAfter (a .table .now) (a .values .now) (a .terms) (a .turn .at) (a .answer)) (noted (a .table .now) (marksBy (a .said .now)) (a .values .now) (a .terms) (a .answer)) (a .terms) (a .turn .at) (a .work .now) (l .i) (l .work) (l .inv .0) (e .0 .taken) (sym (ap (λ (b : Bool). not (eqb (l .i) (a .turn .at)) && b) (e .2 .ensures ∙ ap isRead (e .1 .ensures))) ∙ e .3 .taken))
     (c .loop-test .came)
 
 turn-here-requires : tie.Need-turn-here-requires Inv-loop μ-loop
@@ -85,7 +85,7 @@ returns c =
     let a = s .args in
     let there = arrives (c .before .before) in (
       c .turn-here .ensures ∙ ap (turnHere (a .table .now) (a .values .now) (a .count) (a .terms) (c .before .before .before .loop .work)) (there .0 ∙ step-next (a .table .now) (a .values .now) (a .terms) (a .turn .at) (a .answer) (s .pre .1 .1 .0)),
-      there .1 ∙ step-room (a .table .now) (a .values .now) (a .terms) (a .turn .at) (a .answer) ownMarks (a .work .now) (s .pre .1 .1 .0),
+      there .1 ∙ step-room (a .table .now) (a .values .now) (a .terms) (a .turn .at) (a .answer) (marksBy (a .said .now)) (a .work .now) (s .pre .1 .1 .0),
     )
 
 pub step-spec : {M : Type 1} → statement M

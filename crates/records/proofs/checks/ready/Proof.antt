@@ -1,4 +1,4 @@
--- `records::checks::ready` meets its contract: a walk of its MIR, by hand, a row of five calls. The local entries are lent by `&` for the fourth.
+-- `records::checks::ready` meets its contract: a walk of its MIR, by hand, a row of four calls. The local entries are lent by `&` for the third.
 -- Assumes nothing.
 use mathlib.Core.Path.{_≡_, refl, ap, subst, _∙_}
 use Prim.Native.Nat.{ℕ, _<_, _≤_, _^_}
@@ -44,15 +44,11 @@ use denote.Exit.{yes}
 use Rattle.table.specs.declared.Acceptance.{Acceptance}
 use Rattle.table.specs.declared.Acceptance.the-variants.{Accepted}
 use Rattle.table.specs.Terms.{terms, termAt}
-use Rattle.table.specs.Admission.{andThen, admissionWithin, scan, accepts}
+use Rattle.table.specs.Admission.{andThen, scan, accepts}
 use Rattle.evaluate.specs.declared.Evaluation.the-variants.{NotEvaluated}
 use Rattle.table.specs.WellFormed.{WellFormed}
 use Rattle.table.proofs.Acceptance as E
 use Rattle.table.proofs.Acceptance.Laws as E′
-use Rattle.admission.proofs.admit_within as admit-within
-use Rattle.admission.proofs.admit_within.Symbol as admit-within-def
-use Rattle.admission.proofs.admit_within.Symbol.{name as #admit-within}
-use Rattle.admission.proofs.admit_within.Met as admit-within-thm
 use Rattle.setting.specs.declared.cells.Cell.{Cell}
 use Rattle.setting.specs.Code.Entries.{Entries}
 use Rattle.setting.specs.Check.{variableFault, cellFault}
@@ -65,7 +61,7 @@ use Rattle.records.specs.Rows.{recordAt}
 use Rattle.records.specs.Answers as answers
 use Rattle.records.proofs.Facts.{two, tells, needs-both}
 use Rattle.records.proofs.Lent.{row, ty, entriesAt, Lent, lends-entries, entries-back}
-use Rattle.records.proofs.Readiness.{formed, some-counted, counted-most, ready-is}
+use Rattle.records.proofs.Readiness.{some-counted, counted-most, ready-is}
 use Rattle.records.proofs.checks.count_when as count-when
 use Rattle.records.proofs.checks.count_when.Symbol as count-when-def
 use Rattle.records.proofs.checks.count_when.Symbol.{name as #count-when}
@@ -93,7 +89,7 @@ abbrev stayed : Stays (readying.ended .signature .params) (readying.ended .kept)
 stayed = (
   stay-dropped (shrSliceOf (0 ∷ []) tt (plain (λ _. u32))) yes,
   (
-    stay-dropped (plain (λ _. u32)) yes,
+    stay-dropped (plain (λ _. E.the-row)) yes,
     (
       stay-dropped (shrSliceOf (1 ∷ []) tt (plain (λ _. u32))) yes,
       (
@@ -106,9 +102,6 @@ stayed = (
 
 module _ {M : Type 1} (𝓤 : URA M) (H : Heap 𝓤) (A : Atoms 𝓤) (mem : Memory → SProp 𝓤) (run : Routine → Fun 𝓤) where
   -- the contracts that the proof cites
-  abbrev AdmitWithin : Contract 𝓤
-  AdmitWithin = tripleOf 𝓤 H A admit-within.signature (admit-within.spec 𝓤 H A mem run)
-
   abbrev CountWhen : Contract 𝓤
   CountWhen = tripleOf 𝓤 H A count-when.signature (count-when.spec 𝓤 H A mem run)
 
@@ -123,16 +116,15 @@ module _ {M : Type 1} (𝓤 : URA M) (H : Heap 𝓤) (A : Atoms 𝓤) (mem : Mem
 
   -- the callees
   pub record Known (𝓣 : Tables 𝓤 H) : Type 1 where
-    pub admit-within : Triple 𝓤 (𝓣 .C #admit-within) AdmitWithin
     pub count-when : Triple 𝓤 (𝓣 .C #count-when) CountWhen
     pub entries-when : Triple 𝓤 (𝓣 .C #entries-when) EntriesWhen
     pub cells-checked : Triple 𝓤 (𝓣 .C #cells-checked) CellsChecked
     pub afforded : Triple 𝓤 (𝓣 .C #afforded) Afforded
 
 module _ {M : Type 1} (𝓤 : URA M) (H : Heap 𝓤) (A : Atoms 𝓤) (W : Given 𝓤 H A) (mem : Memory → SProp 𝓤) (run : Routine → Fun 𝓤)
-    (κ₀ κ₁ κ₂ : Lft) (q₀ q₁ q₂ : Share) (x₀ : RefT (List ℕ)) (limit : ℕ) (x₁ : RefT (List ℕ)) (x₂ : RefT (List Cell)) (each allowance space : ℕ)
-    (room₀ : Room u32 (length (now x₀))) (fl : limit < 2 ^ 32) (room₁ : Room u32 (length (now x₁))) (room₂ : Room T.the-row (length (now x₂))) (fe : each < 2 ^ 32) (fa : allowance < 2 ^ 64) (fr : space < 2 ^ 64)
-    (small : limit ≤ 80000) (few : each ≤ 8) where
+    (κ₀ κ₁ κ₂ : Lft) (q₀ q₁ q₂ : Share) (x₀ : RefT (List ℕ)) (a : Acceptance) (x₁ : RefT (List ℕ)) (x₂ : RefT (List Cell)) (each allowance space : ℕ)
+    (room₀ : Room u32 (length (now x₀))) (low-a : Is E.the-row a (E′.lowered a ∷ [])) (room₁ : Room u32 (length (now x₁))) (room₂ : Room T.the-row (length (now x₂))) (fe : each < 2 ^ 32) (fa : allowance < 2 ^ 64) (fr : space < 2 ^ 64)
+    (formed : accepts a ≡ true → WellFormed 80000 (now x₀)) (few : each ≤ 8) where
   abbrev w : List ℕ
   w = now x₀
 
@@ -160,11 +152,11 @@ module _ {M : Type 1} (𝓤 : URA M) (H : Heap 𝓤) (A : Atoms 𝓤) (W : Given
   abbrev Own₂ : Fml
   Own₂ = ShrSlice (named 2) κ₂ T.the-row .own x₂ (v₂ ∷ [])
 
-  abbrev args : RefT (List ℕ) × (ℕ × (RefT (List ℕ) × (RefT (List Cell) × (ℕ × (ℕ × (ℕ × Unit {0}))))))
-  args = (x₀, (limit, (x₁, (x₂, (each, (allowance, (space, tt)))))))
+  abbrev args : RefT (List ℕ) × (Acceptance × (RefT (List ℕ) × (RefT (List Cell) × (ℕ × (ℕ × (ℕ × Unit {0}))))))
+  args = (x₀, (a, (x₁, (x₂, (each, (allowance, (space, tt)))))))
 
   abbrev at : List Val × (List Val × (List Val × (List Val × (List Val × (List Val × (List Val × Unit {0}))))))
-  at = (v₀ ∷ [], (vint w32 limit ∷ [], (v₁ ∷ [], (v₂ ∷ [], (vint w32 each ∷ [], (vint w64 allowance ∷ [], (vint w64 space ∷ [], tt)))))))
+  at = (v₀ ∷ [], (E′.lowered a ∷ [], (v₁ ∷ [], (v₂ ∷ [], (vint w32 each ∷ [], (vint w64 allowance ∷ [], (vint w64 space ∷ [], tt)))))))
 
   abbrev bound : walkOf 𝓤 H A readying.ended stayed (readying.clauses 𝓤 H A mem run) .Ghost
   bound = (((κ₀, (κ₁, (κ₂, tt))), (q₀, (q₁, (q₂, tt))), tt, args, at), tt)
@@ -172,7 +164,7 @@ module _ {M : Type 1} (𝓤 : URA M) (H : Heap 𝓤) (A : Atoms 𝓤) (W : Given
   abbrev Post : Val → SProp 𝓤
   Post = walkOf 𝓤 H A readying.ended stayed (readying.clauses 𝓤 H A mem run) .post bound
 
-  exits : (r : Evaluation) → r ≡ answers.ready limit w values cells each allowance space → Is Ev.the-row r (Ev′.lowered r ∷ [])
+  exits : (r : Evaluation) → r ≡ answers.ready a w values cells each allowance space → Is Ev.the-row r (Ev′.lowered r ∷ [])
       → ent 𝓤 (⋆ 𝓤 H A ((‵ (flft κ₀ q₀) ⊛ (‵ (flft κ₁ q₁) ⊛ ‵ ftrue)) ∷ ‵ (flft κ₂ q₂) ∷ ‵ Own₂ ∷ [])) (Post (Ev′.lowered r))
   exits r e is =
       qed W ((‵ (flft κ₀ q₀) ⊛ (‵ (flft κ₁ q₁) ⊛ ‵ ftrue)) ∷ ‵ (flft κ₂ q₂) ∷ ‵ Own₂ ∷ []) ∵
@@ -182,23 +174,14 @@ module _ {M : Type 1} (𝓤 : URA M) (H : Heap 𝓤) (A : Atoms 𝓤) (W : Given
       owned ! Ev.the-row (Is Ev.the-row) (LE.makes Ev.the-type Ev′.the-plain 𝓤 H A) r _ is $ done !
 
   -- ---- what each callee's triple binds outside, what it asks, and what it says
-  abbrev to-admit : AdmitWithin 𝓤 H A mem run .Ghost
-  to-admit = (((κ₀, tt), (q₀, tt), tt, (x₀, (limit, tt)), (v₀ ∷ [], (vint w32 limit ∷ [], tt))), tt)
+  abbrev to-count : CountWhen 𝓤 H A mem run .Ghost
+  to-count = ((tt, tt, tt, (a, (length cells, tt)), (E′.lowered a ∷ [], (vint w64 (length cells) ∷ [], tt))), tt)
 
-  goes-admit : ent 𝓤 (⋆ 𝓤 H A (‵ (flft κ₀ q₀) ∷ ‵ Own₀ ∷ [])) (AdmitWithin 𝓤 H A mem run .pre to-admit)
-  goes-admit = qed W (‵ (flft κ₀ q₀) ∷ ‵ Own₀ ∷ []) ∵ nothing ! $ move ! (1 ∷ 0 ∷ []) $ join ! $ nothing ! $ owned ! u32 (Is u32) (uint-makes 𝓤 H A W w32) limit _ (refl, fl) $ fjoin ! $ move ! (2 ∷ 0 ∷ []) $ fjoin ! $ move ! (1 ∷ 0 ∷ []) $ join ! $ frame ! $ done !
+  goes-count : ent 𝓤 (emp 𝓤) (CountWhen 𝓤 H A mem run .pre to-count)
+  goes-count = qed W [] ∵ nothing ! $ nothing ! $ owned ! usize (Is usize) (uint-makes 𝓤 H A W w64) (length cells) _ (refl, room₂ .0) $ fjoin ! $ owned ! E.the-row (Is E.the-row) (LE.makes E.the-type E′.the-plain 𝓤 H A) a _ low-a $ fjoin ! $ nothing ! $ join ! $ frame ! $ done !
 
-  said-admit : (r : Acceptance) → ent 𝓤 (ensured 𝓤 H A admit-within.ended (admit-within.clauses 𝓤 H A mem run) (κ₀, tt) (x₀, (limit, tt)) tt r) (fact 𝓤 (r ≡ admissionWithin limit w))
-  said-admit r = exE 𝓤 _ (λ ws. snd∗ 𝓤 (sem 𝓤 H A (lasts admit-within.ended (κ₀, tt) (x₀, (limit, tt)) ws)) (fact 𝓤 (r ≡ admissionWithin limit w)))
-
-  abbrev to-count : Acceptance → CountWhen 𝓤 H A mem run .Ghost
-  to-count a = ((tt, tt, tt, (a, (length cells, tt)), (E′.lowered a ∷ [], (vint w64 (length cells) ∷ [], tt))), tt)
-
-  goes-count : (a : Acceptance) → Is E.the-row a (E′.lowered a ∷ []) → ent 𝓤 (emp 𝓤) (CountWhen 𝓤 H A mem run .pre (to-count a))
-  goes-count a is = qed W [] ∵ nothing ! $ nothing ! $ owned ! usize (Is usize) (uint-makes 𝓤 H A W w64) (length cells) _ (refl, room₂ .0) $ fjoin ! $ owned ! E.the-row (Is E.the-row) (LE.makes E.the-type E′.the-plain 𝓤 H A) a _ is $ fjoin ! $ nothing ! $ join ! $ frame ! $ done !
-
-  said-count : (a : Acceptance) (r : ℕ) → ent 𝓤 (ensured 𝓤 H A count-when.ended (count-when.clauses 𝓤 H A mem run) tt (a, (length cells, tt)) tt r) (fact 𝓤 (r ≡ cond (accepts a) (length cells) 0))
-  said-count a r = exE 𝓤 _ (λ ws. snd∗ 𝓤 (sem 𝓤 H A (lasts count-when.ended tt (a, (length cells, tt)) ws)) (fact 𝓤 (r ≡ cond (accepts a) (length cells) 0)))
+  said-count : (r : ℕ) → ent 𝓤 (ensured 𝓤 H A count-when.ended (count-when.clauses 𝓤 H A mem run) tt (a, (length cells, tt)) tt r) (fact 𝓤 (r ≡ cond (accepts a) (length cells) 0))
+  said-count r = exE 𝓤 _ (λ ws. snd∗ 𝓤 (sem 𝓤 H A (lasts count-when.ended tt (a, (length cells, tt)) ws)) (fact 𝓤 (r ≡ cond (accepts a) (length cells) 0)))
 
   abbrev to-entries : ℕ → EntriesWhen 𝓤 H A mem run .Ghost
   to-entries n = (((κ₀, tt), (q₀, tt), tt, (x₀, (n, tt)), (v₀ ∷ [], (vint w64 n ∷ [], tt))), tt)
@@ -233,31 +216,30 @@ module _ {M : Type 1} (𝓤 : URA M) (H : Heap 𝓤) (A : Atoms 𝓤) (W : Given
   said-cells : (ν l : ℕ) (γ : GName) (es : List ℕ) (n : ℕ) (r : Acceptance) → ent 𝓤 (ensured 𝓤 H A cells-checked.ended (cells-checked.clauses 𝓤 H A mem run) (κ₀, (ν ∷ [], (κ₂, tt))) (passed l γ es n) tt r) (fact 𝓤 (r ≡ said-cells-of n))
   said-cells ν l γ es n r = exE 𝓤 _ (λ ws. snd∗ 𝓤 (sem 𝓤 H A (lasts cells-checked.ended (κ₀, (ν ∷ [], (κ₂, tt))) (passed l γ es n) ws)) (fact 𝓤 (r ≡ said-cells-of n)))
 
-  abbrev given-of : Acceptance → Acceptance → RefT (List ℕ) × (RefT (List ℕ) × (Acceptance × (Acceptance × (ℕ × (ℕ × (ℕ × Unit {0}))))))
-  given-of a c = (x₀, (x₁, (a, (c, (each, (allowance, (space, tt)))))))
+  abbrev given-of : Acceptance → RefT (List ℕ) × (RefT (List ℕ) × (Acceptance × (Acceptance × (ℕ × (ℕ × (ℕ × Unit {0}))))))
+  given-of c = (x₀, (x₁, (a, (c, (each, (allowance, (space, tt)))))))
 
-  abbrev to-afforded : Acceptance → Acceptance → Afforded 𝓤 H A mem run .Ghost
-  to-afforded a c = (((κ₀, (κ₁, tt)), (q₀, (q₁, tt)), tt, given-of a c, (v₀ ∷ [], (v₁ ∷ [], (E′.lowered a ∷ [], (E′.lowered c ∷ [], (vint w32 each ∷ [], (vint w64 allowance ∷ [], (vint w64 space ∷ [], tt)))))))), tt)
+  abbrev to-afforded : Acceptance → Afforded 𝓤 H A mem run .Ghost
+  to-afforded c = (((κ₀, (κ₁, tt)), (q₀, (q₁, tt)), tt, given-of c, (v₀ ∷ [], (v₁ ∷ [], (E′.lowered a ∷ [], (E′.lowered c ∷ [], (vint w32 each ∷ [], (vint w64 allowance ∷ [], (vint w64 space ∷ [], tt)))))))), tt)
 
-  goes-afforded : (a c : Acceptance) → Is E.the-row a (E′.lowered a ∷ []) → Is E.the-row c (E′.lowered c ∷ []) → (accepts a ≡ true → WellFormed 80000 w)
-      → ent 𝓤 (⋆ 𝓤 H A ((‵ (flft κ₀ q₀) ⊛ ‵ (flft κ₁ q₁)) ∷ (‵ Own₀ ⊛ ‵ Own₁) ∷ [])) (Afforded 𝓤 H A mem run .pre (to-afforded a c))
-  goes-afforded a c is-a is-c f =
+  goes-afforded : (c : Acceptance) → Is E.the-row c (E′.lowered c ∷ []) → ent 𝓤 (⋆ 𝓤 H A ((‵ (flft κ₀ q₀) ⊛ ‵ (flft κ₁ q₁)) ∷ (‵ Own₀ ⊛ ‵ Own₁) ∷ [])) (Afforded 𝓤 H A mem run .pre (to-afforded c))
+  goes-afforded c is-c =
       qed W ((‵ (flft κ₀ q₀) ⊛ ‵ (flft κ₁ q₁)) ∷ (‵ Own₀ ⊛ ‵ Own₁) ∷ []) ∵
-      tells ! (two 𝓤 f few) $
+      tells ! (two 𝓤 formed few) $
       split ! $ move ! (1 ∷ []) $ nothing ! $ move ! (1 ∷ 0 ∷ []) $ join ! $ move ! (1 ∷ 0 ∷ []) $ join ! $ frame ! $ split ! $
       nothing ! $ owned ! usize (Is usize) (uint-makes 𝓤 H A W w64) space _ (refl, fr) $ fjoin ! $ owned ! u64 (Is u64) (uint-makes 𝓤 H A W w64) allowance _ (refl, fa) $ fjoin ! $ owned ! u32 (Is u32) (uint-makes 𝓤 H A W w32) each _ (refl, fe) $ fjoin ! $
-      owned ! E.the-row (Is E.the-row) (LE.makes E.the-type E′.the-plain 𝓤 H A) c _ is-c $ fjoin ! $ owned ! E.the-row (Is E.the-row) (LE.makes E.the-type E′.the-plain 𝓤 H A) a _ is-a $ fjoin ! $ move ! (2 ∷ 0 ∷ []) $ fjoin ! $ move ! (1 ∷ 0 ∷ []) $ fjoin ! $ done !
+      owned ! E.the-row (Is E.the-row) (LE.makes E.the-type E′.the-plain 𝓤 H A) c _ is-c $ fjoin ! $ owned ! E.the-row (Is E.the-row) (LE.makes E.the-type E′.the-plain 𝓤 H A) a _ low-a $ fjoin ! $ move ! (2 ∷ 0 ∷ []) $ fjoin ! $ move ! (1 ∷ 0 ∷ []) $ fjoin ! $ done !
 
-  abbrev afforded-by : Acceptance → Acceptance → Evaluation
-  afforded-by a c = andThen NotEvaluated a (andThen NotEvaluated (scan (λ k. variableFault values (termAt w k)) (terms w) 0 c) (afford w each allowance space))
+  abbrev afforded-by : Acceptance → Evaluation
+  afforded-by c = andThen NotEvaluated a (andThen NotEvaluated (scan (λ k. variableFault values (termAt w k)) (terms w) 0 c) (afford w each allowance space))
 
-  said-afforded : (a c : Acceptance) (r : Evaluation) → ent 𝓤 (ensured 𝓤 H A afforded.ended (afforded.clauses 𝓤 H A mem run) (κ₀, (κ₁, tt)) (given-of a c) tt r) (fact 𝓤 (r ≡ afforded-by a c))
-  said-afforded a c r = exE 𝓤 _ (λ ws. snd∗ 𝓤 (sem 𝓤 H A (lasts afforded.ended (κ₀, (κ₁, tt)) (given-of a c) ws)) (fact 𝓤 (r ≡ afforded-by a c)))
+  said-afforded : (c : Acceptance) (r : Evaluation) → ent 𝓤 (ensured 𝓤 H A afforded.ended (afforded.clauses 𝓤 H A mem run) (κ₀, (κ₁, tt)) (given-of c) tt r) (fact 𝓤 (r ≡ afforded-by c))
+  said-afforded c r = exE 𝓤 _ (λ ws. snd∗ 𝓤 (sem 𝓤 H A (lasts afforded.ended (κ₀, (κ₁, tt)) (given-of c) ws)) (fact 𝓤 (r ≡ afforded-by c)))
 
   lowers : (r : Acceptance) (u : Val) → Is E.the-row r (u ∷ []) → Is E.the-row r (E′.lowered r ∷ [])
   lowers r u is = subst (Is E.the-row r) (E′.lowers .val-is r (u ∷ []) is) is
 
-  module _ (𝓣 : Tables 𝓤 H) (known : Known 𝓤 H A mem run 𝓣) (l₀ l₁ l₂ l₃ l₄ l₅ l₆ l₇ l₈ l₉ l₁₀ l₁₁ l₁₂ l₁₃ l₁₄ : ℕ) where
+  module _ (𝓣 : Tables 𝓤 H) (known : Known 𝓤 H A mem run 𝓣) (l₀ l₁ l₂ l₃ l₄ l₅ l₆ l₇ l₈ l₉ l₁₀ l₁₁ l₁₂ l₁₃ : ℕ) where
     abbrev C : Calls 𝓤 H
     C = 𝓣 .C
 
@@ -277,98 +259,91 @@ module _ {M : Type 1} (𝓤 : URA M) (H : Heap 𝓤) (A : Atoms 𝓤) (W : Given
     ref = tyRef erased imm ty
 
     abbrev En : Env 𝓤 H
-    En = (Ev′.mir, l₀) ∷ (sl₀, l₁) ∷ (tyInt w32, l₂) ∷ (sl₁, l₃) ∷ (sl₂, l₄) ∷ (tyInt w32, l₅) ∷ (tyInt w64, l₆) ∷ (tyInt w64, l₇) ∷ (E′.mir, l₈) ∷ (tyInt w64, l₉) ∷ (ty, l₁₀) ∷ (E′.mir, l₁₁) ∷ (tyInt w64, l₁₂) ∷ (ty, l₁₃) ∷ (ref, l₁₄) ∷ []
+    En = (Ev′.mir, l₀) ∷ (sl₀, l₁) ∷ (E′.mir, l₂) ∷ (sl₁, l₃) ∷ (sl₂, l₄) ∷ (tyInt w32, l₅) ∷ (tyInt w64, l₆) ∷ (tyInt w64, l₇) ∷ (tyInt w64, l₈) ∷ (ty, l₉) ∷ (E′.mir, l₁₀) ∷ (tyInt w64, l₁₁) ∷ (ty, l₁₂) ∷ (ref, l₁₃) ∷ []
 
-    -- the tokens; what the slices own; _14; …; _0; …
+    -- the tokens; what the slices own; _13; …; _0; …
     abbrev At : List (Item 𝓤)
-    At = ‵ (flft κ₀ q₀) ∷ ‵ (flft κ₁ q₁) ∷ ‵ (flft κ₂ q₂) ∷ ‵ Own₀ ∷ ‵ Own₁ ∷ ‵ Own₂ ∷ ‵ (froom ref l₁₄ 0) ∷ ‵ (fdies ref l₁₄) ∷ ‵ (froom ty l₁₃ 0) ∷ ‵ (fdies ty l₁₃) ∷ ‵ (froom (tyInt w64) l₁₂ 0) ∷ ‵ (fdies (tyInt w64) l₁₂)
-        ∷ ‵ (froom E′.mir l₁₁ 0) ∷ ‵ (fdies E′.mir l₁₁) ∷ ‵ (froom ty l₁₀ 0) ∷ ‵ (fdies ty l₁₀) ∷ ‵ (froom (tyInt w64) l₉ 0) ∷ ‵ (fdies (tyInt w64) l₉) ∷ ‵ (froom E′.mir l₈ 0) ∷ ‵ (fdies E′.mir l₈)
+    At = ‵ (flft κ₀ q₀) ∷ ‵ (flft κ₁ q₁) ∷ ‵ (flft κ₂ q₂) ∷ ‵ Own₀ ∷ ‵ Own₁ ∷ ‵ Own₂ ∷ ‵ (froom ref l₁₃ 0) ∷ ‵ (fdies ref l₁₃) ∷ ‵ (froom ty l₁₂ 0) ∷ ‵ (fdies ty l₁₂) ∷ ‵ (froom (tyInt w64) l₁₁ 0) ∷ ‵ (fdies (tyInt w64) l₁₁)
+        ∷ ‵ (froom E′.mir l₁₀ 0) ∷ ‵ (fdies E′.mir l₁₀) ∷ ‵ (froom ty l₉ 0) ∷ ‵ (fdies ty l₉) ∷ ‵ (froom (tyInt w64) l₈ 0) ∷ ‵ (fdies (tyInt w64) l₈)
         ∷ ‵ (fat fullShare (tyInt w64) l₇ 0 (vint w64 space)) ∷ ‵ (fdies (tyInt w64) l₇) ∷ ‵ (fat fullShare (tyInt w64) l₆ 0 (vint w64 allowance)) ∷ ‵ (fdies (tyInt w64) l₆) ∷ ‵ (fat fullShare (tyInt w32) l₅ 0 (vint w32 each)) ∷ ‵ (fdies (tyInt w32) l₅)
-        ∷ ‵ (fat fullShare sl₂ l₄ 0 v₂) ∷ ‵ (fdies sl₂ l₄) ∷ ‵ (fat fullShare sl₁ l₃ 0 v₁) ∷ ‵ (fdies sl₁ l₃) ∷ ‵ (fat fullShare (tyInt w32) l₂ 0 (vint w32 limit)) ∷ ‵ (fdies (tyInt w32) l₂) ∷ ‵ (fat fullShare sl₀ l₁ 0 v₀) ∷ ‵ (fdies sl₀ l₁) ∷ ‵ (froom Ev′.mir l₀ 0) ∷ ‵ (fdies Ev′.mir l₀) ∷ []
+        ∷ ‵ (fat fullShare sl₂ l₄ 0 v₂) ∷ ‵ (fdies sl₂ l₄) ∷ ‵ (fat fullShare sl₁ l₃ 0 v₁) ∷ ‵ (fdies sl₁ l₃) ∷ ‵ (fat fullShare E′.mir l₂ 0 (E′.lowered a)) ∷ ‵ (fdies E′.mir l₂) ∷ ‵ (fat fullShare sl₀ l₁ 0 v₀) ∷ ‵ (fdies sl₀ l₁) ∷ ‵ (froom Ev′.mir l₀ 0) ∷ ‵ (fdies Ev′.mir l₀) ∷ []
 
     starts : Sq W At (runs C Λ En mirs.t-1 (atRet En Post))
     starts =
-        -- `admit_within`
-        move ! (3 ∷ []) $ use1 W (‵ Own₀ ⊛ ‵ Own₀) (shr-slice-copy 𝓤 H A W (named 0) κ₀ u32 .twice x₀ (v₀ ∷ [])) $ split ! $ move ! (2 ∷ 0 ∷ []) $ use2 W (raw (AdmitWithin 𝓤 H A mem run .pre to-admit)) goes-admit $
-        calls-at ! (fmOf 𝓤 H (W .laws) 𝓣) (AdmitWithin 𝓤 H A mem run) (known .admit-within) to-admit (and-then ! (load ! (from ! (stop !)) (look ! 32 refl)) (and-then ! (load ! (from ! (stop !)) (look ! 30 refl)) (no-more !))) (λ u-a.
-        use1 W (later (some (λ (r : Acceptance). ((‵ (flft κ₀ q₀) ⊛ ‵ ftrue) ⊛ ‵ (E.the-row .own r (u-a ∷ []))) ⊛ raw (ensured 𝓤 H A admit-within.ended (admit-within.clauses 𝓤 H A mem run) (κ₀, tt) (x₀, (limit, tt)) tt r)))) (id⊢ 𝓤 _) $ await ! tt $ pick ! (λ a.
-        split ! $ move ! (1 ∷ []) $ use1 W (raw (fact 𝓤 (a ≡ admissionWithin limit w))) (said-admit a) $ heard ! (a ≡ admissionWithin limit w) (λ e-a. split ! $ move ! (1 ∷ []) $
-        peeks ! E.the-row (Is E.the-row) (shows 𝓤 H A E.the-row) a (u-a ∷ []) (λ was-a. land ! (from ! (stop !)) (init ! 19 refl (LE.lawful E.the-type E′.the-laws 𝓤 H A W tt .typed a _ was-a .0)) $
-        rewrite ! 19 (λ (z : Val). ‵ (fat fullShare E′.mir l₈ 0 z)) (ap only (E′.lowers .val-is a (u-a ∷ []) was-a)) refl $ drop ! $ split ! $ move ! (1 ∷ []) $ drop ! $
-        -- [the table's token; what the table owns; the two other tokens; what the other two own; _14; …]: `count_when`
-        assigns ! (of-opd ! (load ! (from ! (fld ! refl (stop !))) (look-in ! 26 (sub ! 1 refl (whole !))))) (from ! (stop !)) (init ! 10 refl (tt, record { fits = room₂ .0 })) $
-        use0 W (raw (CountWhen 𝓤 H A mem run .pre (to-count a))) (goes-count a (lowers a u-a was-a)) $
-        calls-at ! (fmOf 𝓤 H (W .laws) 𝓣) (CountWhen 𝓤 H A mem run) (known .count-when) (to-count a) (and-then ! (load ! (from ! (stop !)) (look ! 19 refl)) (and-then ! (load ! (from ! (stop !)) (look ! 11 refl)) (no-more !))) (λ u-n.
+        -- [the table's token; what the table owns; the two other tokens; what the other two own; _13; …]: `count_when`
+        move ! (0 ∷ 3 ∷ []) $
+        assigns ! (of-opd ! (load ! (from ! (fld ! refl (stop !))) (look-in ! 24 (sub ! 1 refl (whole !))))) (from ! (stop !)) (init ! 10 refl (tt, record { fits = room₂ .0 })) $
+        use0 W (raw (CountWhen 𝓤 H A mem run .pre to-count)) goes-count $
+        calls-at ! (fmOf 𝓤 H (W .laws) 𝓣) (CountWhen 𝓤 H A mem run) (known .count-when) to-count (and-then ! (load ! (from ! (stop !)) (look ! 29 refl)) (and-then ! (load ! (from ! (stop !)) (look ! 11 refl)) (no-more !))) (λ u-n.
         use1 W (later (some (λ (n : ℕ). (‵ ftrue ⊛ ‵ (usize .own n (u-n ∷ []))) ⊛ raw (ensured 𝓤 H A count-when.ended (count-when.clauses 𝓤 H A mem run) tt (a, (length cells, tt)) tt n)))) (id⊢ 𝓤 _) $ await ! tt $ pick ! (λ n.
-        split ! $ move ! (1 ∷ []) $ use1 W (raw (fact 𝓤 (n ≡ cond (accepts a) (length cells) 0))) (said-count a n) $ heard ! (n ≡ cond (accepts a) (length cells) 0) (λ e-n. split ! $ drop ! $
+        split ! $ move ! (1 ∷ []) $ use1 W (raw (fact 𝓤 (n ≡ cond (accepts a) (length cells) 0))) (said-count n) $ heard ! (n ≡ cond (accepts a) (length cells) 0) (λ e-n. split ! $ drop ! $
         peeks ! usize (Is usize) (shows 𝓤 H A usize) n (u-n ∷ []) (λ is-n. land ! (from ! (stop !)) (init ! 17 refl (uint-lawful 𝓤 H A W w64 .typed n _ is-n .0)) $
-        rewrite ! 17 (λ (z : Val). ‵ (fat fullShare (tyInt w64) l₉ 0 z)) (ap only (is-n .0)) refl $ drop ! $
+        rewrite ! 17 (λ (z : Val). ‵ (fat fullShare (tyInt w64) l₈ 0 z)) (ap only (is-n .0)) refl $ drop ! $
         -- `entries_when`
         move ! (1 ∷ []) $ use1 W (‵ Own₀ ⊛ ‵ Own₀) (shr-slice-copy 𝓤 H A W (named 0) κ₀ u32 .twice x₀ (v₀ ∷ [])) $ split ! $ move ! (2 ∷ 0 ∷ []) $
-        use2 W (raw (EntriesWhen 𝓤 H A mem run .pre (to-entries n))) (goes-entries n (is-n .1) (λ b. formed limit w a small e-a (some-counted a (length cells) n e-n b))) $
-        calls-at ! (fmOf 𝓤 H (W .laws) 𝓣) (EntriesWhen 𝓤 H A mem run) (known .entries-when) (to-entries n) (and-then ! (load ! (from ! (stop !)) (look ! 32 refl)) (and-then ! (load ! (from ! (stop !)) (look ! 16 refl)) (no-more !))) (λ u-e.
+        use2 W (raw (EntriesWhen 𝓤 H A mem run .pre (to-entries n))) (goes-entries n (is-n .1) (λ b. formed (some-counted a (length cells) n e-n b))) $
+        calls-at ! (fmOf 𝓤 H (W .laws) 𝓣) (EntriesWhen 𝓤 H A mem run) (known .entries-when) (to-entries n) (and-then ! (load ! (from ! (stop !)) (look ! 30 refl)) (and-then ! (load ! (from ! (stop !)) (look ! 16 refl)) (no-more !))) (λ u-e.
         use1 W (later (some (λ (es : List ℕ). ((‵ (flft κ₀ q₀) ⊛ ‵ ftrue) ⊛ ‵ (row .own es (u-e ∷ []))) ⊛ raw (ensured 𝓤 H A entries-when.ended (entries-when.clauses 𝓤 H A mem run) (κ₀, tt) (x₀, (n, tt)) tt es)))) (id⊢ 𝓤 _) $ await ! tt $ pick ! (λ es.
         split ! $ move ! (1 ∷ []) $ use1 W (raw (fact 𝓤 (0 < n → Entries w (terms w) es))) (said-entries n es) $ heard ! (0 < n → Entries w (terms w) es) (λ e-e. split ! $ move ! (1 ∷ []) $
         peeks ! row (Is row) (shows 𝓤 H A row) es (u-e ∷ []) (λ is-e. land ! (from ! (stop !)) (init ! 9 refl (array-lawful 𝓤 H A W u32 (uint-lawful 𝓤 H A W w32) 256 .typed es _ is-e .0)) $
-        -- [the entries; the table's token; what the table owns; the two other tokens; what the other two own; _14; …]
+        -- [the entries; the table's token; what the table owns; the two other tokens; what the other two own; _13; …]
         assigns ! (of-opd ! (load ! (from ! (stop !)) (look ! 9 refl))) (from ! (stop !)) (init ! 15 refl (array-lawful 𝓤 H A W u32 (uint-lawful 𝓤 H A W w32) 256 .typed es _ is-e .0)) $
         assigns ! (addr ! (from ! (stop !))) (from ! (stop !)) (init ! 7 refl (tt, tt)) $ move ! (1 ∷ []) $ split ! $ move ! (1 ∷ []) $ drop ! $
         -- [the table's token; the entries; what the table owns; …]: the entries are lent for a lifetime ν
         lft-new ! tt (λ ν. move ! (16 ∷ 2 ∷ []) $
-        use2 W (later (some (λ (γ : GName). ‵ (OwnE ν l₁₀ γ es) ⊛ ‵ (Lent (ν ∷ []) es l₁₀)))) (lends-entries 𝓤 H A W (ν ∷ []) es l₁₀ (named 1) u-e) $ await ! tt $ pick ! (λ γ. split ! $
-        -- [the entries, lent; the lender's part; ν's token; the table's token; what the table owns; the two other tokens; what the other two own; _14; …]: `cells_checked`
+        use2 W (later (some (λ (γ : GName). ‵ (OwnE ν l₉ γ es) ⊛ ‵ (Lent (ν ∷ []) es l₉)))) (lends-entries 𝓤 H A W (ν ∷ []) es l₉ (named 1) u-e) $ await ! tt $ pick ! (λ γ. split ! $
+        -- [the entries, lent; the lender's part; ν's token; the table's token; what the table owns; the two other tokens; what the other two own; _13; …]: `cells_checked`
         move ! (4 ∷ []) $ use1 W (‵ Own₀ ⊛ ‵ Own₀) (shr-slice-copy 𝓤 H A W (named 0) κ₀ u32 .twice x₀ (v₀ ∷ [])) $ split ! $ move ! (9 ∷ []) $ use1 W (‵ Own₂ ⊛ ‵ Own₂) (shr-slice-copy 𝓤 H A W (named 2) κ₂ T.the-row .twice x₂ (v₂ ∷ [])) $ split ! $
         move ! (4 ∷ 0 ∷ []) $ join ! $ move ! (2 ∷ 0 ∷ []) $ join ! $ move ! (4 ∷ 7 ∷ []) $ join ! $ move ! (5 ∷ 0 ∷ []) $ join ! $
-        use2 W (raw (CellsChecked 𝓤 H A mem run .pre (to-cells ν l₁₀ γ es n))) (goes-cells ν l₁₀ γ es n (is-n .1) (e-e, counted-most a (length cells) n e-n)) $
-        calls-at ! (fmOf 𝓤 H (W .laws) 𝓣) (CellsChecked 𝓤 H A mem run) (known .cells-checked) (to-cells ν l₁₀ γ es n)
-        (and-then ! (load ! (from ! (stop !)) (look ! 31 refl)) (and-then ! (load ! (from ! (stop !)) (look ! 6 refl)) (and-then ! (load ! (from ! (stop !)) (look ! 25 refl)) (and-then ! (load ! (from ! (stop !)) (look ! 15 refl)) (no-more !))))) (λ u-c.
-        use1 W (later (some (λ (c : Acceptance). ((‵ (flft κ₀ q₀) ⊛ (‵ (flft (ν ∷ []) fullShare) ⊛ (‵ (flft κ₂ q₂) ⊛ ‵ ftrue))) ⊛ ‵ (E.the-row .own c (u-c ∷ []))) ⊛ raw (ensured 𝓤 H A cells-checked.ended (cells-checked.clauses 𝓤 H A mem run) (κ₀, (ν ∷ [], (κ₂, tt))) (passed l₁₀ γ es n) tt c)))) (id⊢ 𝓤 _) $ await ! tt $ pick ! (λ c.
-        split ! $ move ! (1 ∷ []) $ use1 W (raw (fact 𝓤 (c ≡ said-cells-of n))) (said-cells ν l₁₀ γ es n c) $ heard ! (c ≡ said-cells-of n) (λ e-c. split ! $ move ! (1 ∷ []) $
+        use2 W (raw (CellsChecked 𝓤 H A mem run .pre (to-cells ν l₉ γ es n))) (goes-cells ν l₉ γ es n (is-n .1) (e-e, counted-most a (length cells) n e-n)) $
+        calls-at ! (fmOf 𝓤 H (W .laws) 𝓣) (CellsChecked 𝓤 H A mem run) (known .cells-checked) (to-cells ν l₉ γ es n)
+        (and-then ! (load ! (from ! (stop !)) (look ! 29 refl)) (and-then ! (load ! (from ! (stop !)) (look ! 6 refl)) (and-then ! (load ! (from ! (stop !)) (look ! 23 refl)) (and-then ! (load ! (from ! (stop !)) (look ! 15 refl)) (no-more !))))) (λ u-c.
+        use1 W (later (some (λ (c : Acceptance). ((‵ (flft κ₀ q₀) ⊛ (‵ (flft (ν ∷ []) fullShare) ⊛ (‵ (flft κ₂ q₂) ⊛ ‵ ftrue))) ⊛ ‵ (E.the-row .own c (u-c ∷ []))) ⊛ raw (ensured 𝓤 H A cells-checked.ended (cells-checked.clauses 𝓤 H A mem run) (κ₀, (ν ∷ [], (κ₂, tt))) (passed l₉ γ es n) tt c)))) (id⊢ 𝓤 _) $ await ! tt $ pick ! (λ c.
+        split ! $ move ! (1 ∷ []) $ use1 W (raw (fact 𝓤 (c ≡ said-cells-of n))) (said-cells ν l₉ γ es n c) $ heard ! (c ≡ said-cells-of n) (λ e-c. split ! $ move ! (1 ∷ []) $
         peeks ! E.the-row (Is E.the-row) (shows 𝓤 H A E.the-row) c (u-c ∷ []) (λ was-c. land ! (from ! (stop !)) (init ! 13 refl (LE.lawful E.the-type E′.the-laws 𝓤 H A W tt .typed c _ was-c .0)) $
-        rewrite ! 13 (λ (z : Val). ‵ (fat fullShare E′.mir l₁₁ 0 z)) (ap only (E′.lowers .val-is c (u-c ∷ []) was-c)) refl $ drop ! $ split ! $ move ! (1 ∷ []) $ split ! $
-        -- [ν's token; the row's token; the table's token; what row and table own; the lender's part; the values' token; what the values own; _14; …]: ν is ended, and the entries come back
-        lft-end ! tt $ move ! (0 ∷ 5 ∷ []) $ use2 W (later (some (λ (z : Val). ‵ (fat fullShare ty l₁₀ 0 z)))) (entries-back 𝓤 H A W (ν ∷ []) es l₁₀) $ await ! tt $ pick ! (λ z. move ! (1 ∷ []) $ split ! $ move ! (1 ∷ []) $ drop ! $
-        -- [the row's token; the entries; the table's token; what row and table own; the values' token; what the values own; _14; …]: `afforded`
+        rewrite ! 13 (λ (z : Val). ‵ (fat fullShare E′.mir l₁₀ 0 z)) (ap only (E′.lowers .val-is c (u-c ∷ []) was-c)) refl $ drop ! $ split ! $ move ! (1 ∷ []) $ split ! $
+        -- [ν's token; the row's token; the table's token; what row and table own; the lender's part; the values' token; what the values own; _13; …]: ν is ended, and the entries come back
+        lft-end ! tt $ move ! (0 ∷ 5 ∷ []) $ use2 W (later (some (λ (z : Val). ‵ (fat fullShare ty l₉ 0 z)))) (entries-back 𝓤 H A W (ν ∷ []) es l₉) $ await ! tt $ pick ! (λ z. move ! (1 ∷ []) $ split ! $ move ! (1 ∷ []) $ drop ! $
+        -- [the row's token; the entries; the table's token; what row and table own; the values' token; what the values own; _13; …]: `afforded`
         move ! (4 ∷ 6 ∷ []) $ join ! $ move ! (3 ∷ 5 ∷ []) $ join ! $
-        use2 W (raw (Afforded 𝓤 H A mem run .pre (to-afforded a c))) (goes-afforded a c (lowers a u-a was-a) (lowers c u-c was-c) (formed limit w a small e-a)) $
-        calls-at ! (fmOf 𝓤 H (W .laws) 𝓣) (Afforded 𝓤 H A mem run) (known .afforded) (to-afforded a c)
-        (and-then ! (load ! (from ! (stop !)) (look ! 29 refl)) (and-then ! (load ! (from ! (stop !)) (look ! 25 refl)) (and-then ! (load ! (from ! (stop !)) (look ! 15 refl)) (and-then ! (load ! (from ! (stop !)) (look ! 10 refl))
-        (and-then ! (load ! (from ! (stop !)) (look ! 21 refl)) (and-then ! (load ! (from ! (stop !)) (look ! 19 refl)) (and-then ! (load ! (from ! (stop !)) (look ! 17 refl)) (no-more !)))))))) (λ u-r.
-        use1 W (later (some (λ (r : Evaluation). ((‵ (flft κ₀ q₀) ⊛ (‵ (flft κ₁ q₁) ⊛ ‵ ftrue)) ⊛ ‵ (Ev.the-row .own r (u-r ∷ []))) ⊛ raw (ensured 𝓤 H A afforded.ended (afforded.clauses 𝓤 H A mem run) (κ₀, (κ₁, tt)) (given-of a c) tt r)))) (id⊢ 𝓤 _) $ await ! tt $ pick ! (λ r.
-        split ! $ move ! (1 ∷ []) $ use1 W (raw (fact 𝓤 (r ≡ afforded-by a c))) (said-afforded a c r) $ heard ! (r ≡ afforded-by a c) (λ e-r. split ! $ move ! (1 ∷ []) $
-        peeks ! Ev.the-row (Is Ev.the-row) (shows 𝓤 H A Ev.the-row) r (u-r ∷ []) (λ is-r. land ! (from ! (stop !)) (init ! 32 refl (LE.lawful Ev.the-type Ev′.the-laws 𝓤 H A W tt .typed r _ is-r .0)) $
-        rewrite ! 32 (λ (z′ : Val). ‵ (fat fullShare Ev′.mir l₀ 0 z′)) (ap only (Ev′.lowers .val-is r (u-r ∷ []) is-r)) refl $ drop ! $
-        -- [the tokens of table and values; the row's; the entries; what the row owns; _14; …]
-        returns ! (look ! 31 refl) $ forget ! 2 refl $ forget ! 4 refl $ forget ! 6 refl $ forget ! 8 refl $ forget ! 10 refl $ forget ! 13 refl $ forget ! 15 refl $ forget ! 17 refl $ forget ! 19 refl $ forget ! 21 refl $ forget ! 23 refl $ forget ! 25 refl $ forget ! 27 refl $ forget ! 29 refl $ forget ! 31 refl $
-        move ! (31 ∷ 32 ∷ []) $ free1 ! $ move ! (29 ∷ 30 ∷ []) $ free1 ! $ move ! (27 ∷ 28 ∷ []) $ free1 ! $ move ! (25 ∷ 26 ∷ []) $ free1 ! $ move ! (23 ∷ 24 ∷ []) $ free1 ! $ move ! (21 ∷ 22 ∷ []) $ free1 ! $ move ! (19 ∷ 20 ∷ []) $ free1 ! $ move ! (17 ∷ 18 ∷ []) $ free1 ! $
-        move ! (15 ∷ 16 ∷ []) $ free1 ! $ move ! (13 ∷ 14 ∷ []) $ free1 ! $ move ! (2 ∷ 12 ∷ []) $ free1 ! $ move ! (9 ∷ 10 ∷ []) $ free1 ! $ move ! (7 ∷ 8 ∷ []) $ free1 ! $ move ! (5 ∷ 6 ∷ []) $ free1 ! $ move ! (3 ∷ 4 ∷ []) $ free1 ! $ free0 ! $
-        by ! (exits r (e-r ∙ ready-is limit w values cells each allowance space a c n e-a e-n e-c) (subst (Is Ev.the-row r) (Ev′.lowers .val-is r (u-r ∷ []) is-r) is-r)))))))))))))))))))))))))
+        use2 W (raw (Afforded 𝓤 H A mem run .pre (to-afforded c))) (goes-afforded c (lowers c u-c was-c)) $
+        calls-at ! (fmOf 𝓤 H (W .laws) 𝓣) (Afforded 𝓤 H A mem run) (known .afforded) (to-afforded c)
+        (and-then ! (load ! (from ! (stop !)) (look ! 27 refl)) (and-then ! (load ! (from ! (stop !)) (look ! 23 refl)) (and-then ! (load ! (from ! (stop !)) (look ! 25 refl)) (and-then ! (load ! (from ! (stop !)) (look ! 10 refl))
+        (and-then ! (load ! (from ! (stop !)) (look ! 19 refl)) (and-then ! (load ! (from ! (stop !)) (look ! 17 refl)) (and-then ! (load ! (from ! (stop !)) (look ! 15 refl)) (no-more !)))))))) (λ u-r.
+        use1 W (later (some (λ (r : Evaluation). ((‵ (flft κ₀ q₀) ⊛ (‵ (flft κ₁ q₁) ⊛ ‵ ftrue)) ⊛ ‵ (Ev.the-row .own r (u-r ∷ []))) ⊛ raw (ensured 𝓤 H A afforded.ended (afforded.clauses 𝓤 H A mem run) (κ₀, (κ₁, tt)) (given-of c) tt r)))) (id⊢ 𝓤 _) $ await ! tt $ pick ! (λ r.
+        split ! $ move ! (1 ∷ []) $ use1 W (raw (fact 𝓤 (r ≡ afforded-by c))) (said-afforded c r) $ heard ! (r ≡ afforded-by c) (λ e-r. split ! $ move ! (1 ∷ []) $
+        peeks ! Ev.the-row (Is Ev.the-row) (shows 𝓤 H A Ev.the-row) r (u-r ∷ []) (λ is-r. land ! (from ! (stop !)) (init ! 30 refl (LE.lawful Ev.the-type Ev′.the-laws 𝓤 H A W tt .typed r _ is-r .0)) $
+        rewrite ! 30 (λ (z′ : Val). ‵ (fat fullShare Ev′.mir l₀ 0 z′)) (ap only (Ev′.lowers .val-is r (u-r ∷ []) is-r)) refl $ drop ! $
+        -- [the tokens of table and values; the row's; the entries; what the row owns; _13; …]
+        returns ! (look ! 29 refl) $ forget ! 2 refl $ forget ! 4 refl $ forget ! 6 refl $ forget ! 8 refl $ forget ! 10 refl $ forget ! 13 refl $ forget ! 15 refl $ forget ! 17 refl $ forget ! 19 refl $ forget ! 21 refl $ forget ! 23 refl $ forget ! 25 refl $ forget ! 27 refl $ forget ! 29 refl $
+        move ! (29 ∷ 30 ∷ []) $ free1 ! $ move ! (27 ∷ 28 ∷ []) $ free1 ! $ move ! (25 ∷ 26 ∷ []) $ free1 ! $ move ! (23 ∷ 24 ∷ []) $ free1 ! $ move ! (21 ∷ 22 ∷ []) $ free1 ! $ move ! (19 ∷ 20 ∷ []) $ free1 ! $ move ! (17 ∷ 18 ∷ []) $ free1 ! $ move ! (15 ∷ 16 ∷ []) $ free1 ! $ move ! (13 ∷ 14 ∷ []) $ free1 ! $ move ! (2 ∷ 12 ∷ []) $ free1 ! $ move ! (9 ∷ 10 ∷ []) $ free1 ! $ move ! (7 ∷ 8 ∷ []) $ free1 ! $ move ! (5 ∷ 6 ∷ []) $ free1 ! $ move ! (3 ∷ 4 ∷ []) $ free1 ! $ free0 ! $
+        by ! (exits r (e-r ∙ ready-is w values cells each allowance space a c n e-n e-c) (subst (Is Ev.the-row r) (Ev′.lowers .val-is r (u-r ∷ []) is-r) is-r)))))))))))))))))))))
 
   walk : (𝓣 : Tables 𝓤 H) → Known 𝓤 H A mem run 𝓣
-      → ent 𝓤 (onEntry 𝓤 H A readying.signature (κ₀, (κ₁, (κ₂, tt))) (q₀, (q₁, (q₂, tt))) args at) (WpFn 𝓤 H (𝓣 .C) (𝓣 .Λ) code.function (v₀ ∷ vint w32 limit ∷ v₁ ∷ v₂ ∷ vint w32 each ∷ vint w64 allowance ∷ vint w64 space ∷ []) Post)
+      → ent 𝓤 (onEntry 𝓤 H A readying.signature (κ₀, (κ₁, (κ₂, tt))) (q₀, (q₁, (q₂, tt))) args at) (WpFn 𝓤 H (𝓣 .C) (𝓣 .Λ) code.function (v₀ ∷ E′.lowered a ∷ v₁ ∷ v₂ ∷ vint w32 each ∷ vint w64 allowance ∷ vint w64 space ∷ []) Post)
   walk 𝓣 known =
-      qed W ((‵ (flft κ₀ q₀) ⊛ ‵ (flft κ₁ q₁) ⊛ ‵ (flft κ₂ q₂) ⊛ ‵ ftrue) ∷ ‵ (owns (ShrSlice (named 0) κ₀ u32 ∷ u32 ∷ ShrSlice (named 1) κ₁ u32 ∷ ShrSlice (named 2) κ₂ T.the-row ∷ u32 ∷ u64 ∷ usize ∷ []) args at) ∷ []) ∵
-      enter ! (𝓣 .C) (𝓣 .Λ) code.function (v₀ ∷ vint w32 limit ∷ v₁ ∷ v₂ ∷ vint w32 each ∷ vint w64 allowance ∷ vint w64 space ∷ []) _ $
-      alloc1 ! (λ l₀. alloc1 ! (λ l₁. alloc1 ! (λ l₂. alloc1 ! (λ l₃. alloc1 ! (λ l₄. alloc1 ! (λ l₅. alloc1 ! (λ l₆. alloc1 ! (λ l₇. alloc1 ! (λ l₈. alloc1 ! (λ l₉. alloc1 ! (λ l₁₀. alloc1 ! (λ l₁₁. alloc1 ! (λ l₁₂. alloc1 ! (λ l₁₃. alloc1 ! (λ l₁₄. alloc0 ! $ params1 ! $
-      pass1 ! (init ! 26 refl (tt, (tt, (record { fits = room₀ .0 }, tt)))) $ pass1 ! (init ! 24 refl (tt, record { fits = fl })) $ pass1 ! (init ! 22 refl (tt, (tt, (record { fits = room₁ .0 }, tt)))) $ pass1 ! (init ! 20 refl (tt, (tt, (record { fits = room₂ .0 }, tt)))) $
-      pass1 ! (init ! 18 refl (tt, record { fits = fe })) $ pass1 ! (init ! 16 refl (tt, record { fits = fa })) $ pass1 ! (init ! 14 refl (tt, record { fits = fr })) $ pass0 ! $
-      move ! (31 ∷ []) $ fsplit ! $ move ! (1 ∷ []) $ fsplit ! $ drop ! $ fsplit ! $ move ! (1 ∷ []) $ fsplit ! $ move ! (34 ∷ []) $ split ! $ move ! (1 ∷ []) $ split ! $ move ! (1 ∷ []) $ split ! $
-      keep ! (3 ∷ 2 ∷ 0 ∷ 7 ∷ 6 ∷ 4 ∷ 8 ∷ 9 ∷ 10 ∷ 11 ∷ 12 ∷ 13 ∷ 14 ∷ 15 ∷ 16 ∷ 17 ∷ 18 ∷ 19 ∷ 20 ∷ 21 ∷ 22 ∷ 23 ∷ 24 ∷ 25 ∷ 26 ∷ 27 ∷ 28 ∷ 29 ∷ 30 ∷ 31 ∷ 32 ∷ 33 ∷ 34 ∷ 35 ∷ 36 ∷ 37 ∷ []) $
-      starts 𝓣 known l₀ l₁ l₂ l₃ l₄ l₅ l₆ l₇ l₈ l₉ l₁₀ l₁₁ l₁₂ l₁₃ l₁₄)))))))))))))))
+      qed W ((‵ (flft κ₀ q₀) ⊛ ‵ (flft κ₁ q₁) ⊛ ‵ (flft κ₂ q₂) ⊛ ‵ ftrue) ∷ ‵ (owns (ShrSlice (named 0) κ₀ u32 ∷ E.the-row ∷ ShrSlice (named 1) κ₁ u32 ∷ ShrSlice (named 2) κ₂ T.the-row ∷ u32 ∷ u64 ∷ usize ∷ []) args at) ∷ []) ∵
+      enter ! (𝓣 .C) (𝓣 .Λ) code.function (v₀ ∷ E′.lowered a ∷ v₁ ∷ v₂ ∷ vint w32 each ∷ vint w64 allowance ∷ vint w64 space ∷ []) _ $
+      alloc1 ! (λ l₀. alloc1 ! (λ l₁. alloc1 ! (λ l₂. alloc1 ! (λ l₃. alloc1 ! (λ l₄. alloc1 ! (λ l₅. alloc1 ! (λ l₆. alloc1 ! (λ l₇. alloc1 ! (λ l₈. alloc1 ! (λ l₉. alloc1 ! (λ l₁₀. alloc1 ! (λ l₁₁. alloc1 ! (λ l₁₂. alloc1 ! (λ l₁₃. alloc0 ! $ params1 ! $
+      pass1 ! (init ! 24 refl (tt, (tt, (record { fits = room₀ .0 }, tt)))) $ pass1 ! (init ! 22 refl (LE.lawful E.the-type E′.the-laws 𝓤 H A W tt .typed a _ low-a .0)) $ pass1 ! (init ! 20 refl (tt, (tt, (record { fits = room₁ .0 }, tt)))) $ pass1 ! (init ! 18 refl (tt, (tt, (record { fits = room₂ .0 }, tt)))) $
+      pass1 ! (init ! 16 refl (tt, record { fits = fe })) $ pass1 ! (init ! 14 refl (tt, record { fits = fa })) $ pass1 ! (init ! 12 refl (tt, record { fits = fr })) $ pass0 ! $
+      move ! (29 ∷ []) $ fsplit ! $ move ! (1 ∷ []) $ fsplit ! $ drop ! $ fsplit ! $ move ! (1 ∷ []) $ fsplit ! $ move ! (32 ∷ []) $ split ! $ move ! (1 ∷ []) $ split ! $ move ! (1 ∷ []) $ split ! $
+      keep ! (3 ∷ 2 ∷ 0 ∷ 7 ∷ 6 ∷ 4 ∷ 8 ∷ 9 ∷ 10 ∷ 11 ∷ 12 ∷ 13 ∷ 14 ∷ 15 ∷ 16 ∷ 17 ∷ 18 ∷ 19 ∷ 20 ∷ 21 ∷ 22 ∷ 23 ∷ 24 ∷ 25 ∷ 26 ∷ 27 ∷ 28 ∷ 29 ∷ 30 ∷ 31 ∷ 32 ∷ 33 ∷ 34 ∷ 35 ∷ []) $
+      starts 𝓣 known l₀ l₁ l₂ l₃ l₄ l₅ l₆ l₇ l₈ l₉ l₁₀ l₁₁ l₁₂ l₁₃))))))))))))))
 
 module _ {M : Type 1} (𝓤 : URA M) (H : Heap 𝓤) (A : Atoms 𝓤) (W : Given 𝓤 H A) (mem : Memory → SProp 𝓤) (run : Routine → Fun 𝓤) (𝓣 : Tables 𝓤 H) (known : Known 𝓤 H A mem run 𝓣) where
   walks : Walks 𝓤 H A readying.ended stayed (WpFn 𝓤 H (𝓣 .C) (𝓣 .Λ) code.function) (readying.clauses 𝓤 H A mem run)
-  walks = walked 𝓤 H A readying.ended stayed (readying.clauses 𝓤 H A mem run) (WpFn 𝓤 H (𝓣 .C) (𝓣 .Λ) code.function) (λ κs. (slice-vals, (uint-vals w32, (slice-vals, (slice-vals, (uint-vals w32, (uint-vals w64, (uint-vals w64, tt))))))))
-      (λ κs. (shr-slice-tells (named 0) (κs .0) u32, (uint-tells w32, (shr-slice-tells (named 1) (κs .1 .0) u32, (shr-slice-tells (named 2) (κs .1 .1 .0) T.the-row, (uint-tells w32, (uint-tells w64, (uint-tells w64, tt))))))))
-      (λ κs qs bounds a g are. needs-both 𝓤 (a .1 .0 ≤ 80000) (a .1 .1 .1 .1 .0 ≤ 8) _
+  walks = walked 𝓤 H A readying.ended stayed (readying.clauses 𝓤 H A mem run) (WpFn 𝓤 H (𝓣 .C) (𝓣 .Λ) code.function) (λ κs. (slice-vals, ((λ (a : Acceptance). E′.lowered a ∷ []), (slice-vals, (slice-vals, (uint-vals w32, (uint-vals w64, (uint-vals w64, tt))))))))
+      (λ κs. (shr-slice-tells (named 0) (κs .0) u32, (E′.lowers .val-is, (shr-slice-tells (named 1) (κs .1 .0) u32, (shr-slice-tells (named 2) (κs .1 .1 .0) T.the-row, (uint-tells w32, (uint-tells w64, (uint-tells w64, tt))))))))
+      (λ κs qs bounds a g are. needs-both 𝓤 (accepts (a .1 .0) ≡ true → WellFormed 80000 (now (a .0))) (a .1 .1 .1 .1 .0 ≤ 8) _
       (λ pre. walk 𝓤 H A W mem run (κs .0) (κs .1 .0) (κs .1 .1 .0) (qs .0) (qs .1 .0) (qs .1 .1 .0) (a .0) (a .1 .0) (a .1 .1 .0) (a .1 .1 .1 .0) (a .1 .1 .1 .1 .0) (a .1 .1 .1 .1 .1 .0) (a .1 .1 .1 .1 .1 .1 .0)
-      (are .0 .0 .1) (are .1 .0 .1) (are .1 .1 .0 .0 .1) (are .1 .1 .1 .0 .0 .1) (are .1 .1 .1 .1 .0 .1) (are .1 .1 .1 .1 .1 .0 .1) (are .1 .1 .1 .1 .1 .1 .0 .1) (pre .0) (pre .1) 𝓣 known))
+      (are .0 .0 .1) (are .1 .0) (are .1 .1 .0 .0 .1) (are .1 .1 .1 .0 .0 .1) (are .1 .1 .1 .1 .0 .1) (are .1 .1 .1 .1 .1 .0 .1) (are .1 .1 .1 .1 .1 .1 .0 .1) (pre .0) (pre .1) 𝓣 known))
 
   meets : Meets 𝓤 H A readying.signature (WpFn 𝓤 H (𝓣 .C) (𝓣 .Λ) code.function) (readying.spec 𝓤 H A mem run)
   meets = walk-meets 𝓤 H A readying.ended stayed W (
     goes-dropped 𝓤 H A W 3 (shrSliceOf (0 ∷ []) tt (plain (λ _. u32))) yes (λ κs x f. refl),
     (
-      goes-dropped 𝓤 H A W 3 (plain (λ _. u32)) yes (λ κs x f. refl),
+      goes-dropped 𝓤 H A W 3 (plain (λ _. E.the-row)) yes (λ κs x f. refl),
       (
         goes-dropped 𝓤 H A W 3 (shrSliceOf (1 ∷ []) tt (plain (λ _. u32))) yes (λ κs x f. refl),
         (
@@ -386,7 +361,6 @@ ready-spec 𝓤 H 𝓜 𝓖 𝓡 =
     entered 𝓤 H (tripleOf 𝓤 H (𝓖 .A) readying.signature (readying.spec 𝓤 H (𝓖 .A) (𝓜 .mem) (𝓡 .run)))
     (tables 𝓤 H 𝓜 𝓡 code.env .C) (tables 𝓤 H 𝓜 𝓡 code.env .Λ) #ready code.function (code.unfolded 𝓤 H 𝓜 𝓡)
     (meets 𝓤 H (𝓖 .A) (givenOf 𝓤 H 𝓜 𝓖) (𝓜 .mem) (𝓡 .run) (tablesOf 𝓤 H 𝓜 (tables 𝓤 H 𝓜 𝓡 code.env)) (record {
-      admit-within = cited 𝓤 H (AdmitWithin 𝓤 H (𝓖 .A) (𝓜 .mem) (𝓡 .run)) 𝓜 𝓡 code.env #admit-within admit-within-def.routine code.calls-admission·admit-within (admit-within-thm.met 𝓤 H 𝓜 𝓖 𝓡);
       count-when = cited 𝓤 H (CountWhen 𝓤 H (𝓖 .A) (𝓜 .mem) (𝓡 .run)) 𝓜 𝓡 code.env #count-when count-when-def.routine code.calls-records·checks·count-when (count-when-thm.met 𝓤 H 𝓜 𝓖 𝓡);
       entries-when = cited 𝓤 H (EntriesWhen 𝓤 H (𝓖 .A) (𝓜 .mem) (𝓡 .run)) 𝓜 𝓡 code.env #entries-when entries-when-def.routine code.calls-records·checks·entries-when (entries-when-thm.met 𝓤 H 𝓜 𝓖 𝓡);
       cells-checked = cited 𝓤 H (CellsChecked 𝓤 H (𝓖 .A) (𝓜 .mem) (𝓡 .run)) 𝓜 𝓡 code.env #cells-checked cells-checked-def.routine code.calls-records·checks·cells-checked (cells-checked-thm.met 𝓤 H 𝓜 𝓖 𝓡);

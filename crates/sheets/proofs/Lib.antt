@@ -1,0 +1,4 @@
+pub mod Entering
+pub mod Saying
+pub mod DecidingLines
+pub mod Checking

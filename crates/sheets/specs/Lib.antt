@@ -1,0 +1,5 @@
+pub mod Marks
+pub mod Check
+pub mod Deciding
+pub mod Code
+pub mod Laws

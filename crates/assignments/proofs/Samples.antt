@@ -27,19 +27,23 @@ room = 0 ∷ 0 ∷ 0 ∷ []
 
 -- what is read: 0, and the counts and the allowance; or the fault, its line and column, and the bytes of its token
 told : Reading → List ℕ
-told (Read s) = 0 ∷ s .values ∷ s .cells ∷ s .allowance ∷ []
+told (Read s) = 0 ∷ s .values ∷ s .cells ∷ s .sheet ∷ s .allowance ∷ []
 told (NotRead e) = e .kind ∷ e .line ∷ e .column ∷ e .from ∷ e .to ∷ []
 
 reads : List ℕ → List ℕ
-reads text = told (reading names table text room)
+reads text = told (reading names table text room (0 ∷ 0 ∷ 0 ∷ 0 ∷ 0 ∷ 0 ∷ []))
 
--- statements in any order, with a comment; the room of the cells, the values, and where the values stand
-whole : reads (bytes "t[4] = 7 t = 1;\na = #b11 allowance 9") ∷ worked names table (bytes "t[4] = 7 t = 1;\na = #b11 allowance 9") room .cells
-    ∷ valuesIn names (bytes "t[4] = 7 t = 1;\na = #b11 allowance 9") 2 room
-    ∷ (valuePlace names (bytes "t[4] = 7 t = 1;\na = #b11 allowance 9") 0 ∷ cellPlace (bytes "t[4] = 7 t = 1;\na = #b11 allowance 9") 0
-    ∷ allowancePlace (bytes "t[4] = 7 t = 1;\na = #b11 allowance 9") ∷ []) ∷ []
-    ≡ (0 ∷ 2 ∷ 3 ∷ 9 ∷ []) ∷ (1 ∷ 4 ∷ 7 ∷ []) ∷ (3 ∷ 1 ∷ 0 ∷ []) ∷ (20 ∷ 7 ∷ 35 ∷ []) ∷ []
-unfolding names table room told reads sameBytes placeIn valueOf every feeds backTo among symbol private plainOf wordOf ahead skippedFrom tokenAt tokensFrom decimalFrom numberOf linesFrom slotFrom placeFrom listedIn step run missingFrom valuesIn
+-- statements in any order, with a comment; the rooms of the cells and of the sheet, the values, and where the values stand
+given : List ℕ
+given = bytes "t[4] = 7 mark t t = 1;\na = #b11 keep a allowance 9"
+
+sheet : List ℕ
+sheet = 0 ∷ 0 ∷ 0 ∷ 0 ∷ 0 ∷ 0 ∷ []
+
+whole : reads given ∷ worked names table given room sheet .cells ∷ worked names table given room sheet .sheet ∷ valuesIn names given 2 room
+    ∷ (valuePlace names given 0 ∷ valuePlace names given 1 ∷ cellPlace given 0 ∷ allowancePlace given ∷ []) ∷ []
+    ≡ (0 ∷ 2 ∷ 3 ∷ 6 ∷ 9 ∷ []) ∷ (1 ∷ 4 ∷ 7 ∷ []) ∷ (1 ∷ 1 ∷ 1 ∷ 0 ∷ 0 ∷ 0 ∷ []) ∷ (3 ∷ 1 ∷ 0 ∷ []) ∷ (27 ∷ 20 ∷ 7 ∷ 49 ∷ []) ∷ []
+unfolding names table room told reads given sheet sameBytes placeIn valueOf every feeds backTo among symbol private plainOf wordOf ahead skippedFrom tokenAt tokensFrom decimalFrom numberOf linesFrom slotFrom placeFrom listedIn step run missingFrom valuesIn
 whole = refl
 
 -- 1 to 7
@@ -56,6 +60,17 @@ others : reads (bytes "t[1 =") ∷ reads (bytes "allowance 1 allowance 2") ∷ r
 unfolding names table room told reads sameBytes placeIn valueOf every feeds backTo among symbol private plainOf wordOf ahead skippedFrom tokenAt tokensFrom decimalFrom numberOf linesFrom slotFrom placeFrom listedIn step run missingFrom
 others = refl
 
-parts : byParts (bytes "allowance 3 values 1") ∷ byParts (bytes "values = 1") ∷ byParts (bytes "; x\ncells[") ∷ byParts (bytes "a = 1") ∷ byParts [] ∷ [] ≡ true ∷ false ∷ false ∷ false ∷ false ∷ []
+-- mark and keep: a name that is not declared; the end; one line more than the room has; where = follows, a name that is not declared
+marks : reads (bytes "mark b") ∷ reads (bytes "keep") ∷ reads (bytes "mark a keep a mark b") ∷ reads (bytes "keep = 1") ∷ []
+    ≡ (1 ∷ 1 ∷ 6 ∷ 5 ∷ 6 ∷ []) ∷ (13 ∷ 1 ∷ 0 ∷ 4 ∷ 4 ∷ []) ∷ (14 ∷ 1 ∷ 15 ∷ 14 ∷ 18 ∷ []) ∷ (1 ∷ 1 ∷ 1 ∷ 0 ∷ 4 ∷ []) ∷ []
+unfolding names table room told reads sameBytes placeIn valueOf every feeds backTo among symbol private plainOf wordOf ahead skippedFrom tokenAt tokensFrom decimalFrom numberOf linesFrom slotFrom placeFrom listedIn step run missingFrom
+marks = refl
+
+-- the allowance is not sought after mark: there it is a name
+named : allowancePlace (bytes "mark allowance a = 1 allowance 2") ≡ 31
+unfolding sameBytes ahead skippedFrom tokenAt tokensFrom placeFrom
+named = refl
+
+parts : byParts (bytes "sheet 1") ∷ byParts (bytes "allowance 3 values 1") ∷ byParts (bytes "values = 1") ∷ byParts (bytes "; x\ncells[") ∷ byParts (bytes "a = 1") ∷ byParts [] ∷ [] ≡ true ∷ true ∷ false ∷ false ∷ false ∷ false ∷ []
 unfolding sameBytes ahead skippedFrom tokenAt tokensFrom decimalFrom byPartsFrom
 parts = refl

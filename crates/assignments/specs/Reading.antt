@@ -50,7 +50,7 @@ abbrev pub errorAtEnd : List ℕ → ℕ → ℕ → Error
 errorAtEnd text kind place = record { kind = kind; line = lineOf text (length text); column = 0; from = place; to = place }
 
 abbrev pub settingOf : ℕ → State → Setting
-settingOf count s = record { values = count; cells = capped (3 * s .count); allowance = s .allowance }
+settingOf count s = record { values = count; cells = capped (3 * s .count); sheet = capped (3 * s .marks); allowance = s .allowance }
 
 -- the first fault; 13 the text ends in a statement; 11 a name has no value: from and to are its slot
 abbrev pub answer : List ℕ → List ℕ → State → Reading
@@ -62,11 +62,11 @@ answer names text s =
     (NotRead (errorAtEnd text 13 (length text))))
     (NotRead (errorAt text (s .fault) (s .from) (s .to)))
 
-abbrev pub worked : List ℕ → List ℕ → List ℕ → List ℕ → Work
-worked names table text cells = run names table text start cells (tokens text)
+abbrev pub worked : List ℕ → List ℕ → List ℕ → List ℕ → List ℕ → Work
+worked names table text cells sheet = run names table text start cells sheet (tokens text)
 
-abbrev pub reading : List ℕ → List ℕ → List ℕ → List ℕ → Reading
-reading names table text cells = answer names text (worked names table text cells .state)
+abbrev pub reading : List ℕ → List ℕ → List ℕ → List ℕ → List ℕ → Reading
+reading names table text cells sheet = answer names text (worked names table text cells sheet .state)
 
 -- how many values are written: none after a fault
 abbrev pub givenBy : Reading → ℕ

@@ -40,9 +40,15 @@ slotFrom (x ∷ xs) w k =
 abbrev pub slotOf : List ℕ → List ℕ → ℕ
 slotOf names w = slotFrom (namesOf names) w 0
 
--- what was met of a word and the equals sign after it: 0 nothing, 1 the word, 2 both
+-- what was met of a word and the equals sign after it: 0 nothing, 1 the word, 2 both; 3 mark or keep, after which it is the name that
+-- is marked
 abbrev pub metAfter : List ℕ → List ℕ → ℕ → Token → ℕ
-metAfter text w met t = cond (eqb met 1 && eqb (codeOf (word text t)) 1) 2 (cond (sameBytes (word text t) w) 1 0)
+metAfter text w met t =
+    cond (eqb met 1 && eqb (codeOf (word text t)) 1) 2
+    (cond (eqb met 3) 0
+    (cond (sameBytes (word text t) w) 1
+    (cond (ltb 6 (codeOf (word text t))) 3
+    0)))
 
 -- the token is a value: after both; or, where no equals sign is asked for, after the word, and neither = nor [
 abbrev pub valued : List ℕ → Bool → ℕ → Token → Bool
@@ -70,13 +76,13 @@ cellPlace text k = placeAfter text (bytes "]") true k
 abbrev pub allowancePlace : List ℕ → ℕ
 allowancePlace text = placeAfter text (bytes "allowance") false 0
 
--- table, values, cells
+-- table, sheet, values, cells
 abbrev pub heading : List ℕ → Bool
-heading w = sameBytes w (bytes "table") || sameBytes w (bytes "values") || sameBytes w (bytes "cells")
+heading w = sameBytes w (bytes "table") || sameBytes w (bytes "sheet") || sameBytes w (bytes "values") || sameBytes w (bytes "cells")
 
 -- allowance, or a decimal number
 abbrev pub neutral : List ℕ → Bool
-neutral w = eqb (codeOf w) 4 || ltb (decimalFrom 0 w) noDecimal
+neutral w = eqb (codeOf w) 6 || ltb (decimalFrom 0 w) noDecimal
 
 -- the first token that is not neutral is a heading, and neither = nor [ follows; found: it was the token before
 unfoldable pub byPartsFrom : List ℕ → Bool → List Token → Bool

@@ -60,14 +60,16 @@ tokens text = tokensFrom (length text) text 0
 abbrev pub word : List ℕ → Token → List ℕ
 word text t = part text (t .from) (t .to)
 
--- = 1, [ 2, ] 3, allowance 4, any other 0
+-- = 1, [ 2, ] 3, any other 0; allowance 6, mark 7, keep 8, which is what is expected after each (Statements.antt)
 abbrev pub codeOf : List ℕ → ℕ
 codeOf w =
     cond (sameBytes w (bytes "=")) 1
     (cond (sameBytes w (bytes "[")) 2
     (cond (sameBytes w (bytes "]")) 3
-    (cond (sameBytes w (bytes "allowance")) 4
-    0)))
+    (cond (sameBytes w (bytes "allowance")) 6
+    (cond (sameBytes w (bytes "mark")) 7
+    (cond (sameBytes w (bytes "keep")) 8
+    0)))))
 
 -- no decimal number
 abbrev pub noDecimal : ℕ

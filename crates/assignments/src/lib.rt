@@ -1,4 +1,4 @@
-// A setting by name: reading it into values and cells, and where its values stand in the text.
+// A setting by name: reading it into values, cells and a sheet, and where its values stand in the text.
 mod names; // names by their lines
 mod seek; // where values stand
 mod statements; // the statements of a setting
@@ -17,10 +17,12 @@ ghost use Prim.Native.Nat.{_-_};
 ghost use Rattle.assignments.specs.Reading.{capped, nameCount, errorAt, errorAtEnd, settingOf, answer};
 ghost use Rattle.assignments.specs.Reading.{reading, givenBy, valuesAfter, worked};
 
-// How many numbers were written at the rooms' fronts, a value a name and three numbers a cell, and the allowance.
+// How many numbers were written at the rooms' fronts, a value a name, three numbers a cell and a line of the sheet, and
+// the allowance.
 pub struct Setting {
     pub values: u32,
     pub cells: u32,
+    pub sheet: u32,
     pub allowance: u32,
 }
 
@@ -30,7 +32,7 @@ pub struct Setting {
 // 1 the name is not declared; 2 it was given before; 3 the cell was given before (at its index); 4 = is expected, or [ for
 // an array; 5 a value is expected; 6 a number of 2^32 or more; 7 the name is no array (at the bracket); 8 ] is expected;
 // 9 the allowance was given before; 10 an index is expected; 11 a name has no value; 12 the room has no cell more (at its
-// index); 13 the text ends in a statement.
+// index); 13 the text ends in a statement; 14 the room has no line of the sheet more (at mark or keep).
 pub struct Error {
     pub kind: u32,
     pub line: u64,
@@ -94,6 +96,7 @@ fn setting_of(count: u32, s: State) -> Setting
     Setting {
         values: count,
         cells: capped(3 * (s.count as u64)),
+        sheet: capped(3 * (s.marks as u64)),
         allowance: s.allowance,
     }
 }
@@ -126,23 +129,25 @@ fn given(r: Reading) -> u32
     }
 }
 
-// Reads a setting. Names are lines, name k is the variable of slot k and term k of the table. The cells that are read
-// stand at the front of their room, after a fault too; the values where there is no fault.
+// Reads a setting. Names are lines, name k is the variable of slot k and term k of the table. The cells and the lines of
+// the sheet that are read stand at the front of their rooms, after a fault too; the values where there is no fault.
 pub fn read(
     names: &[u8],
     table: &[u32],
     text: &[u8],
     values: &mut [u32],
     cells: &mut [u32],
+    sheet: &mut [u32],
 ) -> Reading
-    ensures { λ r. ⌜ r
-        ≡ reading (now (names .entry)) (now (table .entry)) (now (text .entry)) (now (cells .entry)) ⌝ }
+    ensures { λ r. ⌜ r ≡ reading (now (names .entry)) (now (table .entry)) (now (text .entry)) (now (cells .entry)) (now (sheet .entry)) ⌝ }
     ensures { λ r. ⌜ now (values .exit)
         ≡ valuesAfter r (now (names .entry)) (now (text .entry)) (now (values .entry)) ⌝ }
     ensures { λ r. ⌜ now (cells .exit)
-        ≡ worked (now (names .entry)) (now (table .entry)) (now (text .entry)) (now (cells .entry)) .cells ⌝ }
+        ≡ worked (now (names .entry)) (now (table .entry)) (now (text .entry)) (now (cells .entry)) (now (sheet .entry)) .cells ⌝ }
+    ensures { λ r. ⌜ now (sheet .exit)
+        ≡ worked (now (names .entry)) (now (table .entry)) (now (text .entry)) (now (cells .entry)) (now (sheet .entry)) .sheet ⌝ }
 {
-    let s = statements::run(names, table, text, cells);
+    let s = statements::run(names, table, text, cells, sheet);
     let r = answer(names, text, s);
     fill(names, text, given(r), values);
     r

@@ -21,14 +21,15 @@ fn pick_truth(test: bool, a: bool, b: bool) -> bool
     if test { a } else { b }
 }
 
-// What was met of a word and the equals sign after it: 0 nothing, 1 the word, 2 both.
+// What was met of a word and the equals sign after it: 0 nothing, 1 the word, 2 both; 3 mark or keep.
 fn met_after(text: &[u8], w: &[u8], met: u32, t: Token) -> u32
     ensures { λ r. ⌜ r ≡ metAfter (now (text .entry)) (now (w .entry)) met t ⌝ }
 {
-    let both = (met == 1) & (code_of(text, t) == 1);
+    let code = code_of(text, t);
     let from = t.from;
     let to = t.to;
-    pick(both, 2, pick(same_part(text, from, to, w), 1, 0))
+    let word = pick(same_part(text, from, to, w), 1, pick(6 < code, 3, 0));
+    pick((met == 1) & (code == 1), 2, pick(met == 3, 0, word))
 }
 
 // A token is a value.
@@ -91,13 +92,14 @@ pub fn allowance_place(text: &[u8]) -> usize
     place_after(text, b"allowance", false, 0)
 }
 
-// table, values, cells.
+// table, sheet, values, cells.
 fn heading(text: &[u8], t: Token) -> bool
     ensures { λ r. ⌜ r ≡ heading (word (now (text .entry)) t) ⌝ }
 {
     let from = t.from;
     let to = t.to;
     same_part(text, from, to, b"table")
+        | same_part(text, from, to, b"sheet")
         | same_part(text, from, to, b"values")
         | same_part(text, from, to, b"cells")
 }
@@ -106,11 +108,11 @@ fn heading(text: &[u8], t: Token) -> bool
 fn neutral(text: &[u8], t: Token) -> bool
     ensures { λ r. ⌜ r ≡ neutral (word (now (text .entry)) t) ⌝ }
 {
-    (code_of(text, t) == 4) | (decimal_of(text, t) < NO_DECIMAL)
+    (code_of(text, t) == 6) | (decimal_of(text, t) < NO_DECIMAL)
 }
 
-// The setting is in the parts of a case file: its first token that is neither allowance nor a number is values, cells or
-// table, and neither = nor [ follows.
+// The setting is in the parts of a case file: its first token that is neither allowance nor a number is sheet, values,
+// cells or table, and neither = nor [ follows.
 pub fn by_parts(text: &[u8]) -> bool
     ensures { λ r. ⌜ r ≡ byParts (now (text .entry)) ⌝ }
 {

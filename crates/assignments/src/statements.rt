@@ -16,15 +16,16 @@ use table::sort_at;
 ghost use mathlib.Core.Path.{_≡_};
 ghost use mathlib.Core.Bool.{cond, _&&_};
 ghost use lib.ListN.{getD};
-ghost use Rattle.assignments.specs.Statements.{start, failed, moved, named, indexed, valuedBy, limitedBy};
-ghost use Rattle.assignments.specs.Statements.{begun, nameThen, indexThen, expected, valueThen, allowanceThen};
-ghost use Rattle.assignments.specs.Statements.{listedIn, givenBefore, afterName, afterAllowance, indexAt};
-ghost use Rattle.assignments.specs.Statements.{step, putCell, counted};
+ghost use Rattle.assignments.specs.Statements.{start, failed, moved, named, indexed, valuedBy, limitedBy, marked};
+ghost use Rattle.assignments.specs.Statements.{begun, nameThen, indexThen, expected, valueThen, allowanceThen, markThen};
+ghost use Rattle.assignments.specs.Statements.{listedIn, givenBefore, afterName, afterWord, afterAllowance};
+ghost use Rattle.assignments.specs.Statements.{afterMark, indexAt, step, putThree, workOf, counted};
 ghost use Rattle.assignments.specs.Reading.{worked};
 
 // What is expected (0 a statement, 1 = or [ after a name, 2 an index, 3 ], 4 = after a cell, 5 a value, 6 what follows
-// allowance), the statement's slot, index and value, the count of cells, the allowance, and the first fault: its number
-// (0: none) and its token; without a fault the token that the statement began with.
+// allowance, 7 mark, 8 keep), the statement's slot, index and value, the counts of cells and of lines of the sheet, the
+// allowance, and the first fault: its number (0: none) and its token; without a fault the token that the statement began
+// with.
 pub struct State {
     pub expects: u32,
     pub slot: u32,
@@ -33,7 +34,10 @@ pub struct State {
     pub cell: bool,
     // a cell is to be written
     pub ready: bool,
+    // a line of the sheet is
+    pub line: bool,
     pub count: u32,
+    pub marks: u32,
     // the allowance was given
     pub limited: bool,
     pub allowance: u32,
@@ -52,7 +56,9 @@ pub fn start() -> State
         value: 0,
         cell: false,
         ready: false,
+        line: false,
         count: 0,
+        marks: 0,
         limited: false,
         allowance: 8192,
         fault: 0,
@@ -66,6 +72,7 @@ fn failed(s: State, fault: u32, from: usize, to: usize) -> State
 {
     let mut q = s;
     q.ready = false;
+    q.line = false;
     q.fault = fault;
     q.from = from;
     q.to = to;
@@ -78,6 +85,7 @@ fn moved(s: State, expects: u32) -> State
     let mut q = s;
     q.expects = expects;
     q.ready = false;
+    q.line = false;
     q
 }
 
@@ -92,6 +100,7 @@ fn named(s: State, expects: u32, slot: u32, t: Token) -> State
     q.value = 0;
     q.cell = false;
     q.ready = false;
+    q.line = false;
     q.from = t.from;
     q.to = t.to;
     q
@@ -106,6 +115,7 @@ fn indexed(s: State, index: u32) -> State
     q.value = 0;
     q.cell = true;
     q.ready = false;
+    q.line = false;
     q
 }
 
@@ -117,6 +127,7 @@ fn valued_by(s: State, value: u32) -> State
     q.expects = 0;
     q.value = value;
     q.ready = s.cell;
+    q.line = false;
     q
 }
 
@@ -127,8 +138,25 @@ fn limited_by(s: State, allowance: u32) -> State
     q.expects = 0;
     q.cell = false;
     q.ready = false;
+    q.line = false;
     q.limited = true;
     q.allowance = allowance;
+    q
+}
+
+// A line of the sheet is ready to be written: of mark 1, of keep 0, and one slot.
+fn marked(s: State, slot: u32) -> State
+    ensures { λ r. ⌜ r ≡ marked s slot ⌝ }
+{
+    let kind = pick(s.expects == 7, 1, 0);
+    let mut q = s;
+    q.expects = 0;
+    q.slot = slot;
+    q.index = 0;
+    q.value = kind;
+    q.cell = false;
+    q.ready = false;
+    q.line = true;
     q
 }
 
@@ -138,7 +166,7 @@ fn chosen(test: bool, a: State, b: State) -> State
     if test { a } else { b }
 }
 
-// A name or allowance: 1 the name is not declared.
+// A name; or allowance, mark or keep: 1 the name is not declared.
 fn begun(s: State, t: Token, code: u32, slot: u32) -> State
     ensures { λ r. ⌜ r ≡ begun s t code slot ⌝ }
 {
@@ -147,7 +175,7 @@ fn begun(s: State, t: Token, code: u32, slot: u32) -> State
         failed(s, 1, t.from, t.to),
         named(s, 1, slot, t),
     );
-    chosen(code == 4, named(s, 6, slot, t), other)
+    chosen(5 < code, named(s, code, slot, t), other)
 }
 
 // After a name: 2 it was given before; 7 it is no array; 4 neither = nor [.
@@ -213,6 +241,14 @@ fn allowance_then(s: State, t: Token, n: Number) -> State
     chosen(n.kind == 4, failed(s, 6, t.from, t.to), number)
 }
 
+// The name after mark or keep: 14 the room has no line more, at the word; 1 the name is not declared.
+fn mark_then(s: State, t: Token, slot: u32, full: bool) -> State
+    ensures { λ r. ⌜ r ≡ markThen s t slot full ⌝ }
+{
+    let line = chosen(slot == NO_SLOT, failed(s, 1, t.from, t.to), marked(s, slot));
+    chosen(full, failed(s, 14, s.from, s.to), line)
+}
+
 // A number of a room, 0 past its end.
 fn number_in(row: &[u32], k: usize) -> u32
     ensures { λ r. ⌜ r ≡ getD (now (row .entry)) k 0 ⌝ }
@@ -263,9 +299,9 @@ fn after_name(table: &[u32], text: &[u8], s: State, t: Token) -> State
     name_then(s, t, code, given, array(sort_at(table, s.slot)))
 }
 
-// What follows allowance: = or [ after a name.
-fn after_allowance(table: &[u32], text: &[u8], s: State, t: Token) -> State
-    ensures { λ r. ⌜ r ≡ afterAllowance (now (table .entry)) (now (text .entry)) s t ⌝ }
+// What follows allowance, mark or keep: = or [ after a name, else the rest.
+fn after_word(table: &[u32], text: &[u8], s: State, t: Token, rest: State) -> State
+    ensures { λ r. ⌜ r ≡ afterWord (now (table .entry)) (now (text .entry)) s t rest ⌝ }
 {
     let code = code_of(text, t);
     let name = chosen(
@@ -273,11 +309,21 @@ fn after_allowance(table: &[u32], text: &[u8], s: State, t: Token) -> State
         failed(s, 1, s.from, s.to),
         after_name(table, text, s, t),
     );
-    chosen(
-        (code == 1) | (code == 2),
-        name,
-        allowance_then(s, t, number_of(text, t)),
-    )
+    chosen((code == 1) | (code == 2), name, rest)
+}
+
+fn after_allowance(table: &[u32], text: &[u8], s: State, t: Token) -> State
+    ensures { λ r. ⌜ r ≡ afterAllowance (now (table .entry)) (now (text .entry)) s t ⌝ }
+{
+    let rest = allowance_then(s, t, number_of(text, t));
+    after_word(table, text, s, t, rest)
+}
+
+fn after_mark(names: &[u8], table: &[u32], text: &[u8], full: bool, s: State, t: Token) -> State
+    ensures { λ r. ⌜ r ≡ afterMark (now (names .entry)) (now (table .entry)) (now (text .entry)) full s t ⌝ }
+{
+    let rest = mark_then(s, t, slot_of(names, text, t), full);
+    after_word(table, text, s, t, rest)
 }
 
 // An index at its token.
@@ -289,10 +335,18 @@ fn index_at(text: &[u8], cells: &[u32], s: State, t: Token) -> State
     index_then(s, t, n, listed, cells.len() / 3 <= s.count as usize)
 }
 
-// One token more.
-fn step(names: &[u8], table: &[u32], text: &[u8], cells: &[u32], s: State, t: Token) -> State
+// One token more; full: the sheet's room has no line more.
+fn step(
+    names: &[u8],
+    table: &[u32],
+    text: &[u8],
+    cells: &[u32],
+    full: bool,
+    s: State,
+    t: Token,
+) -> State
     ensures { λ r. ⌜ r
-        ≡ step (now (names .entry)) (now (table .entry)) (now (text .entry)) (now (cells .entry)) s t ⌝ }
+        ≡ step (now (names .entry)) (now (table .entry)) (now (text .entry)) (now (cells .entry)) full s t ⌝ }
 {
     if s.expects == 0 {
         return begun(s, t, code_of(text, t), slot_of(names, text, t));
@@ -312,38 +366,42 @@ fn step(names: &[u8], table: &[u32], text: &[u8], cells: &[u32], s: State, t: To
     if s.expects == 5 {
         return value_then(s, t, number_of(text, t));
     }
-    after_allowance(table, text, s, t)
+    if s.expects == 6 {
+        return after_allowance(table, text, s, t);
+    }
+    after_mark(names, table, text, full, s, t)
 }
 
-// Writes the cell that is ready.
-fn put_cell(cells: &mut [u32], s: State)
-    ensures { λ _. ⌜ now (cells .exit) ≡ putCell (now (cells .entry)) s ⌝ }
+// Writes three numbers after `n` times three, where they are ready.
+fn put_three(room: &mut [u32], ready: bool, n: u32, a: u32, b: u32, c: u32)
+    ensures { λ _. ⌜ now (room .exit) ≡ putThree ready (now (room .entry)) n a b c ⌝ }
 {
-    if s.ready {
-        let at = 3 * (s.count as usize);
-        put(cells, at, s.slot);
-        put(cells, at + 1, s.index);
-        put(cells, at + 2, s.value);
+    if ready {
+        let at = 3 * (n as usize);
+        put(room, at, a);
+        put(room, at + 1, b);
+        put(room, at + 2, c);
     }
 }
 
-// The cell that is ready is counted.
+// The cell and the line that are ready are counted.
 fn counted(s: State) -> State
     ensures { λ r. ⌜ r ≡ counted s ⌝ }
 {
     let count = pick(s.ready, more(s.count), s.count);
+    let marks = pick(s.line, more(s.marks), s.marks);
     let mut q = s;
     q.ready = false;
+    q.line = false;
     q.count = count;
+    q.marks = marks;
     q
 }
 
-// The tokens in order, up to the first fault. The cells stand in the room.
-pub fn run(names: &[u8], table: &[u32], text: &[u8], cells: &mut [u32]) -> State
-    ensures { λ r. ⌜ r
-        ≡ worked (now (names .entry)) (now (table .entry)) (now (text .entry)) (now (cells .entry)) .state ⌝ }
-    ensures { λ r. ⌜ now (cells .exit)
-        ≡ worked (now (names .entry)) (now (table .entry)) (now (text .entry)) (now (cells .entry)) .cells ⌝ }
+// The tokens in order, up to the first fault. The cells and the sheet stand in their rooms.
+pub fn run(names: &[u8], table: &[u32], text: &[u8], cells: &mut [u32], sheet: &mut [u32]) -> State
+    ensures { λ r. ⌜ workOf r (now (cells .exit)) (now (sheet .exit)) ≡ worked (now (names .entry))
+        (now (table .entry)) (now (text .entry)) (now (cells .entry)) (now (sheet .entry)) ⌝ }
 {
     let mut s = start();
     let mut at = 0usize;
@@ -352,11 +410,13 @@ pub fn run(names: &[u8], table: &[u32], text: &[u8], cells: &mut [u32]) -> State
         if text.len() <= t.from {
             return s;
         }
-        let q = step(names, table, text, cells, s, t);
+        let full = sheet.len() / 3 <= s.marks as usize;
+        let q = step(names, table, text, cells, full, s, t);
         if q.fault != 0 {
             return q;
         }
-        put_cell(cells, q);
+        put_three(cells, q.ready, q.count, q.slot, q.index, q.value);
+        put_three(sheet, q.line, q.marks, q.value, q.slot, q.slot);
         s = counted(q);
         at = t.to;
     }

@@ -102,7 +102,7 @@ pub fn pick(test: bool, a: u32, b: u32) -> u32
     if test { a } else { b }
 }
 
-// = 1, [ 2, ] 3, allowance 4, any other token 0.
+// = 1, [ 2, ] 3, any other token 0; allowance 6, mark 7, keep 8, which is what is expected after each.
 pub fn code_of(text: &[u8], t: Token) -> u32
     ensures { λ r. ⌜ r ≡ codeOf (part (now (text .entry)) (t .from) (t .to)) ⌝ }
 {
@@ -112,11 +112,10 @@ pub fn code_of(text: &[u8], t: Token) -> u32
     let open = same_part(text, from, to, b"[");
     let close = same_part(text, from, to, b"]");
     let allowance = same_part(text, from, to, b"allowance");
-    pick(
-        equals,
-        1,
-        pick(open, 2, pick(close, 3, pick(allowance, 4, 0))),
-    )
+    let mark = same_part(text, from, to, b"mark");
+    let keep = same_part(text, from, to, b"keep");
+    let words = pick(allowance, 6, pick(mark, 7, pick(keep, 8, 0)));
+    pick(equals, 1, pick(open, 2, pick(close, 3, words)))
 }
 
 // No decimal number.

@@ -52,14 +52,15 @@ runs-inside text room c e =
     let r = picked (eqb (ended p whole) 0) (caseOf p n) c (errorOf (seen text) p (ended p whole)) e in
     let none = eqb-true (ended p whole) 0 (r .0) in
     let total = all (capped room) tokens p refl whole none in
-    let limits = sound (capped room) tokens p refl .limits in
+    let kept = sound (capped room) tokens p refl in
     subst (Held text room) (ap (caseOf p) total ∙ r .1)
     (record {
       held = omega (arith, held (capped room) tokens p refl whole none, capped-most room);
       count = total;
       placed = placed (capped room) tokens p refl whole none n (omega arith);
-      table = limits .table;
-      others = limits .others;
+      table = kept .limits .table;
+      others = kept .limits .others;
+      unsheeted = kept .sheeted .absent;
     })
 
 pub never-short : NeverShort

@@ -8,7 +8,7 @@ use lib.Dec.{eqb, ltb, leb}
 use borrow.Author.Tests.{eqb-true, eqb-false, leb-false, lt-ltb, ltb-true, not-true}
 use Rattle.cases.specs.declared.parser.Run.{Run}
 use Rattle.cases.specs.declared.parser.Parser.{Parser}
-use Rattle.cases.specs.Parsing.{tableLimit, othersLimit, begun, extended, full, size, tableFull, othersFull, refuseUnless, numberFault, ended}
+use Rattle.cases.specs.Parsing.{tableLimit, othersLimit, none, begun, extended, full, size, tableFull, othersFull, refuseUnless, numberFault, ended}
 use Rattle.cases.proofs.Booleans.{never}
 
 pub no-refusal : (number : ℕ) (ok : Bool) (rest : ℕ) → refuseUnless (suc number) ok rest ≡ 0 → (ok ≡ true) × (rest ≡ 0)
@@ -65,6 +65,28 @@ module _ (old total : ℕ) (run : Run) (h : Limited old total run) where
           }
       go false i t o =
           record { table = h .table; others = omega (arith, leb-false othersLimit (total - size run) o); absent = h .absent; present = λ z. absurd (eqb-false old 1 i z) }
+
+-- A part that may be missing
+
+-- a part k that was not given is empty; the one that is being read was given
+pub record Kept (k part : ℕ) (run : Run) : Type 0 where
+  pub absent : run .given ≡ false → run ≡ none
+  pub present : part ≡ k → run .given ≡ true
+
+module _ (k old : ℕ) (run : Run) (h : Kept k old run) where
+  pub begun-kept : (part total : ℕ) → Kept k part (begun run k part total)
+  begun-kept part total = go (eqb part k) refl
+    where
+      go : (b : Bool) → eqb part k ≡ b → Kept k part (cond b (record { given = true; from = total; to = total }) run)
+      go true e = record { absent = λ z. never (sym z); present = λ _. refl }
+      go false e = record { absent = h .absent; present = λ z. absurd (eqb-false part k e z) }
+
+  pub extended-kept : (next : ℕ) → Kept k old (extended run k old next)
+  extended-kept next = go (eqb old k) refl
+    where
+      go : (b : Bool) → eqb old k ≡ b → Kept k old (cond b (record { given = run .given; from = run .from; to = next }) run)
+      go true e = let now = h .present (eqb-true old k e) in record { absent = λ z. never (sym z ∙ now); present = λ _. now }
+      go false e = h
 
 -- A room for all
 

@@ -16,7 +16,7 @@ use Rattle.cases.specs.Parsing.{tableLimit, othersLimit, none, start, fa
 use Rattle.cases.specs.Numbers.{numberIn, numbersIn}
 use Rattle.cases.specs.Reading.{capped, caseOf, Within, Placed}
 use Rattle.cases.proofs.Booleans.{or-first}
-use Rattle.cases.proofs.Limits.{no-refusal, fits, Limited, headed-limited, counted-limited, number-short}
+use Rattle.cases.proofs.Limits.{no-refusal, fits, Limited, headed-limited, counted-limited, Kept, begun-kept, extended-kept, number-short}
 
 -- The parts
 
@@ -25,8 +25,10 @@ pub record Sound (room : ℕ) (p : Parser) : Type 0 where
   pub values : Within (p .values) (p .total)
   pub cells : Within (p .cells) (p .total)
   pub allowance : Within (p .allowance) (p .total)
+  pub sheet : Within (p .sheet) (p .total)
   pub few : p .total ≤ room
   pub limits : Limited (p .part) (p .total) (p .table)
+  pub sheeted : Kept 5 (p .part) (p .sheet)
   pub short : tableLimit + othersLimit ≤ room → p .fault ≡ 6 → ⊥
 
 begun-within : (run : Run) (k part total : ℕ) → Within run total → Within (begun run k part total) total
@@ -55,17 +57,19 @@ start-sound room =
       values = empty;
       cells = empty;
       allowance = empty;
+      sheet = empty;
       few = omega arith;
       limits = record { table = omega arith; others = omega arith; absent = λ _. refl; present = λ z. absurd (omega arith) };
+      sheeted = record { absent = λ _. refl; present = λ z. absurd (omega arith) };
       short = λ _ z. omega arith;
     }
 
 pub table-given : (p : Parser) (part : ℕ) → isGiven p part ≡ false → (eqb part 1 && p .table .given) ≡ false
-table-given p part e = or-first _ _ (or-first _ _ (or-first _ (eqb part 4 && p .allowance .given) e))
+table-given p part e = or-first _ _ (or-first _ _ (or-first _ (eqb part 4 && p .allowance .given) (or-first _ (eqb part 5 && p .sheet .given) e)))
 
 module _ (room at : ℕ) (p : Parser) (h : Sound room p) where
   failed-sound : (kind : ℕ) → (tableLimit + othersLimit ≤ room → kind ≡ 6 → ⊥) → Sound room (failed p kind at)
-  failed-sound kind f = record { table = h .table; values = h .values; cells = h .cells; allowance = h .allowance; few = h .few; limits = h .limits; short = f }
+  failed-sound kind f = record { table = h .table; values = h .values; cells = h .cells; allowance = h .allowance; sheet = h .sheet; few = h .few; limits = h .limits; sheeted = h .sheeted; short = f }
 
   headed-sound : (part : ℕ) → Sound room (headed p part at)
   unfolding headed
@@ -77,8 +81,10 @@ module _ (room at : ℕ) (p : Parser) (h : Sound room p) where
         values = begun-within (p .values) 2 part (p .total) (h .values);
         cells = begun-within (p .cells) 3 part (p .total) (h .cells);
         allowance = begun-within (p .allowance) 4 part (p .total) (h .allowance);
+        sheet = begun-within (p .sheet) 5 part (p .total) (h .sheet);
         few = h .few;
         limits = headed-limited (p .part) (p .total) (p .table) (h .limits) part (table-given p part e);
+        sheeted = begun-kept 5 (p .part) (p .sheet) (h .sheeted) part (p .total);
         short = h .short;
       })
 
@@ -93,8 +99,10 @@ module _ (room at : ℕ) (p : Parser) (h : Sound room p) where
         values = extended-within (p .values) 2 (p .part) (p .total) (h .values);
         cells = extended-within (p .cells) 3 (p .part) (p .total) (h .cells);
         allowance = extended-within (p .allowance) 4 (p .part) (p .total) (h .allowance);
+        sheet = extended-within (p .sheet) 5 (p .part) (p .total) (h .sheet);
         few = omega (arith, ok .space);
         limits = counted-limited (p .part) (p .total) (p .table) (h .limits) (h .table .low) (ok .table) (ok .others);
+        sheeted = extended-kept 5 (p .part) (p .sheet) (h .sheeted) (p .total + 1);
         short = h .short;
       })
       (λ _. failed-sound (numberFault p room) (λ b. number-short room p b (h .limits)))
@@ -224,5 +232,6 @@ module _ (room : ℕ) (tokens : List Token) (p : Parser) (is : p ≡ parse room 
         table = wider (p .table) (p .total) n t (s .table);
         values = wider (p .values) (p .total) n t (s .values);
         cells = wider (p .cells) (p .total) n t (s .cells);
+        sheet = wider (p .sheet) (p .total) n t (s .sheet);
         allowance = omega (arith, s .allowance .low, s .allowance .high, passed p whole e .one);
       }

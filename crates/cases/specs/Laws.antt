@@ -8,17 +8,19 @@ use lib.ListN.{length}
 use Rattle.cases.specs.declared.Case.{Case}
 use Rattle.cases.specs.declared.ParseError.{ParseError}
 use Rattle.cases.specs.declared.Parsing.the-variants.{Parsed, NotParsed}
-use Rattle.cases.specs.Parsing.{tableLimit, othersLimit, size}
+use Rattle.cases.specs.Parsing.{tableLimit, othersLimit, none, size}
 use Rattle.cases.specs.Lines.{linesOf}
 use Rattle.cases.specs.Reading.{parsing, numbersOf, Placed}
 
--- the room has the text's numbers, which the case counts, the parts are among them, and both limits are kept
+-- the room has the text's numbers, which the case counts, the parts are among them, both limits are kept, and a sheet that is not
+-- given is empty
 pub record Held (text : List ℕ) (room : ℕ) (c : Case) : Type 0 where
   pub held : length (numbersOf text) ≤ room
   pub count : c .count ≡ length (numbersOf text)
   pub placed : Placed c (length (numbersOf text))
   pub table : size (c .table) ≤ tableLimit
   pub others : c .count - size (c .table) ≤ othersLimit
+  pub unsheeted : c .sheet .given ≡ false → c .sheet ≡ none
 
 -- it is so where a text is read
 abbrev pub RunsInside : Type 0

@@ -43,7 +43,7 @@ abbrev pub spelt : ℕ → List ℕ → ℕ
 spelt word [] = word
 spelt word (b ∷ bs) = spelt (nextWord word b) bs
 
--- the words table, values, cells, allowance
+-- the words table, values, cells, allowance, sheet
 abbrev pub tableWord : ℕ
 tableWord = spelt 0 (116 ∷ 97 ∷ 98 ∷ 108 ∷ 101 ∷ [])
 
@@ -56,13 +56,17 @@ cellsWord = spelt 0 (99 ∷ 101 ∷ 108 ∷ 108 ∷ 115 ∷ [])
 abbrev pub allowanceWord : ℕ
 allowanceWord = spelt 0 (97 ∷ 108 ∷ 108 ∷ 111 ∷ 119 ∷ 97 ∷ 110 ∷ 99 ∷ 101 ∷ [])
 
+abbrev pub sheetWord : ℕ
+sheetWord = spelt 0 (115 ∷ 104 ∷ 101 ∷ 101 ∷ 116 ∷ [])
+
 abbrev pub heading : ℕ → Token
 heading word =
     cond (eqb word tableWord) (Heading 1)
     (cond (eqb word valuesWord) (Heading 2)
     (cond (eqb word cellsWord) (Heading 3)
     (cond (eqb word allowanceWord) (Heading 4)
-    Unknown)))
+    (cond (eqb word sheetWord) (Heading 5)
+    Unknown))))
 
 -- the token whose bytes were read
 unfoldable pub classified : Lexer → Token

@@ -9,7 +9,7 @@ use Rattle.cases.specs.declared.lexer.Token.the-variants.{Nothing, Numbe
 use Rattle.cases.specs.declared.parser.Run.{Run}
 use Rattle.cases.specs.declared.parser.Parser.{Parser}
 
--- the most numbers of the table, and of values, cells and allowance together
+-- the most numbers of the table, and of sheet, values, cells and allowance together
 abbrev pub tableLimit : ℕ
 tableLimit = 480000
 
@@ -20,11 +20,11 @@ abbrev pub none : Run
 none = record { given = false; from = 0; to = 0 }
 
 abbrev pub start : Parser
-start = record { part = 0; total = 0; table = none; values = none; cells = none; allowance = none; fault = 0; at = 0 }
+start = record { part = 0; total = 0; table = none; values = none; cells = none; allowance = none; sheet = none; fault = 0; at = 0 }
 
 abbrev pub failed : Parser → ℕ → ℕ → Parser
 failed p fault at =
-    record { part = p .part; total = p .total; table = p .table; values = p .values; cells = p .cells; allowance = p .allowance; fault = fault; at = at }
+    record { part = p .part; total = p .total; table = p .table; values = p .values; cells = p .cells; allowance = p .allowance; sheet = p .sheet; fault = fault; at = at }
 
 -- the run of part k, where a part begins after total numbers, and where its numbers now go up to next
 abbrev pub begun : Run → ℕ → ℕ → ℕ → Run
@@ -36,7 +36,8 @@ extended run k part next = cond (eqb part k) (record { given = run .given; from 
 -- the part was begun before
 abbrev pub isGiven : Parser → ℕ → Bool
 isGiven p part =
-    (((eqb part 1 && p .table .given) || (eqb part 2 && p .values .given)) || (eqb part 3 && p .cells .given)) || (eqb part 4 && p .allowance .given)
+    ((((eqb part 1 && p .table .given) || (eqb part 2 && p .values .given)) || (eqb part 3 && p .cells .given)) || (eqb part 4 && p .allowance .given))
+    || (eqb part 5 && p .sheet .given)
 
 -- the part is the allowance, which takes one number, and has it
 abbrev pub full : Parser → Bool
@@ -71,6 +72,7 @@ headed p part at =
       values = begun (p .values) 2 part (p .total);
       cells = begun (p .cells) 3 part (p .total);
       allowance = begun (p .allowance) 4 part (p .total);
+      sheet = begun (p .sheet) 5 part (p .total);
       fault = p .fault;
       at = p .at;
     })
@@ -97,6 +99,7 @@ counted p room at =
       values = extended (p .values) 2 (p .part) (p .total + 1);
       cells = extended (p .cells) 3 (p .part) (p .total + 1);
       allowance = extended (p .allowance) 4 (p .part) (p .total + 1);
+      sheet = extended (p .sheet) 5 (p .part) (p .total + 1);
       fault = p .fault;
       at = p .at;
     })
@@ -120,8 +123,8 @@ unfoldable pub parse : ℕ → ℕ → Parser → List Token → Parser
 parse room at p [] = p
 parse room at p (token ∷ tokens) = parse room (suc at) (taken room at p token) tokens
 
--- the first fault, 0 where there is none: of the tokens; 12 the text is not whole; 7, 8, 9, 10 a part is missing; 11 the allowance
--- has no number
+-- the first fault, 0 where there is none: of the tokens; 12 the text is not whole; 7, 8, 9, 10 a part is missing, of which the
+-- sheet is none; 11 the allowance has no number
 unfoldable pub ended : Parser → Bool → ℕ
 ended p whole =
     refuseUnless (p .fault) (eqb (p .fault) 0)

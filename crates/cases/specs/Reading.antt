@@ -20,9 +20,9 @@ use Rattle.cases.specs.Numbers.{numbersIn}
 abbrev pub capped : ℕ → ℕ
 capped n = cond (ltb n 4294967295) n 4294967295
 
--- the parts of a parsed text, and the count of its numbers
+-- the parts of a parsed text, and the count of its numbers; a sheet that is not given is empty
 abbrev pub caseOf : Parser → ℕ → Case
-caseOf p count = record { table = p .table; values = p .values; cells = p .cells; allowance = p .allowance .from; count = count }
+caseOf p count = record { table = p .table; values = p .values; cells = p .cells; sheet = p .sheet; allowance = p .allowance .from; count = count }
 
 -- a byte-order mark, EF BB BF, begins the text
 abbrev pub marked : List ℕ → Bool
@@ -91,6 +91,7 @@ pub record Placed (c : Case) (n : ℕ) : Type 0 where
   pub table : Within (c .table) n
   pub values : Within (c .values) n
   pub cells : Within (c .cells) n
+  pub sheet : Within (c .sheet) n
   pub allowance : c .allowance < n
 
 -- the token at fault is among the first n bytes

@@ -17,7 +17,7 @@ pub struct Lexer {
     pub word: u64,
 }
 
-// What ends at a byte. Headings: 1 table, 2 values, 3 cells, 4 allowance.
+// What ends at a byte. Headings: 1 table, 2 values, 3 cells, 4 allowance, 5 sheet.
 pub enum Token {
     Nothing,
     Number(u32),
@@ -36,6 +36,8 @@ const CELLS: u64 = (((3 * 32 + 5) * 32 + 12) * 32 + 12) * 32 + 19; // c e l l s
 const ALLOW: u64 = (((1 * 32 + 12) * 32 + 12) * 32 + 15) * 32 + 23; // a l l o w
 
 const ALLOWANCE: u64 = (((ALLOW * 32 + 1) * 32 + 14) * 32 + 3) * 32 + 5; // and a n c e
+
+const SHEET: u64 = (((19 * 32 + 8) * 32 + 5) * 32 + 5) * 32 + 20; // s h e e t
 
 // Every word that has another byte than lower-case letters, or over twelve of them.
 const OTHER: u64 = 1152921504606846976;
@@ -133,6 +135,9 @@ fn heading(word: u64) -> Token
     }
     if word == ALLOWANCE {
         return Token::Heading(4);
+    }
+    if word == SHEET {
+        return Token::Heading(5);
     }
     Token::Unknown
 }

@@ -1,4 +1,4 @@
-// Reading the text of a case: its table, values, cells and allowance.
+// Reading the text of a case: its table, values, cells, allowance and sheet.
 mod bytes; // what a byte is
 mod lexer; // tokens
 mod lines; // the lines of a part's words and numbers
@@ -26,12 +26,13 @@ ghost use Rattle.cases.specs.Reading.{parsingWithin, parsing};
 ghost use Rattle.cases.specs.Lines.{linesOf, numberLine, headingLine, oddLine};
 ghost use Rattle.cases.specs.Reading.{roomWithin, roomAfter, byteLimit, Inside};
 
-// The parts that are rows by their places among the numbers, the place of the allowance, and how many numbers were
-// written.
+// The parts that are rows by their places among the numbers, of which the sheet may be missing and is then empty; the
+// place of the allowance, and how many numbers were written.
 pub struct Case {
     pub table: Run,
     pub values: Run,
     pub cells: Run,
+    pub sheet: Run,
     pub allowance: u32,
     pub count: u32,
 }
@@ -69,10 +70,12 @@ fn case_of(p: Parser, count: u32) -> Case
     let table = p.table;
     let values = p.values;
     let cells = p.cells;
+    let sheet = p.sheet;
     Case {
         table,
         values,
         cells,
+        sheet,
         allowance: p.allowance.from,
         count,
     }
@@ -166,7 +169,7 @@ fn line_of(text: &[u8], heading: bool, part: u32, k: usize) -> u64
     lines::line_within(&text[..end], whole, heading, part, k)
 }
 
-// The line of number `k` of a part (1 table, 2 values, 3 cells, 4 allowance), 0 where there is none.
+// The line of number `k` of a part (1 table, 2 values, 3 cells, 4 allowance, 5 sheet), 0 where there is none.
 pub fn number_line(text: &[u8], part: u32, k: usize) -> u64
     ensures { λ r. ⌜ r ≡ numberLine (now (text .entry)) part k ⌝ }
 {

@@ -24,7 +24,7 @@ pub struct Run {
     pub to: u32,
 }
 
-// The part that is being read (0: none yet), how many numbers were read, the four parts, and the first fault: its
+// The part that is being read (0: none yet), how many numbers were read, the five parts, and the first fault: its
 // number (0: none) and the byte at which it was found.
 pub struct Parser {
     pub part: u32,
@@ -33,6 +33,7 @@ pub struct Parser {
     pub values: Run,
     pub cells: Run,
     pub allowance: Run,
+    pub sheet: Run,
     pub fault: u32,
     pub at: usize,
 }
@@ -57,6 +58,7 @@ pub fn start() -> Parser
         values: none(),
         cells: none(),
         allowance: none(),
+        sheet: none(),
         fault: 0,
         at: 0,
     }
@@ -109,6 +111,7 @@ fn is_given(p: Parser, part: u32) -> bool
         | ((part == 2) & p.values.given)
         | ((part == 3) & p.cells.given)
         | ((part == 4) & p.allowance.given)
+        | ((part == 5) & p.sheet.given)
 }
 
 // Whether the part takes no further number: an allowance has one.
@@ -174,6 +177,7 @@ fn headed(p: Parser, part: u32, at: usize) -> Parser
     let values = p.values;
     let cells = p.cells;
     let allowance = p.allowance;
+    let sheet = p.sheet;
     Parser {
         part,
         total,
@@ -181,6 +185,7 @@ fn headed(p: Parser, part: u32, at: usize) -> Parser
         values: begun(values, 2, part, total),
         cells: begun(cells, 3, part, total),
         allowance: begun(allowance, 4, part, total),
+        sheet: begun(sheet, 5, part, total),
         fault: p.fault,
         at: p.at,
     }
@@ -210,6 +215,7 @@ fn counted(p: Parser, room: u32, at: usize) -> Parser
     let values = p.values;
     let cells = p.cells;
     let allowance = p.allowance;
+    let sheet = p.sheet;
     Parser {
         part,
         total: next,
@@ -217,6 +223,7 @@ fn counted(p: Parser, room: u32, at: usize) -> Parser
         values: extended(values, 2, part, next),
         cells: extended(cells, 3, part, next),
         allowance: extended(allowance, 4, part, next),
+        sheet: extended(sheet, 5, part, next),
         fault: p.fault,
         at: p.at,
     }

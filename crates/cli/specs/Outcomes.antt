@@ -32,12 +32,12 @@ abbrev pub ofFinishing : Finishing → Outcome
 ofFinishing (Finished e) = OfTable e
 ofFinishing (NotFinished r) = OfRefusal r
 
--- finish (6) finishes, evaluate (3) evaluates, and every other command judges, in a room of so many numbers
-abbrev pub outcome : ℕ → List ℕ → List ℕ → List ℕ → ℕ → ℕ → Outcome
-outcome command w values cells allowance room =
+-- finish (6) finishes, evaluate (3) evaluates, and every other command judges under the sheet, in a room of so many numbers
+abbrev pub outcome : ℕ → List ℕ → List ℕ → List ℕ → List ℕ → ℕ → ℕ → Outcome
+outcome command w sheet values cells allowance room =
     cond (eqb command 6) (ofFinishing (finishing w room))
     (cond (eqb command 3) (ofEvaluation (evaluation w values cells allowance room))
-    (ofJudgement (judgement w values cells allowance room)))
+    (ofJudgement (judgement w sheet values cells allowance room)))
 
 -- a refusal: 3; 21 says that the room was short, and another is to be tried
 abbrev pub refusedStatus : Refusal → ℕ

@@ -52,13 +52,14 @@ fn finished(answer: Finishing) -> Outcome
 pub fn work(
     command: u32,
     table: &[u32],
+    sheet: &[u32],
     values: &[u32],
     cells: &[u32],
     allowance: u64,
     room: &mut [u32],
 ) -> Outcome
-    ensures { λ r. ⌜ r ≡ outcome command (now (table .entry)) (now (values .entry)) (now (cells .entry)) allowance
-        (length (now (room .entry))) ⌝ }
+    ensures { λ r. ⌜ r ≡ outcome command (now (table .entry)) (now (sheet .entry)) (now (values .entry))
+        (now (cells .entry)) allowance (length (now (room .entry))) ⌝ }
 {
     if command == arguments::FINISH {
         return finished(finish::finish(table, room));
@@ -66,7 +67,7 @@ pub fn work(
     if command == arguments::EVALUATE {
         return evaluated(evaluate::evaluate(table, values, cells, allowance, room));
     }
-    judged(judge::judge(table, values, cells, allowance, room))
+    judged(judge::judge(table, sheet, values, cells, allowance, room))
 }
 
 // The status of a refusal: 21 says that the room was short.
@@ -142,14 +143,15 @@ fn put_explanation(
     rule: &[u8],
     names: &[u8],
     table: &[u32],
+    sheet: &[u32],
     room: &[u32],
     v: Verdict,
 ) -> usize {
     if json {
         let open = report::put_json_judgement(page, at, path, setting, v);
-        return reasons::put_json_reasons(page, open, names, table, room);
+        return reasons::put_json_reasons(page, open, names, table, sheet, room);
     }
-    let to = report::put_judgement(page, at, names, rule, table, room, v);
+    let to = report::put_judgement(page, at, names, rule, table, sheet, room, v);
     reasons::put_reasons(page, to, names, table, room, v.rule, v.condition)
 }
 
@@ -162,6 +164,7 @@ fn put_judged(
     rule: &[u8],
     names: &[u8],
     table: &[u32],
+    sheet: &[u32],
     room: &[u32],
     v: Verdict,
 ) -> usize {
@@ -178,6 +181,7 @@ fn put_judged(
             rule,
             names,
             table,
+            sheet,
             room,
             v,
         );
@@ -202,6 +206,7 @@ fn put_refusal(
     names: &[u8],
     text: &[u8],
     table: &[u32],
+    sheet: &[u32],
     values: &[u32],
     cells: &[u32],
     allowance: u64,
@@ -217,6 +222,7 @@ fn put_refusal(
             setting,
             line,
             table,
+            sheet,
             values,
             cells,
             allowance,
@@ -231,13 +237,25 @@ fn put_refusal(
             setting,
             line,
             table,
+            sheet,
             values,
             cells,
             allowance,
             r,
         );
     }
-    put_case_refusal(page, at, path, text, table, values, cells, allowance, r)
+    put_case_refusal(
+        page,
+        at,
+        path,
+        text,
+        table,
+        sheet,
+        values,
+        cells,
+        allowance,
+        r,
+    )
 }
 
 // The refusal of a case, and the note on its table.
@@ -247,6 +265,7 @@ pub fn put_case_refusal(
     path: &[u8],
     text: &[u8],
     table: &[u32],
+    sheet: &[u32],
     values: &[u32],
     cells: &[u32],
     allowance: u64,
@@ -260,6 +279,7 @@ pub fn put_case_refusal(
         path,
         line,
         table,
+        sheet,
         values,
         cells,
         allowance,
@@ -280,6 +300,7 @@ pub fn put_outcome(
     names: &[u8],
     text: &[u8],
     table: &[u32],
+    sheet: &[u32],
     values: &[u32],
     cells: &[u32],
     allowance: u64,
@@ -296,6 +317,7 @@ pub fn put_outcome(
             rule,
             names,
             table,
+            sheet,
             room,
             v,
         ),
@@ -307,6 +329,7 @@ pub fn put_outcome(
             e.terms,
             e.condition,
             e.last,
+            sheet,
             values,
             cells,
             allowance,
@@ -320,6 +343,7 @@ pub fn put_outcome(
             names,
             text,
             table,
+            sheet,
             values,
             cells,
             allowance,

@@ -86,19 +86,16 @@ pub fn prints(request: Request) -> bool {
 }
 
 // Prints the table of a case, in a room for its text.
-fn print_parts(
+fn print_table(
     command: u32,
     path: &[u8],
     case: &[u8],
     table: &[u32],
-    values: &[u32],
-    cells: &[u32],
-    allowance: u64,
     room: &mut [u32],
     text: &mut [u8],
 ) -> u32 {
     let answer = printed::print(command, table, room, text);
-    printed::put(path, case, table, values, cells, allowance, text, answer)
+    printed::put(path, case, table, text, answer)
 }
 
 // Answers a request on the parts of a case, or on a rule and the parts of its setting: see `answers::put_outcome`.
@@ -110,6 +107,7 @@ pub fn answer_parts(
     names: &[u8],
     text: &[u8],
     table: &[u32],
+    sheet: &[u32],
     values: &[u32],
     cells: &[u32],
     allowance: u64,
@@ -117,19 +115,17 @@ pub fn answer_parts(
 ) -> u32 {
     if prints(request) {
         let mut letters = short_text();
-        return print_parts(
-            request.command,
-            path,
-            text,
-            table,
-            values,
-            cells,
-            allowance,
-            room,
-            &mut letters,
-        );
+        return print_table(request.command, path, text, table, room, &mut letters);
     }
-    let outcome = answers::work(request.command, table, values, cells, allowance, room);
+    let outcome = answers::work(
+        request.command,
+        table,
+        sheet,
+        values,
+        cells,
+        allowance,
+        room,
+    );
     let ends = answers::status_of(request.command, outcome);
     if ends == status::SHORT {
         return ends;
@@ -146,6 +142,7 @@ pub fn answer_parts(
         names,
         text,
         table,
+        sheet,
         values,
         cells,
         allowance,
@@ -167,6 +164,7 @@ fn answer_case(
     requires { ⌜ Placed case (length (now numbers)) ⌝ }
 {
     let table = forms::part(numbers, case.table);
+    let sheet = forms::part(numbers, case.sheet);
     let values = forms::part(numbers, case.values);
     let cells = forms::part(numbers, case.cells);
     let allowance = table::number_at(numbers, case.allowance) as u64;
@@ -178,6 +176,7 @@ fn answer_case(
         b"",
         text,
         table,
+        sheet,
         values,
         cells,
         allowance,
@@ -217,7 +216,7 @@ fn print_long(command: u32, table: &[u32]) -> u32 {
 }
 
 // Finishes a table in the longest room, which no table is too long for.
-fn finish_long(table: &[u32], values: &[u32], cells: &[u32], allowance: u64) -> u32 {
+fn finish_long(table: &[u32], sheet: &[u32], values: &[u32], cells: &[u32], allowance: u64) -> u32 {
     let mut room = finish_room();
     let mut page = io::buffer();
     let answer = finish::finish(table, &mut room);
@@ -230,6 +229,7 @@ fn finish_long(table: &[u32], values: &[u32], cells: &[u32], allowance: u64) -> 
                 e.terms,
                 e.condition,
                 e.last,
+                sheet,
                 values,
                 cells,
                 allowance,
@@ -245,6 +245,7 @@ fn finish_long(table: &[u32], values: &[u32], cells: &[u32], allowance: u64) -> 
 pub fn parts_long(
     command: u32,
     table: &[u32],
+    sheet: &[u32],
     values: &[u32],
     cells: &[u32],
     allowance: u64,
@@ -255,17 +256,18 @@ pub fn parts_long(
     if command == arguments::PRINT_FINISHED {
         return print_long(arguments::PRINT_FINISHED, table);
     }
-    finish_long(table, values, cells, allowance)
+    finish_long(table, sheet, values, cells, allowance)
 }
 
 fn case_long(command: u32, numbers: &[u32], case: Case) -> u32
     requires { ⌜ Placed case (length (now numbers)) ⌝ }
 {
     let table = forms::part(numbers, case.table);
+    let sheet = forms::part(numbers, case.sheet);
     let values = forms::part(numbers, case.values);
     let cells = forms::part(numbers, case.cells);
     let allowance = table::number_at(numbers, case.allowance) as u64;
-    parts_long(command, table, values, cells, allowance)
+    parts_long(command, table, sheet, values, cells, allowance)
 }
 
 // Answers a command on a text that was read before.

@@ -58,50 +58,24 @@ pub fn put_text(text: &[u8], bytes: u64) -> u32 {
     )
 }
 
-// A refusal, and the status after it; where a room was short, nothing.
-fn put_refusal(
-    path: &[u8],
-    case: &[u8],
-    table: &[u32],
-    values: &[u32],
-    cells: &[u32],
-    allowance: u64,
-    r: Refusal,
-) -> u32 {
+// A refusal, of the table alone, and the status after it; where a room was short, nothing.
+fn put_refusal(path: &[u8], case: &[u8], table: &[u32], r: Refusal) -> u32 {
+    let none = &table[..0];
     let ends = refused(r);
     if ends == status::SHORT {
         return ends;
     }
     let mut page = io::large_buffer();
-    let at = answers::put_case_refusal(
-        &mut page,
-        0,
-        path,
-        case,
-        table,
-        values,
-        cells,
-        allowance,
-        r,
-    );
+    let at = answers::put_case_refusal(&mut page, 0, path, case, table, none, none, none, 0, r);
     let count = page::filled(&page, at);
     io::write_all(STDERR_FILENO, &page[..count]);
     ends
 }
 
 // Puts what a command printed into its room.
-pub fn put(
-    path: &[u8],
-    case: &[u8],
-    table: &[u32],
-    values: &[u32],
-    cells: &[u32],
-    allowance: u64,
-    text: &[u8],
-    answer: Printing,
-) -> u32 {
+pub fn put(path: &[u8], case: &[u8], table: &[u32], text: &[u8], answer: Printing) -> u32 {
     match answer {
         Printing::Printed(bytes) => put_text(text, bytes),
-        Printing::NotPrinted(r) => put_refusal(path, case, table, values, cells, allowance, r),
+        Printing::NotPrinted(r) => put_refusal(path, case, table, r),
     }
 }

@@ -39,6 +39,13 @@ fn large_setting() -> [u8; 4194320]
     [0u8; 4194320]
 }
 
+// For the lines of a sheet by name, at most 4,096.
+fn sheet_room() -> [u32; 12288]
+    ensures { λ r. ⌜ r ≡ replicate 12288 0 ⌝ }
+{
+    [0u32; 12288]
+}
+
 // How many variables a table begins with.
 fn variables(table: &[u32]) -> u32 {
     let terms = show::terms_within(table, 512);
@@ -127,6 +134,7 @@ fn answer_given(
     names: &[u8],
     text: &[u8],
     table: &[u32],
+    sheet: &[u32],
     values: &[u32],
     cells: &[u32],
     allowance: u64,
@@ -140,13 +148,14 @@ fn answer_given(
         names,
         text,
         table,
+        sheet,
         values,
         cells,
         allowance,
         room,
     );
     if ends == status::SHORT {
-        return files::parts_long(request.command, table, values, cells, allowance);
+        return files::parts_long(request.command, table, sheet, values, cells, allowance);
     }
     ends
 }
@@ -166,6 +175,7 @@ fn answer_placed(
 ) -> u32
     requires { ⌜ Placed case (length (now numbers)) ⌝ }
 {
+    let sheet = forms::part(numbers, case.sheet);
     let values = forms::part(numbers, case.values);
     let cells = forms::part(numbers, case.cells);
     let allowance = table::number_at(numbers, case.allowance) as u64;
@@ -177,6 +187,7 @@ fn answer_placed(
         names,
         text,
         table,
+        sheet,
         values,
         cells,
         allowance,
@@ -231,11 +242,13 @@ fn answer_by_name(
     room: &mut [u32],
 ) -> u32 {
     let mut values = [0u32; 256];
-    let reading = assignments::read(names, table, text, &mut values, cells);
+    let mut sheet = sheet_room();
+    let reading = assignments::read(names, table, text, &mut values, cells, &mut sheet);
     match reading {
         Reading::Read(s) => {
             let end = show::front(s.values, &values);
             let stop = show::front(s.cells, cells);
+            let last = show::front(s.sheet, &sheet);
             answer_given(
                 request,
                 path,
@@ -244,6 +257,7 @@ fn answer_by_name(
                 names,
                 text,
                 table,
+                &sheet[..last],
                 &values[..end],
                 &cells[..stop],
                 s.allowance as u64,
@@ -418,6 +432,7 @@ fn answer_alone(request: Request, path: &[u8], rule: &[u8], names: &[u8], table:
         names,
         rule,
         table,
+        none,
         none,
         none,
         0,

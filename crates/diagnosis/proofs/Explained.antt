@@ -10,7 +10,7 @@ use native.Mathlib.Decide.{ℕ-discrete}
 use native.Mathlib.Omega.{arith}
 use lib.Dec.{eqb, ltb, leb}
 use lib.ListN.{length, getD}
-use borrow.Author.Tests.{ltb-true, lt-ltb, lt-leb, not-true, not-false}
+use borrow.Author.Tests.{ltb-true, lt-ltb, le-ltb, lt-leb, not-true, not-false}
 use Rattle.ops.specs.declared.Op.{Op}
 use Rattle.ops.specs.declared.Op.the-variants.{Constant, Variable, Apply, Ite, Select, Store, Unknown}
 use Rattle.ops.specs.Ranks.{Arity, FunctionRank, functionRank}
@@ -37,11 +37,13 @@ use Rattle.setting.specs.declared.cells.Cell.{Cell}
 use Rattle.setting.specs.Cells.{cellAt, cellCount}
 use Rattle.setting.specs.Arrays.{slotSort}
 use Rattle.setting.specs.Check.{variableFault, cellFault, checkCells, check}
+use Rattle.sheets.specs.Marks.{lineAt, lineCount, mark}
+use Rattle.sheets.specs.Check.{sound, lineFault, sheetCheck}
 use Rattle.diagnosis.specs.declared.told.Diagnosis.{Diagnosis}
 use Rattle.diagnosis.specs.Telling.{nothing, Line, tell, pass, FirstFails}
 use Rattle.diagnosis.specs.Asking.{asks}
-use Rattle.diagnosis.specs.Reasons.{widthLines, uses, fieldLines, sortLines, valueLines, clashing, clashLines, firstClashing, tableReasons, termReasons, settingReasons, reasons, small, diagnosis}
-use Rattle.diagnosis.specs.Laws.{Told, Answered, TableTold, SettingTold, AllowanceTold}
+use Rattle.diagnosis.specs.Reasons.{markLines, widthLines, uses, fieldLines, sortLines, valueLines, clashing, clashLines, firstClashing, tableReasons, termReasons, settingReasons, reasons, small, diagnosis}
+use Rattle.diagnosis.specs.Laws.{Told, Answered, TableTold, SettingTold, SheetTold, AllowanceTold}
 
 -- Some test fails: the first that does tells
 first-fails : (ls : List Line) → pass ls ≡ false → FirstFails ls (tell ls)
@@ -69,6 +71,10 @@ three false b c e = refl
 quad : (a b c d : Bool) → a && b && c && d ≡ false → a && (b && (c && (d && true))) ≡ false
 quad true b c d e = three b c d e
 quad false b c d e = refl
+
+after : (a : Bool) {b : Bool} → b ≡ false → a && b ≡ false
+after true e = e
+after false e = refl
 
 -- What refuses, by number
 
@@ -141,15 +147,15 @@ clashed t i e =
     go (yes same) =
         never (sym (any-none i f (λ j b. first .before j (omega arith))) ∙ and-parts (isVariable (termAt t i)) (anyBelow i f) e .1)
 
-module _ (t values cells : List ℕ) (allowance : ℕ) where
-  told-of : (number i : ℕ) (ls : List Line) → reasons t values cells allowance number i ≡ ls → pass ls ≡ false → Told t values cells allowance number i
+module _ (t sheet values cells : List ℕ) (allowance : ℕ) where
+  told-of : (number i : ℕ) (ls : List Line) → reasons t sheet values cells allowance number i ≡ ls → pass ls ≡ false → Told t sheet values cells allowance number i
   told-of number i ls is e s = rw (s, is) (first-fails ls e)
 
   -- no refusal, or one that is told
   Fault : ℕ → ℕ → Type 0
-  Fault i number = (number ≡ 0) ⊎ Told t values cells allowance number i
+  Fault i number = (number ≡ 0) ⊎ Told t sheet values cells allowance number i
 
-  refuse-told : (i number : ℕ) (ok : Bool) (rest : ℕ) → (ok ≡ false → Told t values cells allowance number i) → Fault i rest → Fault i (refuseUnless number ok rest)
+  refuse-told : (i number : ℕ) (ok : Bool) (rest : ℕ) → (ok ≡ false → Told t sheet values cells allowance number i) → Fault i rest → Fault i (refuseUnless number ok rest)
   unfolding Fault
   refuse-told i number true rest h later = later
   refuse-told i number false rest h later = inr (h refl)
@@ -181,10 +187,18 @@ module _ (t values cells : List ℕ) (allowance : ℕ) where
       refuse-told i 14 (array s) _ (λ e. told-of 14 i _ refl (one (array s) e))
       (refuse-told i 15 (fits (s .m) (c .index) && fits (s .n) (c .value)) 0 (λ e. told-of 15 i _ refl (two (fits (s .m) (c .index)) (fits (s .n) (c .value)) e)) (inl refl))
 
+  line-told : (i : ℕ) → Fault i (lineFault (lineAt sheet i))
+  unfolding Fault reasons
+  line-told i =
+      let l = lineAt sheet i in
+      refuse-told i 16 (sound l) 0
+      (λ e. told-of 16 i _ refl (after (ltb i (lineCount sheet)) (three (leb (l .kind) mark) (leb (l .lowest) (l .highest)) (leb (l .highest) 255) e)))
+      (inl refl)
+
   -- Answers
 
   Fine : Acceptance → Type 0
-  Fine = Answered (Told t values cells allowance)
+  Fine = Answered (Told t sheet values cells allowance)
 
   by-fault : (f at : ℕ) (rest : Acceptance) → Fault at f → Fine rest → Fine (refusedBy f at rest)
   unfolding Fault Fine
@@ -208,26 +222,34 @@ empty-or false false e = refl
 
 pub table-told : TableTold
 unfolding admissionWithin Fine Fault reasons tableReasons termReasons
-table-told limit h t values cells allowance =
+table-told limit h t sheet values cells allowance =
     let last = pred (terms t) in
-    pick t values cells allowance (eqb (length t) 0 || not (eqb (length t % words) 0)) _ _
-    (λ e. told-of t values cells allowance 1 0 _ refl (empty-or (eqb (length t) 0) (eqb (length t % words) 0) e))
+    pick t sheet values cells allowance (eqb (length t) 0 || not (eqb (length t % words) 0)) _ _
+    (λ e. told-of t sheet values cells allowance 1 0 _ refl (empty-or (eqb (length t) 0) (eqb (length t % words) 0) e))
     (λ _.
-    pick t values cells allowance (ltb limit (terms t)) _ _
-    (λ e. told-of t values cells allowance 2 0 _ refl (one (not (ltb 512 (terms t))) (ap not (lt-ltb 512 (terms t) (omega (arith, ltb-true limit (terms t) e))))))
+    pick t sheet values cells allowance (ltb limit (terms t)) _ _
+    (λ e. told-of t sheet values cells allowance 2 0 _ refl (one (not (ltb 512 (terms t))) (ap not (lt-ltb 512 (terms t) (omega (arith, ltb-true limit (terms t) e))))))
     (λ _.
-    scan-told t values cells allowance (fault t) (fault-told t values cells allowance) (terms t) 0 _
-    (pick t values cells allowance (boolean (sortAt t last)) _ _ (λ _. tt) (λ e. told-of t values cells allowance 10 last _ refl (one (boolean (sortAt t last)) e)))))
+    scan-told t sheet values cells allowance (fault t) (fault-told t sheet values cells allowance) (terms t) 0 _
+    (pick t sheet values cells allowance (boolean (sortAt t last)) _ _ (λ _. tt) (λ e. told-of t sheet values cells allowance 10 last _ refl (one (boolean (sortAt t last)) e)))))
 
 pub setting-told : SettingTold
 unfolding check Fine reasons settingReasons
-setting-told t values cells allowance =
-    pick t values cells allowance (not (eqb (length cells % 3) 0)) _ _
-    (λ e. told-of t values cells allowance 11 0 _ refl (one (eqb (length cells % 3) 0) (not-true (eqb (length cells % 3) 0) e)))
+setting-told t sheet values cells allowance =
+    pick t sheet values cells allowance (not (eqb (length cells % 3) 0)) _ _
+    (λ e. told-of t sheet values cells allowance 11 0 _ refl (one (eqb (length cells % 3) 0) (not-true (eqb (length cells % 3) 0) e)))
     (λ _.
-    scan-told t values cells allowance (λ k. variableFault values (termAt t k)) (variable-told t values cells allowance) (terms t) 0 _
-    (scan-told t values cells allowance (λ k. cellFault t (cellAt cells k)) (cell-told t values cells allowance) (cellCount cells) 0 Accepted tt))
+    scan-told t sheet values cells allowance (λ k. variableFault values (termAt t k)) (variable-told t sheet values cells allowance) (terms t) 0 _
+    (scan-told t sheet values cells allowance (λ k. cellFault t (cellAt cells k)) (cell-told t sheet values cells allowance) (cellCount cells) 0 Accepted tt))
+
+pub sheet-told : SheetTold
+unfolding sheetCheck Fine reasons
+sheet-told t sheet values cells allowance =
+    let n = lineCount sheet in
+    let l = lineAt sheet n in
+    scan-told t sheet values cells allowance (λ k. lineFault (lineAt sheet k)) (line-told t sheet values cells allowance) n 0 _
+    (pick t sheet values cells allowance (eqb (length sheet % 3) 0) _ _ (λ _. tt) (λ _. told-of t sheet values cells allowance 16 n _ refl (ap (λ (b : Bool). b && pass (markLines (l .kind) (l .lowest) (l .highest))) (le-ltb n n (omega arith)))))
 
 pub allowance-told : AllowanceTold
 unfolding reasons settingReasons
-allowance-told t values cells allowance steps h = told-of t values cells allowance 23 steps _ refl (one (leb steps allowance) (lt-leb steps allowance h))
+allowance-told t sheet values cells allowance steps h = told-of t sheet values cells allowance 23 steps _ refl (one (leb steps allowance) (lt-leb steps allowance h))

@@ -69,7 +69,7 @@ past k number b n = omega arith
 there : (k number : ℕ) → k ≤ number → number ≤ k → k ≡ number
 there k number b d = omega arith
 
-module _ (t values cells : List ℕ) (allowance number i : ℕ) where
+module _ (t sheet values cells : List ℕ) (allowance number i : ℕ) where
   table-own : (number ≡ 0 → ⊥) → number ≤ 2 → Own number (tableReasons t number)
   unfolding Own tableReasons
   table-own z b = at number 1 _ _ (λ e. (λ _. e, (λ _. e, tt))) (λ n. (λ _. there 2 number (past 1 number (past 0 number (omega arith) z) n) b, tt))
@@ -99,15 +99,16 @@ module _ (t values cells : List ℕ) (allowance number i : ℕ) where
       (λ _. at number 15 _ _ (λ e. (λ _. e, (λ _. e, tt)))
       (λ _. at number 23 _ _ (λ e. (λ _. e, tt)) (λ _. tt))))))
 
-  own : Own number (reasons t values cells allowance number i)
+  own : Own number (reasons t sheet values cells allowance number i)
   unfolding Own reasons
   own =
       at number 0 _ _ (λ _. tt)
       (λ z. pick number (leb number 2) _ _ (λ e. table-own z (leb-true number 2 e))
-      (λ low. pick number (leb number 10) _ _ (λ e. term-own (leb-false number 2 low) (leb-true number 10 e)) (λ _. setting-own)))
+      (λ low. pick number (leb number 10) _ _ (λ e. term-own (leb-false number 2 low) (leb-true number 10 e))
+      (λ _. at number 16 _ _ (λ e. (λ _. e, (λ _. e, (λ _. e, (λ _. e, tt))))) (λ _. setting-own))))
 
 pub own-reasons : OwnReasons
-own-reasons t values cells allowance number i d f = told-own number (reasons t values cells allowance number i) d (own t values cells allowance number i) f
+own-reasons t sheet values cells allowance number i d f = told-own number (reasons t sheet values cells allowance number i) d (own t sheet values cells allowance number i) f
 
 -- below a number is up to the one before it
 below-most : (a v : ℕ) → 0 < a → ltb v a ≡ leb v (a - 1)

@@ -8,6 +8,7 @@ use Rattle.table.specs.Folds.{anyBelow, firstFrom}
 use Rattle.table.specs.Admission.{refused, scan, admissionWithin, admission}
 use Rattle.setting.specs.Arrays.{arrayEntry, slotSort}
 use Rattle.setting.specs.Check.{check}
+use Rattle.sheets.specs.Check.{sheetCheck}
 use Rattle.diagnosis.specs.Telling.{vectorSort, booleanSort, ofField, plain, sized}
 use Rattle.diagnosis.specs.Reasons.{termReasons, settingReasons, reasons, diagnosis}
 use Rattle.diagnosis.specs.Spots.{numberOf, spotAt, spot}
@@ -20,7 +21,7 @@ slot-refused : admission slot ≡ refused 7 0
 unfolding slot admissionWithin scan fault faultIf typed clash anyBelow chain
 slot-refused = refl
 
-slot-told : diagnosis slot [] [] 0 7 0 ≡ plain 15 300 0
+slot-told : diagnosis slot [] [] [] 0 7 0 ≡ plain 15 300 0
 unfolding slot reasons termReasons
 slot-told = refl
 
@@ -32,12 +33,12 @@ sorts-refused : admission sorts ≡ refused 6 1
 unfolding sorts admissionWithin scan fault faultIf typed clash anyBelow chain
 sorts-refused = refl
 
-sorts-told : diagnosis sorts [] [] 0 6 1 ≡ record { reason = 10; part = 1; a = 0; b = 0; c = 0; d = 0; found = vectorSort 8; asked = booleanSort }
+sorts-told : diagnosis sorts [] [] [] 0 6 1 ≡ record { reason = 10; part = 1; a = 0; b = 0; c = 0; d = 0; found = vectorSort 8; asked = booleanSort }
 unfolding sorts reasons termReasons
 sorts-told = refl
 
 -- q is term 5
-later-told : diagnosis (3 ∷ 0 ∷ 0 ∷ 0 ∷ 0 ∷ 0 ∷ 3 ∷ 0 ∷ 0 ∷ 0 ∷ 5 ∷ 0 ∷ []) [] [] 0 5 1 ≡ ofField 8 2 5 1
+later-told : diagnosis (3 ∷ 0 ∷ 0 ∷ 0 ∷ 0 ∷ 0 ∷ 3 ∷ 0 ∷ 0 ∷ 0 ∷ 5 ∷ 0 ∷ []) [] [] [] 0 5 1 ≡ ofField 8 2 5 1
 unfolding reasons termReasons
 later-told = refl
 
@@ -49,7 +50,7 @@ clashing-refused : admission clashing ≡ refused 8 2
 unfolding clashing admissionWithin scan fault faultIf typed clash anyBelow chain
 clashing-refused = refl
 
-clashing-told : diagnosis clashing [] [] 0 8 2 ≡ record { reason = 17; part = 0; a = 0; b = 2; c = 0; d = 0; found = vectorSort 8; asked = booleanSort }
+clashing-told : diagnosis clashing [] [] [] 0 8 2 ≡ record { reason = 17; part = 0; a = 0; b = 2; c = 0; d = 0; found = vectorSort 8; asked = booleanSort }
 unfolding clashing reasons termReasons firstFrom
 clashing-told = refl
 
@@ -58,7 +59,7 @@ wide-refused : check (1 ∷ 0 ∷ 0 ∷ 1 ∷ 0 ∷ 0 ∷ []) (0 ∷ 2 ∷ []) [
 unfolding check scan
 wide-refused = refl
 
-wide-told : diagnosis (1 ∷ 0 ∷ 0 ∷ 1 ∷ 0 ∷ 0 ∷ []) (0 ∷ 2 ∷ []) [] 0 13 0 ≡ sized 23 1 2 1 booleanSort
+wide-told : diagnosis (1 ∷ 0 ∷ 0 ∷ 1 ∷ 0 ∷ 0 ∷ []) [] (0 ∷ 2 ∷ []) [] 0 13 0 ≡ sized 23 1 2 1 booleanSort
 unfolding reasons settingReasons
 wide-told = refl
 
@@ -67,6 +68,27 @@ unfolding spotAt
 wide-spot = refl
 
 -- an array of 8 bits by 4 bits; the cell's value 20 is too large
-cell-told : diagnosis (1 ∷ 8 ∷ 4 ∷ 0 ∷ 0 ∷ 0 ∷ []) (0 ∷ []) (0 ∷ 200 ∷ 20 ∷ []) 0 15 0 ≡ sized 26 20 15 0 (vectorSort 4)
+cell-told : diagnosis (1 ∷ 8 ∷ 4 ∷ 0 ∷ 0 ∷ 0 ∷ []) [] (0 ∷ []) (0 ∷ 200 ∷ 20 ∷ []) 0 15 0 ≡ sized 26 20 15 0 (vectorSort 4)
 unfolding reasons settingReasons slotSort arrayEntry
 cell-told = refl
+
+-- a line that is right and one whose ends are reversed, though its slot is too large as well; a line whose kind is 2; a cut one
+reversed : List ℕ
+reversed = 1 ∷ 0 ∷ 3 ∷ 0 ∷ 300 ∷ 299 ∷ []
+
+reversed-refused : sheetCheck reversed ≡ refused 16 1
+unfolding reversed sheetCheck scan
+reversed-refused = refl
+
+reversed-told : diagnosis slot reversed [] [] 0 16 1 ≡ plain 30 300 299
+unfolding slot reversed reasons
+reversed-told = refl
+
+reversed-spot : spot slot 16 1 ≡ numberOf 5 3
+unfolding spotAt
+reversed-spot = refl
+
+lines-told : diagnosis slot (2 ∷ 9 ∷ 300 ∷ []) [] [] 0 16 0 ∷ diagnosis slot (1 ∷ 9 ∷ 300 ∷ []) [] [] 0 16 0 ∷ diagnosis slot (1 ∷ 0 ∷ 3 ∷ 0 ∷ 7 ∷ []) [] [] 0 16 1 ∷ []
+    ≡ plain 29 2 0 ∷ plain 31 300 0 ∷ plain 28 2 0 ∷ []
+unfolding slot reasons
+lines-told = refl

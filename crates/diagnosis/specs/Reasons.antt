@@ -17,6 +17,7 @@ use Rattle.table.specs.Folds.{firstFrom}
 use Rattle.setting.specs.declared.cells.Cell.{Cell}
 use Rattle.setting.specs.Cells.{cellAt}
 use Rattle.setting.specs.Arrays.{slotSort}
+use Rattle.sheets.specs.Marks.{lineAt, lineCount, mark}
 use Rattle.diagnosis.specs.declared.told.Diagnosis.{Diagnosis}
 use Rattle.diagnosis.specs.declared.asking.Ask.{Ask}
 use Rattle.diagnosis.specs.declared.asking.Asks.{Asks}
@@ -119,6 +120,16 @@ chainLines t i = line (leb (size t i) 16) (plain 19 0 0) ∷ []
 abbrev pub ruleLines : List ℕ → ℕ → List Line
 ruleLines t i = line (boolean (sortAt t i)) (sized 20 0 0 0 (sortAt t i)) ∷ []
 
+-- 16: of a line that is whole; of line k, which may be the last and cut
+abbrev pub markLines : ℕ → ℕ → ℕ → List Line
+markLines kind lowest highest =
+    line (leb kind mark) (plain 29 kind 0) ∷ line (leb lowest highest) (plain 30 lowest highest) ∷ line (leb highest 255) (plain 31 highest 0) ∷ []
+
+abbrev pub sheetLines : List ℕ → ℕ → List Line
+sheetLines sheet k =
+    line (ltb k (lineCount sheet)) (plain 28 (length sheet % 3) 0)
+    ∷ markLines (lineAt sheet k .kind) (lineAt sheet k .lowest) (lineAt sheet k .highest)
+
 -- 11
 abbrev pub rowLines : List ℕ → List Line
 rowLines cells = line (eqb (length cells % 3) 0) (plain 21 (length cells) 0) ∷ []
@@ -174,16 +185,17 @@ settingReasons t values cells allowance number i =
     (cond (eqb number 23) (stepLines allowance i)
     [])))))
 
-unfoldable pub reasons : List ℕ → List ℕ → List ℕ → ℕ → ℕ → ℕ → List Line
-reasons t values cells allowance number i =
+unfoldable pub reasons : List ℕ → List ℕ → List ℕ → List ℕ → ℕ → ℕ → ℕ → List Line
+reasons t sheet values cells allowance number i =
     cond (eqb number 0) []
     (cond (leb number 2) (tableReasons t number)
     (cond (leb number 10) (termReasons t number i)
-    (settingReasons t values cells allowance number i)))
+    (cond (eqb number 16) (sheetLines sheet i)
+    (settingReasons t values cells allowance number i))))
 
 -- the numbers are small enough to be looked at
 abbrev pub small : List ℕ → ℕ → Bool
 small t place = ltb place 4294967296 && ltb (terms t) 4294967296
 
-abbrev pub diagnosis : List ℕ → List ℕ → List ℕ → ℕ → ℕ → ℕ → Diagnosis
-diagnosis t values cells allowance number place = cond (small t place) (tell (reasons t values cells allowance number place)) nothing
+abbrev pub diagnosis : List ℕ → List ℕ → List ℕ → List ℕ → ℕ → ℕ → ℕ → Diagnosis
+diagnosis t sheet values cells allowance number place = cond (small t place) (tell (reasons t sheet values cells allowance number place)) nothing

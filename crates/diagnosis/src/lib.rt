@@ -1,5 +1,6 @@
 // Which reason for a refusal applies, with the numbers seen, and where in the case it stands.
 mod asking; // refusal 6
+mod marks; // refusal 16
 mod settings; // refusals 11 to 15 and 23
 mod spots; // where in the case
 mod terms; // refusals 3 to 10
@@ -53,14 +54,15 @@ fn small(table: &[u32], place: u64) -> bool
 // The reason for a refusal by this number at this place, 0 where there is none.
 pub fn diagnose(
     table: &[u32],
+    sheet: &[u32],
     values: &[u32],
     cells: &[u32],
     allowance: u64,
     number: u32,
     place: u64,
 ) -> Diagnosis
-    ensures { λ r. ⌜ r ≡ diagnosis (now (table .entry)) (now (values .entry)) (now (cells .entry))
-        allowance number place ⌝ }
+    ensures { λ r. ⌜ r ≡ diagnosis (now (table .entry)) (now (sheet .entry)) (now (values .entry))
+        (now (cells .entry)) allowance number place ⌝ }
 {
     if !small(table, place) {
         return nothing();
@@ -73,6 +75,9 @@ pub fn diagnose(
     }
     if number <= 10 {
         return terms::term_told(table, number, place as u32);
+    }
+    if number == 16 {
+        return marks::sheet_told(sheet, place as u32);
     }
     settings::setting_told(table, values, cells, allowance, number, place as u32)
 }

@@ -57,7 +57,7 @@ fn given_told(values: &[u32], x: Term) -> Diagnosis
 }
 
 // A number of a row, 0 past its end.
-fn entry(row: &[u32], at: usize) -> u32
+pub fn entry(row: &[u32], at: usize) -> u32
     ensures { λ r. ⌜ r ≡ getD (now (row .entry)) at 0 ⌝ }
 {
     if at < row.len() { row[at] } else { 0 }

@@ -2,7 +2,7 @@
 ghost use mathlib.Core.Path.{_≡_};
 ghost use Rattle.diagnosis.specs.Spots.{word, numberOf, spotAt};
 
-// A number of a part (1 table, 2 values, 3 cells, 4 allowance; 0: none), or the word that begins the part.
+// A number of a part (1 table, 2 values, 3 cells, 4 allowance, 5 sheet; 0: none), or the word that begins the part.
 pub struct Spot {
     pub part: u32,
     pub heading: bool,
@@ -29,7 +29,7 @@ pub fn number_of(part: u32, number: usize) -> Spot
     }
 }
 
-// Of term or cell `i`, by the number that refuses it.
+// Of term, cell or line `i`, by the number that refuses it.
 pub fn spot_at(table: &[u32], number: u32, i: u32) -> Spot
     ensures { λ r. ⌜ r ≡ spotAt (now (table .entry)) number i ⌝ }
 {
@@ -44,6 +44,9 @@ pub fn spot_at(table: &[u32], number: u32, i: u32) -> Spot
     }
     if (number == 14) | (number == 15) {
         return number_of(3, (i as usize) * 3);
+    }
+    if number == 16 {
+        return number_of(5, (i as usize) * 3);
     }
     if number == 23 {
         return number_of(4, 0);

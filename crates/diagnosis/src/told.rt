@@ -14,6 +14,7 @@ use table::Sort;
 //  22: 12. The slot is a, and there are b values.        23: 13. The value of slot a is b, at most c fits found.
 //  24: 14. Slot a is no array.     25, 26: 15. The index (the value) is a, at most b fits found.
 //  27: 23. The allowance is a, and b steps are needed.
+//  28 to 31: 16. The last line has a numbers; the kind is a; the slots go from a to b; the slot is a.
 pub struct Diagnosis {
     pub reason: u32,
     pub part: u32,

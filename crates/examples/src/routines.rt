@@ -14,6 +14,7 @@ use lines::parts::CELLS;
 use lines::parts::FINISHED;
 use lines::parts::LIMIT;
 use lines::parts::ROOM;
+use lines::parts::SHEET;
 use lines::parts::VALUES;
 use lines::parts::WRONG;
 use lines::parts::row;
@@ -47,7 +48,8 @@ fn judge(numbers: &[u32], table: &[u32], room: &mut [u32]) {
     let values = row(numbers, VALUES);
     let cells = row(numbers, CELLS);
     let allowance = number_at(numbers, 64 * ALLOWANCE) as u64;
-    show_judgement(judge::judge(table, values, cells, allowance, room));
+    let sheet = row(numbers, SHEET);
+    show_judgement(judge::judge(table, sheet, values, cells, allowance, room));
     show_room(room);
 }
 
@@ -62,11 +64,11 @@ fn finish(table: &[u32], room: &mut [u32], shown: bool) {
 // Calls a routine by its number.
 fn call(numbers: &[u32], table: &[u32], routine: u32, room: &mut [u32]) {
     match routine {
-        9 => show_admission(admission::admit(table)),
-        10 => show_admission(admission::admit_within(table, number_at(numbers, 64 * LIMIT))),
-        11 => evaluate(numbers, table, room),
-        12 => judge(numbers, table, room),
-        13 => finish(table, room, true),
+        10 => show_admission(admission::admit(table)),
+        11 => show_admission(admission::admit_within(table, number_at(numbers, 64 * LIMIT))),
+        12 => evaluate(numbers, table, room),
+        13 => judge(numbers, table, room),
+        14 => finish(table, room, true),
         _ => finish(table, room, false),
     }
 }

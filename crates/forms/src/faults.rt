@@ -4,16 +4,16 @@ use libc::STDERR_FILENO;
 use page::Numbers;
 
 // Line `n` is fault `n`; 6 cannot occur: the room for the numbers is never too short. Line 21 and `n` is fault `n` of a
-// setting by name, 35 that of a name with an equals sign in it; + shows a line of the names.
+// setting by name, 36 that of a name with an equals sign in it; + shows a line of the names.
 fn fill(page: &mut [u8], at: usize, names: &[u8], n: u32, numbers: Numbers) -> usize {
     page::fill(
         page,
         at,
         names,
         b"
-neither a number nor table, values, cells or allowance
+neither a number nor table, sheet, values, cells or allowance
 a number of 2^32 (4294967296) or more
-a number before the words table, values, cells, allowance
+a number before the words table, sheet, values, cells, allowance
 this part was given before
 allowance takes one number, and this is another
 more numbers than the room holds
@@ -24,7 +24,7 @@ the file ends without its part allowance
 allowance has no number
 the file is larger than 4194304 bytes
 the table has more than 480000 numbers
-values, cells and allowance together have more than 200000 numbers
+sheet, values, cells and allowance together have more than 200000 numbers
 a byte-order mark (EF BB BF): save the file without it
 :#: &$
 :#:#: &$
@@ -45,6 +45,7 @@ an index is expected: a decimal number or +b and 1 to 32 binary digits
 no value for +
 more cells than the room holds
 the file ends in the middle of a statement
+more than 4096 mark and keep statements
 the rule declares no such name: \"=\" takes white space before and after it
 ",
         b"",
@@ -211,7 +212,7 @@ fn put_name_fault(
     word: &[u8],
 ) -> usize {
     let stuck = (kind == 1) & has_equals(word);
-    let n = ops::ite(stuck, 35, std::num::wrapping_add_u32(21, kind));
+    let n = ops::ite(stuck, 36, std::num::wrapping_add_u32(21, kind));
     if column == 0 {
         return fill(
             page,

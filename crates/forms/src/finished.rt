@@ -14,6 +14,8 @@ $cells
 $allowance #$
  #
 $#
+; Finishing takes no sheet: C(rule) goes by the table's own marks.$sheet
+$
 ",
         b"",
         n,
@@ -68,6 +70,16 @@ fn put_table(
     put_terms(page, to, room, terms)
 }
 
+// The sheet, a line to a line; nothing where it is empty.
+fn put_sheet(page: &mut [u8], at: usize, sheet: &[u32]) -> usize {
+    if sheet.len() == 0 {
+        return at;
+    }
+    let to = say(page, at, 7, page::none());
+    let next = put_numbers(page, to, sheet, 3);
+    say(page, next, 8, page::none())
+}
+
 // The values, on one line.
 fn put_values(page: &mut [u8], at: usize, values: &[u32]) -> usize {
     let to = say(page, at, 2, page::none());
@@ -88,12 +100,14 @@ pub fn put_finished(
     terms: u32,
     condition: u32,
     last: u32,
+    sheet: &[u32],
     values: &[u32],
     cells: &[u32],
     allowance: u64,
 ) -> usize {
     let rows = put_table(page, at, room, terms, condition, last);
-    let next = put_values(page, rows, values);
+    let lines = put_sheet(page, rows, sheet);
+    let next = put_values(page, lines, values);
     let to = put_cells(page, next, cells);
     say(page, to, 4, page::five(allowance, 0, 0, 0, 0))
 }

@@ -48,9 +48,9 @@ fn line_of(x: Term) -> u32 {
     }
 }
 
-// The lines of a node's shape and colour.
+// The lines of a node's shape and colour: a variable is marked where it is not free.
 fn style(x: Term, free: bool) -> Numbers {
-    let marked = (x.op == 1) & (x.q == 1);
+    let marked = (x.op == 1) & !free;
     let applied = ops::ite(free | (x.op == 16), 11, 16);
     let shape = ops::ite(marked, 9, ops::ite(x.op == 1, 10, applied));
     let color = ops::ite(x.op == 16, 13, ops::ite(free, 14, 15));

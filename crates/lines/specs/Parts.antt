@@ -1,6 +1,6 @@
 -- The parts that routines are called with, in one row of numbers. Number k counts part k's numbers, which stand from
 -- 64 * k on. Parts of one number: 1 allowance, 2 room, 3 finished, 4 limit, 5 constants. Parts of more: 6 values,
--- 7 cells, 8 table.
+-- 7 cells, 8 sheet, 9 table.
 -- Assumes nothing.
 use mathlib.Core.Bool.{cond, _&&_, _||_}
 use mathlib.Core.List.{List, []}
@@ -13,7 +13,7 @@ use Rattle.lines.specs.Tokens.{spelt}
 
 -- what is no part, nor the word of a routine
 abbrev pub wrong : ℕ
-wrong = 15
+wrong = 16
 
 -- the part, or the routine, of a word
 abbrev pub partOf : ℕ → ℕ
@@ -25,18 +25,19 @@ partOf word =
     (cond (eqb word (spelt "constants")) 5
     (cond (eqb word (spelt "values")) 6
     (cond (eqb word (spelt "cells")) 7
-    (cond (eqb word (spelt "table")) 8
-    (cond (eqb word (spelt "admit")) 9
-    (cond (eqb word (spelt "admit_within")) 10
-    (cond (eqb word (spelt "evaluate")) 11
-    (cond (eqb word (spelt "judge")) 12
-    (cond (eqb word (spelt "finish")) 13
-    (cond (eqb word (spelt "extent")) 14
-    wrong)))))))))))))
+    (cond (eqb word (spelt "sheet")) 8
+    (cond (eqb word (spelt "table")) 9
+    (cond (eqb word (spelt "admit")) 10
+    (cond (eqb word (spelt "admit_within")) 11
+    (cond (eqb word (spelt "evaluate")) 12
+    (cond (eqb word (spelt "judge")) 13
+    (cond (eqb word (spelt "finish")) 14
+    (cond (eqb word (spelt "extent")) 15
+    wrong))))))))))))))
 
 -- the most numbers of a part
 abbrev pub most : ℕ → ℕ
-most part = cond (eqb part 8) 6144 (cond (eqb part 6 || eqb part 7) 64 (cond (eqb part 0 || ltb 8 part) 0 1))
+most part = cond (eqb part 9) 6144 (cond (leb 6 part && leb part 8) 64 (cond (eqb part 0 || ltb 9 part) 0 1))
 
 -- so many numbers from a place on; none where there are fewer
 abbrev pub rowOf : List ℕ → ℕ → ℕ → List ℕ
@@ -44,14 +45,14 @@ rowOf ns from count = cond (leb (from + count) (length ns)) (take count (drop fr
 
 -- the table: its own numbers, or so many constants, six zeros each, where they were given last
 abbrev pub tableOf : List ℕ → List ℕ
-tableOf ns = cond (eqb (getD ns 5 0) 0) (rowOf ns 512 (getD ns 8 0)) (rowOf ns 8192 (getD ns 320 0 * 6))
+tableOf ns = cond (eqb (getD ns 5 0) 0) (rowOf ns 576 (getD ns 9 0)) (rowOf ns 8192 (getD ns 320 0 * 6))
 
 -- a part by its word: wrong before the one number of another part was given; a table ends the constants
 abbrev pub opened : List ℕ → ℕ → ℕ → ℕ
 opened ns part next = cond ((ltb 0 part && ltb part 6) && eqb (getD ns part 0) 0) wrong next
 
 abbrev pub begun : List ℕ → ℕ → List ℕ
-begun ns next = set (set ns (cond (eqb next 8) 5 next) 0) next 0
+begun ns next = set (set ns (cond (eqb next 9) 5 next) 0) next 0
 
 -- one number more: wrong past the most
 abbrev pub partAdded : List ℕ → ℕ → ℕ

@@ -25,23 +25,27 @@ pub const VALUES: u32 = 6;
 
 pub const CELLS: u32 = 7;
 
-pub const TABLE: u32 = 8;
+pub const SHEET: u32 = 8;
+
+pub const TABLE: u32 = 9;
 
 // What is no part, nor the word of a routine.
-pub const WRONG: u32 = 15;
+pub const WRONG: u32 = 16;
 
-// The part of a word, or the routine's number: 9 admit, 10 admit_within, 11 evaluate, 12 judge, 13 finish, 14 extent.
+// The part of a word, or the routine's number: 10 admit, 11 admit_within, 12 evaluate, 13 judge, 14 finish, 15
+// extent.
 fn part_of(word: u64) -> u32
     ensures { λ r. ⌜ r ≡ partOf word ⌝ }
 {
-    let extent = ite(word == 262872598, 14, WRONG);
-    let finish = ite(word == 280506026, 13, extent);
-    let judge = ite(word == 13343015, 12, finish);
-    let evaluate = ite(word == 266404073159, 11, judge);
-    let admit_within = ite(word == 115382408546298224, 10, evaluate);
-    let admit = ite(word == 3358070, 9, admit_within);
+    let extent = ite(word == 262872598, 15, WRONG);
+    let finish = ite(word == 280506026, 14, extent);
+    let judge = ite(word == 13343015, 13, finish);
+    let evaluate = ite(word == 266404073159, 12, judge);
+    let admit_within = ite(word == 115382408546298224, 11, evaluate);
+    let admit = ite(word == 3358070, 10, admit_within);
     let table = ite(word == 23171527, TABLE, admit);
-    let cells = ite(word == 5487061, CELLS, table);
+    let sheet = ite(word == 22355190, SHEET, table);
+    let cells = ite(word == 5487061, CELLS, sheet);
     let values = ite(word == 808934645, VALUES, cells);
     let constants = ite(word == 6099581387477, CONSTANTS, values);
     let limit = ite(word == 15056246, LIMIT, constants);
@@ -58,7 +62,7 @@ fn most(part: u32) -> u32
     ite(
         part == TABLE,
         6144,
-        ite((part == VALUES) | (part == CELLS), 64, one),
+        ite((VALUES <= part) & (part <= SHEET), 64, one),
     )
 }
 

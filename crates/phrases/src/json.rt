@@ -18,14 +18,15 @@ fn say(page: &mut [u8], at: usize, names: &[u8], n: u32, numbers: Numbers) -> us
 ]}$
 &{\"term\":#,\"op\":#,\"operator\":\"!\",\"sort\":\"@\",\"operands\":[&],
 &\"value\":?,\"free\":?,\"way\":?}
-\"slot\":#,\"marked\":?,
+\"slot\":#,\"marked\":?,&
 
 #
 #,#
 #,#,#
 ,
 &#
-\"slot\":#,\"name\":\"/\",\"marked\":?,
+\"slot\":#,\"name\":\"/\",\"marked\":?,&
+\"sheet_line\":#,
 ",
         n,
         numbers,
@@ -43,10 +44,20 @@ fn operands(x: Term) -> Numbers {
     push(line, show::operand_numbers(x, none()))
 }
 
-// What a variable has, for &: its slot and mark, between them its name where it is named.
-fn is_variable(x: Term, named: bool, rest: Numbers) -> Numbers {
+// The line of the sheet by which a slot is marked or kept, for &; nothing where none names it.
+fn sheet_line(sheet: &[u32], slot: u32, rest: Numbers) -> Numbers {
+    let line = sheets::deciding(sheet, slot);
+    if line < sheets::count(sheet) {
+        return push(13, push_long(line as u64, rest));
+    }
+    push(6, rest)
+}
+
+// What a variable has, for &: its slot and mark, between them its name where it is named, and the line of the sheet. It
+// is marked where it is not free.
+fn is_variable(sheet: &[u32], x: Term, named: bool, free: bool, rest: Numbers) -> Numbers {
     if x.op == 1 {
-        let marked = push_long(truth(x.q == 1), rest);
+        let marked = push_long(truth(!free), sheet_line(sheet, x.p, rest));
         return push(
             ops::ite(named, 12, 5),
             push(x.p, push_if(named, x.p, marked)),
@@ -60,6 +71,7 @@ fn put_term(
     page: &mut [u8],
     at: usize,
     names: &[u8],
+    sheet: &[u32],
     x: Term,
     k: u32,
     value: u32,
@@ -76,7 +88,8 @@ fn put_term(
     );
     let held = show::value(x.sort, value, page::NULL);
     let told = page::five(held, show::condition(x, free, page::NULL), truth(way), 0, 0);
-    say(page, to, names, 4, is_variable(x, names.len() != 0, told))
+    let last = is_variable(sheet, x, names.len() != 0, free, told);
+    say(page, to, names, 4, last)
 }
 
 fn put_term_at(
@@ -84,6 +97,7 @@ fn put_term_at(
     at: usize,
     names: &[u8],
     table: &[u32],
+    sheet: &[u32],
     values: &[u32],
     truths: &[u32],
     way: &[u32; 512],
@@ -93,6 +107,7 @@ fn put_term_at(
         page,
         at,
         names,
+        sheet,
         table::term_at(table, k),
         k,
         number_at(values, k),
@@ -106,6 +121,7 @@ fn put_terms(
     at: usize,
     names: &[u8],
     table: &[u32],
+    sheet: &[u32],
     values: &[u32],
     truths: &[u32],
     way: &[u32; 512],
@@ -113,7 +129,7 @@ fn put_terms(
 ) -> usize {
     let mut to = at;
     for k in 0..terms {
-        to = put_term_at(page, to, names, table, values, truths, way, k);
+        to = put_term_at(page, to, names, table, sheet, values, truths, way, k);
     }
     to
 }
@@ -144,6 +160,7 @@ pub fn put_json_terms(
     at: usize,
     names: &[u8],
     table: &[u32],
+    sheet: &[u32],
     values: &[u32],
     truths: &[u32],
     terms: u32,
@@ -151,6 +168,6 @@ pub fn put_json_terms(
     slots: &[u32; 256],
 ) -> usize {
     let start = say(page, at, names, 0, none());
-    let to = put_terms(page, start, names, table, values, truths, way, terms);
+    let to = put_terms(page, start, names, table, sheet, values, truths, way, terms);
     put_repair(page, to, names, slots)
 }

@@ -71,6 +71,7 @@ pub fn put_json_reasons(
     at: usize,
     names: &[u8],
     table: &[u32],
+    sheet: &[u32],
     room: &[u32],
 ) -> usize {
     let terms = show::terms_within(table, 512);
@@ -79,5 +80,16 @@ pub fn put_json_reasons(
     let truths = &room[middle..];
     let way = explain::way(table, values, truths, terms);
     let slots = explain::repair(table, &way, terms);
-    phrases::put_json_terms(page, at, names, table, values, truths, terms, &way, &slots)
+    phrases::put_json_terms(
+        page,
+        at,
+        names,
+        table,
+        sheet,
+        values,
+        truths,
+        terms,
+        &way,
+        &slots,
+    )
 }

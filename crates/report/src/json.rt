@@ -70,6 +70,7 @@ pub fn put_json_refusal(
     setting: &[u8],
     line: u64,
     table: &[u32],
+    sheet: &[u32],
     values: &[u32],
     cells: &[u32],
     allowance: u64,
@@ -82,7 +83,17 @@ pub fn put_json_refusal(
         3,
         page::five(r.number as u64, r.place, line, 0, 0),
     );
-    let reason = refusals::put_why(page, start, names, table, values, cells, allowance, r);
+    let reason = refusals::put_why(
+        page,
+        start,
+        names,
+        table,
+        sheet,
+        values,
+        cells,
+        allowance,
+        r,
+    );
     say(page, reason, 4, none())
 }
 

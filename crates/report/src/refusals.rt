@@ -6,7 +6,8 @@ use page::push;
 use page::push_long;
 use table::Refusal;
 
-// Line `n` is reason `n`; 28, 29, 41 and 42 are 22, 27, 2 and 21 with one value, step or number; 43 is the note on one.
+// Line `n` is reason `n`; 32, 33, 46, 47 and 49 are 22, 27, 2, 21 and 28 with one value, step or number; 48 is the note
+// on one.
 fn say(page: &mut [u8], at: usize, names: &[u8], n: u32, numbers: Numbers) -> usize {
     show::put(
         page,
@@ -40,6 +41,10 @@ the value of / is #, at most # fits @
 the index is #, at most # fits @
 the value is #, at most # fits @
 the allowance is #, the reads take # steps
+the last line has # numbers, not three
+the kind is #, and 1 (mark) or 0 (keep) is asked
+the slots go from # down to #, and the lowest comes first
+the slot is #, at most 255 is allowed
 the slot is #, and there is # value
 the allowance is #, the reads take # step
 the term
@@ -51,11 +56,13 @@ operand &, +,
 place
 term
 cell
+sheet line
 $
 :#: note: this line of the table has # numbers, no multiple of six$
 the table has # number, not six for each term
 the cells have # number, not three for each cell
 :#: note: this line of the table has # number, no multiple of six$
+the last line has # number, not three
 ",
         n,
         numbers,
@@ -63,7 +70,7 @@ the cells have # number, not three for each cell
 }
 
 // How many of a diagnosis's four numbers each reason tells.
-const TOLD: [u32; 28] = [
+const TOLD: [u32; 32] = [
     0,
     0,
     1,
@@ -92,20 +99,26 @@ const TOLD: [u32; 28] = [
     2,
     2,
     2,
+    1,
+    1,
+    2,
+    1,
 ];
 
 // The line of a reason.
 fn line_of(d: Diagnosis) -> u32 {
     if (d.reason == 2) & (d.a == 1) {
-        41
+        46
     } else if (d.reason == 21) & (d.a == 1) {
-        42
+        47
+    } else if (d.reason == 28) & (d.a == 1) {
+        49
     } else if d.b != 1 {
         d.reason
     } else if d.reason == 22 {
-        28
+        32
     } else if d.reason == 27 {
-        29
+        33
     } else {
         d.reason
     }
@@ -125,7 +138,7 @@ fn seen(d: Diagnosis, count: u32) -> Numbers {
 // Before them the part of the term that a reason speaks of: the term, or p, q or r.
 fn numbers_of(d: Diagnosis) -> Numbers {
     let whole = (d.part == 0) | (3 < d.part);
-    let letter = ops::ite(d.part == 1, 31, ops::ite(d.part == 2, 32, 33));
+    let letter = ops::ite(d.part == 1, 35, ops::ite(d.part == 2, 36, 37));
     let count = table::number_at(&TOLD, d.reason);
     if (d.reason < 8) | (13 < d.reason) {
         return seen(d, count);
@@ -134,9 +147,9 @@ fn numbers_of(d: Diagnosis) -> Numbers {
         return push(letter, seen(d, count));
     }
     if whole {
-        return push(30, seen(d, 0));
+        return push(34, seen(d, 0));
     }
-    push(34, push(letter, seen(d, count)))
+    push(38, push(letter, seen(d, count)))
 }
 
 // The reason for a refusal, in words.
@@ -145,12 +158,13 @@ pub fn put_why(
     at: usize,
     names: &[u8],
     table: &[u32],
+    sheet: &[u32],
     values: &[u32],
     cells: &[u32],
     allowance: u64,
     r: Refusal,
 ) -> usize {
-    let d = diagnosis::diagnose(table, values, cells, allowance, r.number, r.place);
+    let d = diagnosis::diagnose(table, sheet, values, cells, allowance, r.number, r.place);
     put_diagnosis(page, at, names, d)
 }
 
@@ -169,14 +183,16 @@ pub fn refusal_line(text: &[u8], table: &[u32], r: Refusal) -> u64 {
     }
 }
 
-// The line of what a refusal's place is: a place, a term or a cell.
+// The line of what a refusal's place is: a place, a term, a cell or a line of the sheet.
 fn kind(number: u32) -> u32 {
     if (number == 14) | (number == 15) {
-        38
+        42
+    } else if number == 16 {
+        43
     } else if (number < 3) | (number == 11) | (15 < number) {
-        36
+        40
     } else {
-        37
+        41
     }
 }
 
@@ -191,7 +207,7 @@ pub fn put_note(page: &mut [u8], at: usize, path: &[u8], text: &[u8], r: Refusal
         page,
         to,
         b"",
-        ops::ite(odd.count == 1, 43, 40),
+        ops::ite(odd.count == 1, 48, 45),
         page::five(odd.line, odd.count as u64, 0, 0, 0),
     )
 }
@@ -204,6 +220,7 @@ pub fn put_refusal(
     path: &[u8],
     line: u64,
     table: &[u32],
+    sheet: &[u32],
     values: &[u32],
     cells: &[u32],
     allowance: u64,
@@ -212,7 +229,17 @@ pub fn put_refusal(
     let kind = kind(r.number) as u64;
     let numbers = page::five(line, r.number as u64, kind, r.place, 0);
     let name = page::put_all(page, at, path);
-    let start = say(page, name, names, 35, numbers);
-    let reason = put_why(page, start, names, table, values, cells, allowance, r);
-    say(page, reason, names, 39, none())
+    let start = say(page, name, names, 39, numbers);
+    let reason = put_why(
+        page,
+        start,
+        names,
+        table,
+        sheet,
+        values,
+        cells,
+        allowance,
+        r,
+    );
+    say(page, reason, names, 44, none())
 }

@@ -1,4 +1,5 @@
 // A table's terms in rows, one a line.
+use crate::marks::put_marks;
 use crate::verdicts::put_spent;
 use crate::verdicts::put_told;
 use evaluate::Spent;
@@ -90,13 +91,14 @@ pub fn put_evaluation(
 }
 
 // A judgement, whose room is the values, then the conditions' truths: its rows, the terms as they were typed in the text
-// of a rule, and the verdict below them.
+// of a rule, the marks under the sheet, and the verdict below them.
 pub fn put_judgement(
     page: &mut [u8],
     at: usize,
     names: &[u8],
     rule: &[u8],
     table: &[u32],
+    sheet: &[u32],
     room: &[u32],
     v: Verdict,
 ) -> usize {
@@ -107,5 +109,6 @@ pub fn put_judgement(
     let head = show::put_head(page, at, true);
     let rows = put_judged_rows(page, head, names, table, values, truths, terms);
     let typed = put_typed(page, rows, rule, table);
-    put_told(page, typed, v, std::num::wrapping_sub_u32(terms, 1))
+    let marks = put_marks(page, typed, names, table, sheet, truths, terms);
+    put_told(page, marks, v, std::num::wrapping_sub_u32(terms, 1))
 }

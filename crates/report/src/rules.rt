@@ -41,7 +41,7 @@ fn put_sorts(
 ) -> usize {
     let none = &table[..0];
     let to = errors::put_head(page, at, rule, place);
-    let d = diagnosis::diagnose(table, none, none, 0, r.number, r.place);
+    let d = diagnosis::diagnose(table, none, none, none, 0, r.number, r.place);
     let x = table::term_at(table, (r.place % 4294967296) as u32);
     refusals::put_diagnosis(page, to, names, by_operand(d, x))
 }
@@ -64,7 +64,7 @@ fn put_reason(
     if number == 6 {
         return put_sorts(page, at, names, rule, table, r, place);
     }
-    refusals::put_why(page, at, names, table, none, none, 0, r)
+    refusals::put_why(page, at, names, table, none, none, none, 0, r)
 }
 
 // "RULE:LINE:COLUMN: N: ", the reason, the line and a caret.

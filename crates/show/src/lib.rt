@@ -145,9 +145,9 @@ pub fn condition(x: Term, free: bool, none: u64) -> u64 {
     if x.op == 16 { none } else { page::truth(free) }
 }
 
-// The line of a variable's mark.
-fn mark(x: Term) -> u32 {
-    ops::ite(x.op != 1, 11, ops::ite(x.q == 1, 12, 13))
+// The line of a variable's mark: it is marked where it is not free.
+fn mark(x: Term, free: bool) -> u32 {
+    ops::ite(x.op != 1, 11, ops::ite(free, 13, 12))
 }
 
 fn put_columns(page: &mut [u8], at: usize, names: &[u8], n: u32, numbers: Numbers) -> usize {
@@ -188,6 +188,6 @@ pub fn put_judged_row(
 ) -> usize {
     let held = value(x.sort, v, page::DASH);
     let told = condition(x, free, page::DASH);
-    let last = page::five(mark(x) as u64, held, told, 0, 0);
+    let last = page::five(mark(x, free) as u64, held, told, 0, 0);
     put_columns(page, at, names, 1, push(k, operator(x, sort(x.sort, last))))
 }

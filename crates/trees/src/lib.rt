@@ -109,10 +109,10 @@ fn line_of(x: Term) -> u32 {
     }
 }
 
-// The words for free and marked, with colours or without.
+// The words for free and marked, with colours or without: a variable is marked where it is not free.
 fn words(x: Term, free: bool, color: bool) -> Numbers {
     let line = ops::ite(color, ops::ite(free, 9, 8), ops::ite(free, 7, 6));
-    let marked = (x.op == 1) & (x.q == 1);
+    let marked = (x.op == 1) & !free;
     two(line, ops::ite(marked, ops::ite(color, 12, 11), 10))
 }
 

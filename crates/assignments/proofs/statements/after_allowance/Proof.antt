@@ -4,24 +4,10 @@ use Rattle.assignments.proofs.statements.after_allowance.Tie as tie
 returns : tie.Need-returns
 returns c =
     rw (
-      c .chosen2 .ensures,
+      c .after-word .ensures,
       c .before .allowance-then .ensures,
       c .before .before .number-of .ensures,
-      c .before .before .before .chosen .ensures,
-      c .before .before .before .before .after-name .ensures,
-      c .before .before .before .before .before .failed .ensures,
-      c .before .before .before .before .before .before .before .code-of .ensures,
     )
 
 pub after-allowance-spec : {M : Type 1} → statement M
-after-allowance-spec =
-    tie.close
-    (tie.spec
-    (λ c κs. tt)
-    (λ c κs. tt)
-    (λ c κs. tt)
-    (λ c κs. tt)
-    (λ c κs. tt)
-    (λ c κs. tt)
-    (λ c κs. tt)
-    returns)
+after-allowance-spec = tie.close (tie.spec (λ c κs. tt) (λ c κs. tt) (λ c κs. tt) returns)

@@ -76,12 +76,27 @@ unfolding step
 returns-7 c =
     rw (
       c .after-allowance .ensures,
-      ne-eqb _ _ (c .before .before .before .before .before .before .before .before .before .before .before .if1 .left),
-      ne-eqb _ _ (c .before .before .before .before .before .before .before .before .before .if2 .left),
-      ne-eqb _ _ (c .before .before .before .before .before .before .before .if3 .left),
-      ne-eqb _ _ (c .before .before .before .before .before .if4 .left),
-      ne-eqb _ _ (c .before .before .before .if5 .left),
-      ne-eqb _ _ (c .before .if6 .left),
+      ne-eqb _ _ (c .before .before .before .before .before .before .before .before .before .before .before .before .before .if1 .left),
+      ne-eqb _ _ (c .before .before .before .before .before .before .before .before .before .before .before .if2 .left),
+      ne-eqb _ _ (c .before .before .before .before .before .before .before .before .before .if3 .left),
+      ne-eqb _ _ (c .before .before .before .before .before .before .before .if4 .left),
+      ne-eqb _ _ (c .before .before .before .before .before .if5 .left),
+      ne-eqb _ _ (c .before .before .before .if6 .left),
+      eq-eqb _ _ (c .before .if7 .taken),
+    )
+
+returns-8 : tie.Need-returns-8
+unfolding step
+returns-8 c =
+    rw (
+      c .after-mark .ensures,
+      ne-eqb _ _ (c .before .before .before .before .before .before .before .before .before .before .before .before .before .if1 .left),
+      ne-eqb _ _ (c .before .before .before .before .before .before .before .before .before .before .before .if2 .left),
+      ne-eqb _ _ (c .before .before .before .before .before .before .before .before .before .if3 .left),
+      ne-eqb _ _ (c .before .before .before .before .before .before .before .if4 .left),
+      ne-eqb _ _ (c .before .before .before .before .before .if5 .left),
+      ne-eqb _ _ (c .before .before .before .if6 .left),
+      ne-eqb _ _ (c .before .if7 .left),
     )
 
 pub step-spec : {M : Type 1} → statement M
@@ -106,4 +121,6 @@ step-spec =
     (λ c κs. tt)
     returns-6
     (λ c κs. tt)
-    returns-7)
+    returns-7
+    (λ c κs. tt)
+    returns-8)

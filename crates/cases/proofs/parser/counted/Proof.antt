@@ -18,7 +18,7 @@ add-next c =
 returns-2 : tie.Need-returns-2
 unfolding counted
 returns-2 c =
-    rw (c .extended4 .ensures, c .before .extended3 .ensures, c .before .before .extended2 .ensures, c .before .before .before .extended .ensures, sym (c .before .before .before .before .before .before .before .before .before .before .number-fault .ensures), eq-eqb _ _ (c .before .before .before .before .before .before .before .before .before .if1 .left))
+    rw (c .extended5 .ensures, c .before .extended4 .ensures, c .before .before .extended3 .ensures, c .before .before .before .extended2 .ensures, c .before .before .before .before .extended .ensures, sym (c .before .before .before .before .before .before .before .before .before .before .before .before .number-fault .ensures), eq-eqb _ _ (c .before .before .before .before .before .before .before .before .before .before .before .if1 .left))
 
 pub counted-spec : {M : Type 1} → statement M
 counted-spec =
@@ -28,6 +28,7 @@ counted-spec =
     (λ c κs. tt)
     returns
     add-next
+    (λ c κs. tt)
     (λ c κs. tt)
     (λ c κs. tt)
     (λ c κs. tt)

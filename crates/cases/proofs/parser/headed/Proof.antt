@@ -10,7 +10,7 @@ returns c = rw (sym (c .before .before .is-given .ensures) ∙ c .before .if1 .t
 returns-2 : tie.Need-returns-2
 unfolding headed
 returns-2 c =
-    rw (c .begun4 .ensures, c .before .begun3 .ensures, c .before .before .begun2 .ensures, c .before .before .before .begun .ensures, sym (c .before .before .before .before .before .before .before .before .before .is-given .ensures) ∙ c .before .before .before .before .before .before .before .before .if1 .left)
+    rw (c .begun5 .ensures, c .before .begun4 .ensures, c .before .before .begun3 .ensures, c .before .before .before .begun2 .ensures, c .before .before .before .before .begun .ensures, sym (c .before .before .before .before .before .before .before .before .before .before .before .is-given .ensures) ∙ c .before .before .before .before .before .before .before .before .before .before .if1 .left)
 
 pub headed-spec : {M : Type 1} → statement M
 headed-spec =
@@ -19,6 +19,7 @@ headed-spec =
     (λ c κs. tt)
     (λ c κs. tt)
     returns
+    (λ c κs. tt)
     (λ c κs. tt)
     (λ c κs. tt)
     (λ c κs. tt)

@@ -13,7 +13,7 @@ returns c =
     let b = c .before .before .before .before .before .before .before in
     let n = b .before .before .before .number-at in
     let a = b .before .before .before .before .before .before .args in
-    (c .ite2 .ensures ∙ ap (λ (k : ℕ). cond ((ltb 0 (a .part) && ltb (a .part) 6) && eqb k 0) 15 (a .next)) (n .ensures), c .before .before .before .put2 .ensures ∙ ap (λ (l : List ℕ). set l (a .next) 0) (b .put .ensures) ∙ ap (λ (k : ℕ). set (set (a .numbers .now) k 0) (a .next) 0) (b .before .ite .ensures))
+    (c .ite2 .ensures ∙ ap (λ (k : ℕ). cond ((ltb 0 (a .part) && ltb (a .part) 6) && eqb k 0) 16 (a .next)) (n .ensures), c .before .before .before .put2 .ensures ∙ ap (λ (l : List ℕ). set l (a .next) 0) (b .put .ensures) ∙ ap (λ (k : ℕ). set (set (a .numbers .now) k 0) (a .next) 0) (b .before .ite .ensures))
 
 pub begin-spec : {M : Type 1} → statement M
 begin-spec =

@@ -7,10 +7,10 @@ use Rattle.phrases.proofs.json.put_terms.Statement.{statement}
 use Rattle.phrases.proofs.json.put_terms.Tie as tie
 
 abbrev Inv-loop : tie.InvT-loop
-Inv-loop page₀ at names table values truths way terms to₀ k₀ page to k = (k ≤ terms) × (length page ≡ length page₀)
+Inv-loop page₀ at names table sheet values truths way terms to₀ k₀ page to k = (k ≤ terms) × (length page ≡ length page₀)
 
 abbrev μ-loop : tie.MeasureT-loop
-μ-loop page₀ at names table values truths way terms to₀ k₀ page to k = terms - k
+μ-loop page₀ at names table sheet values truths way terms to₀ k₀ page to k = terms - k
 
 pub put-terms-spec : {M : Type 1} → statement M
 put-terms-spec =

@@ -1,6 +1,6 @@
 /* Judges rule G, 0 < a * x + b at width 8 with x marked, in three settings, and refuses a fourth; then rule H, t with 42 stored at a
- * is 42 at c, with t marked, where some cells of t are listed as records; then finishes rule G and prints it for a solver; last reads
- * rule G as a person types it, and judges that. */
+ * is 42 at c, with t marked, where some cells of t are listed as records; then finishes rule G and prints it for a solver; then reads
+ * rule G as a person types it, and judges that; last judges one rule in one setting under the mark sheets of two parties. */
 #include <stdio.h>
 #include <string.h>
 
@@ -44,14 +44,14 @@ static void show(uint32_t refused, const uint64_t answer[4])
                answer[0] && answer[1] ? "passes" : "does not pass");
 }
 
-/* Rule G has no array, so there are no cells and no steps. */
+/* Rule G has no array, so there are no cells and no steps; nor is there a sheet: the table's marks hold. */
 static void judge(uint32_t a, uint32_t x, uint32_t b)
 {
     const uint32_t values[] = {a, x, b};
     uint32_t work[HIRANTHOK_JUDGE_WORK(TERMS)];
     uint64_t answer[4];
-    uint32_t refused = hiranthok_judge(rule_g, LENGTH(rule_g), values, LENGTH(values), hiranthok_row(NULL), 0, 0, work,
-                                       LENGTH(work), answer);
+    uint32_t refused = hiranthok_judge(rule_g, LENGTH(rule_g), hiranthok_row(NULL), 0, values, LENGTH(values), hiranthok_row(NULL),
+                                       0, 0, work, LENGTH(work), answer);
 
     printf("a %u, x %u, b %u: ", (unsigned)a, (unsigned)x, (unsigned)b);
     show(refused, answer);
@@ -64,8 +64,8 @@ static void judge_records(uint32_t a, uint32_t c)
     const struct hiranthok_cell cells[] = {{0, 2, 42}, {0, 2, 8}};
     uint32_t work[HIRANTHOK_JUDGE_WORK(TERMS)];
     uint64_t answer[4];
-    uint32_t refused = hiranthok_judge_records(rule_h, LENGTH(rule_h), values, LENGTH(values), cells, LENGTH(cells), 1, work,
-                                               LENGTH(work), answer);
+    uint32_t refused = hiranthok_judge_records(rule_h, LENGTH(rule_h), hiranthok_row(NULL), 0, values, LENGTH(values), cells,
+                                               LENGTH(cells), 1, work, LENGTH(work), answer);
 
     printf("a %u, c %u: ", (unsigned)a, (unsigned)c);
     show(refused, answer);
@@ -117,9 +117,39 @@ static void judge_typed(const char *text)
     printf("typed: ");
     if (!refused) {
         printf("%llu terms; ", (unsigned long long)answer[0] / HIRANTHOK_TERM_WORDS);
-        refused = hiranthok_judge(table, (size_t)answer[0], values, LENGTH(values), hiranthok_row(NULL), 0, 0, work, LENGTH(work),
-                                  answer);
+        refused = hiranthok_judge(table, (size_t)answer[0], hiranthok_row(NULL), 0, values, LENGTH(values), hiranthok_row(NULL), 0, 0,
+                                  work, LENGTH(work), answer);
     }
+    show(refused, answer);
+}
+
+/* Where a sample was taken its basis weight counts, else the gauge's reading with its offset: it is below 90. */
+static const uint32_t gauge[] = {
+    1,  0, 8, 0, 0, 0, /* 0: the reading, slot 0 */
+    1,  0, 8, 1, 1, 0, /* 1: the offset, slot 1, marked */
+    1,  0, 8, 2, 0, 0, /* 2: the basis weight, slot 2 */
+    1,  0, 0, 3, 0, 0, /* 3: whether a sample was taken, slot 3 */
+    0,  0, 8, 90, 0, 0, /* 4: 90 */
+    14, 0, 0, 2, 4, 0, /* 5: basis weight < 90 */
+    11, 0, 8, 0, 1, 0, /* 6: reading + offset */
+    14, 0, 0, 6, 4, 0, /* 7: reading + offset < 90 */
+    7,  0, 0, 3, 5, 7, /* 8: one of the two */
+};
+
+/* The mill leaves the offset marked and vouches for the laboratory; the shop vouches for its offset, and for the laboratory not. */
+static const uint32_t mill[] = {HIRANTHOK_MARK, 1, 1, HIRANTHOK_KEEP, 2, 2};
+static const uint32_t shop[] = {HIRANTHOK_KEEP, 1, 1, HIRANTHOK_MARK, 2, 2};
+
+/* The first so many numbers of a party's sheet. */
+static void judge_under(const char *party, const uint32_t *sheet, size_t length, uint32_t sampled)
+{
+    const uint32_t values[] = {80, 4, 85, sampled};
+    uint32_t work[HIRANTHOK_JUDGE_WORK(LENGTH(gauge) / HIRANTHOK_TERM_WORDS)];
+    uint64_t answer[4];
+    uint32_t refused = hiranthok_judge(gauge, LENGTH(gauge), sheet, length, values, LENGTH(values), hiranthok_row(NULL), 0, 0, work,
+                                       LENGTH(work), answer);
+
+    printf("%s, %s: ", party, sampled ? "a sample" : "no sample");
     show(refused, answer);
 }
 
@@ -138,5 +168,10 @@ int main(void)
     print_finished(HIRANTHOK_PRINT_ROOM(HIRANTHOK_FINISHED_TERMS(TERMS)));
     judge_typed(DECLARED "(assert (bvult #b00000000 (bvadd (bvmul a x1) b)))\n(check-sat)\n");
     judge_typed(DECLARED "(assert (bvult #b00000000 (bvadd (bvmul a x1) c)))\n(check-sat)\n"); /* c is not declared */
+    judge_under("the mill", mill, LENGTH(mill), 1); /* the laboratory decides, and its weight is kept */
+    judge_under("the shop", shop, LENGTH(shop), 1); /* the same setting: the laboratory is marked */
+    judge_under("the mill", mill, LENGTH(mill), 0); /* the gauge decides, and its offset is marked */
+    judge_under("the shop", shop, LENGTH(shop), 0);
+    judge_under("the shop", shop, 4, 0); /* the second line is cut short */
     return 0;
 }

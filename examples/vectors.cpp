@@ -29,21 +29,22 @@ static void show(const char *what, uint32_t refused, const uint64_t answer[4])
         std::printf("%s: rule %s, condition %s\n", what, answer[0] ? "true" : "false", answer[1] ? "true" : "false");
 }
 
-static void judge(const char *what, const Row &table, const Row &values, const Row &cells, Row work)
+static void judge(const char *what, const Row &table, const Row &sheet, const Row &values, const Row &cells, Row work)
 {
     uint64_t answer[4];
     const uint32_t refused =
-        hiranthok_judge(hiranthok_row(table.data()), table.size(), hiranthok_row(values.data()), values.size(),
-                        hiranthok_row(cells.data()), cells.size(), 0, hiranthok_room(work.data()), work.size(), answer);
+        hiranthok_judge(hiranthok_row(table.data()), table.size(), hiranthok_row(sheet.data()), sheet.size(),
+                        hiranthok_row(values.data()), values.size(), hiranthok_row(cells.data()), cells.size(), 0,
+                        hiranthok_room(work.data()), work.size(), answer);
     show(what, refused, answer);
 }
 
-static void judge_records(const char *what, const Row &table, const Row &values, const Cells &cells, Row work)
+static void judge_records(const char *what, const Row &table, const Row &sheet, const Row &values, const Cells &cells, Row work)
 {
     uint64_t answer[4];
     const uint32_t refused = hiranthok_judge_records(
-        hiranthok_row(table.data()), table.size(), hiranthok_row(values.data()), values.size(),
-        hiranthok_cells(cells.data()), cells.size(), 0, hiranthok_room(work.data()), work.size(), answer);
+        hiranthok_row(table.data()), table.size(), hiranthok_row(sheet.data()), sheet.size(), hiranthok_row(values.data()),
+        values.size(), hiranthok_cells(cells.data()), cells.size(), 0, hiranthok_room(work.data()), work.size(), answer);
     show(what, refused, answer);
 }
 
@@ -102,10 +103,13 @@ static bool versioned()
 
 int main()
 {
-    judge("no table", {}, {}, {}, {});
-    judge("no inputs", rule, {}, {}, Row(HIRANTHOK_JUDGE_WORK(terms)));
-    judge("no work room", rule, {}, {}, {});
-    judge_records("no inputs, records", rule, {}, {}, Row(HIRANTHOK_JUDGE_WORK(terms)));
+    judge("no table", {}, {}, {}, {}, {});
+    judge("no inputs", rule, {}, {}, {}, Row(HIRANTHOK_JUDGE_WORK(terms)));
+    judge("no inputs, a sheet", rule, {HIRANTHOK_MARK, 0, 255}, {}, {}, Row(HIRANTHOK_JUDGE_WORK(terms)));
+    judge("a sheet that is cut", rule, {HIRANTHOK_MARK, 0, 255, HIRANTHOK_KEEP}, {}, {}, Row(HIRANTHOK_JUDGE_WORK(terms)));
+    judge("no work room", rule, {}, {}, {}, {});
+    judge_records("no inputs, records", rule, {}, {}, {}, Row(HIRANTHOK_JUDGE_WORK(terms)));
+    judge_records("a sheet that is cut, records", rule, {HIRANTHOK_MARK}, {}, {}, Row(HIRANTHOK_JUDGE_WORK(terms)));
     finish("no finished room", rule, {});
     finish("the largest finished room", rule, Row(HIRANTHOK_MAX_FINISH_ROOM));
     std::printf("any table, finished: at most %d terms, %d numbers\n", HIRANTHOK_FINISHED_TERMS(HIRANTHOK_MAX_TERMS),

@@ -2,8 +2,9 @@
  * Hiranthok: a verified checker for rules with marked inputs.
  *
  * A rule is a table of terms, six 32-bit numbers a term: op, index width m, width n, fields p, q, r. A setting is a row of values by
- * slot and a row of cells, three numbers a cell: slot, index, value. All lengths count numbers, not bytes; of a row
- * of records, the records; of text, the bytes. docs/RULES.md has the rules whole, with worked examples.
+ * slot and a row of cells, three numbers a cell: slot, index, value. A mark sheet, under which a setting is judged, is a row of
+ * lines, three numbers a line: kind, lowest slot, highest slot. All lengths count numbers, not bytes; of a row of records, the
+ * records; of text, the bytes. docs/RULES.md has the rules whole, with worked examples.
  *
  * Every function takes any input and answers 0, or the number of the first refusal; then answer[0] is the refusal's place, the
  * rest of answer is 0, and no lent number or byte but those of answer has changed. Where it answers 0, answer holds the results
@@ -17,9 +18,9 @@
  * hiranthok_text and hiranthok_rule below put a pointer that may be passed with length 0 in the place of a null one.
  *
  * No function keeps anything between calls: any number of threads may call at once, provided that no room and no answer is used by
- * two calls at a time. Rows that are only read (table, values, cells, a rule's text) may be shared, so long as nobody writes them. A
- * call takes some 5 KB of stack (measured, not proved) and no other memory; hiranthok_parse 14 KB, and 89 KB where an assert is
- * 64 levels deep.
+ * two calls at a time. Rows that are only read (table, sheet, values, cells, a rule's text) may be shared, so long as nobody writes
+ * them: one table can be lent to several parties, each with a sheet, a setting, a room and an allowance of its own. A call takes
+ * some 5 KB of stack (measured, not proved) and no other memory; hiranthok_parse 14 KB, and 89 KB where an assert is 64 levels deep.
  *
  * A term's sort is (m, n): Boolean (0, 0); vector (0, n); array (m, n), index and value vectors of m and n bits; widths 1 to 32.
  * Terms are numbered from 0. Operands are numbers of earlier terms, and fields that hold nothing are 0. The last term is the rule.
@@ -49,6 +50,11 @@
  *   19  bvslt     operand      operand                Boolean            p, q of one vector sort; signed
  *   20  bvashr    operand      amount                 vector             p, q of the term's sort; the sign comes in from the left
  *
+ * A mark sheet: its lines are of the kind mark, 1, or keep, 0, and name the slots from the lowest to the highest, both 0 to 255. A
+ * slot in any mark line is marked; a slot in keep lines only is not; a slot in no line is as the table says. An empty sheet leaves
+ * every mark as the table has it. The table is admitted by its own marks (8) whatever the sheet says; values and steps do not depend
+ * on the sheet.
+ *
  * The refusals:
  *
  *   1 table length 0 or not a multiple of six      11 cell row not a multiple of three
@@ -56,11 +62,11 @@
  *   3 op over 20                                   13 value too wide
  *   4 not one of the three sorts                   14 a cell's slot is no array variable's
  *   5 an operand not below, an unused field not 0  15 a cell's index or value too wide
- *   6 sorts not as the operator asks               21 the table's room is too short (place: terms needed)
- *   7 a constant, slot or mark too large           22 the work room is too short (place: numbers needed)
- *   8 one slot with two sorts or marks             23 the allowance is below the table's steps (place: steps needed)
- *   9 a 17th store in a chain                      24 the text room is too short (place: bytes needed)
- *  10 the last term is not Boolean
+ *   6 sorts not as the operator asks               16 a faulty line of the sheet: kind, ends, a slot over 255, cut short
+ *   7 a constant, slot or mark too large           21 the table's room is too short (place: terms needed)
+ *   8 one slot with two sorts or marks             22 the work room is too short (place: numbers needed)
+ *   9 a 17th store in a chain                      23 the allowance is below the table's steps (place: steps needed)
+ *  10 the last term is not Boolean                 24 the text room is too short (place: bytes needed)
  *
  *  31 an unexpected byte, word or end; a width of 0 or over 32; a reserved word or an operator for a name
  *  32 an operand that is not declared, or a name declared twice
@@ -68,8 +74,9 @@
  *  34 an operator with too few or too many operands
  *  35 no assert before check-sat
  *
- * Places of 1, 2, 11 are 0; of 3 to 10, 12, 13 the term's number; of 14, 15 the cell's; of 31 to 35 the first byte of the word, and
- * at the end the text's length.
+ * Places of 1, 2, 11 are 0; of 3 to 10, 12, 13 the term's number; of 14, 15 the cell's; of 16 that of the lowest faulty line, from 0
+ * and with a cut last line counted; of 31 to 35 the first byte of the word, and at the end the text's length. Judge looks for them
+ * in the order 1 to 10, 16, 11 to 15, 22, 23.
  */
 #ifndef HIRANTHOK_H
 #define HIRANTHOK_H
@@ -79,16 +86,22 @@
 
 /* The version of this interface. Major: a signature, a number or an answer is another than it was, and programs may have to change.
  * Minor: something was added; it counts the landings (docs/landings/): 0.8 is paper 01 with the eighth, 0.11 has print, 0.12
- * parse. Patch: what is declared here stayed as it was. The library has no version of its own to ask for: take header and library
- * from one state of the repository. */
+ * parse. As long as the major number is 0 a minor one may change a signature too: 0.15 gave both judges a sheet. Patch: what is
+ * declared here stayed as it was. The library has no version of its own to ask for: take header and library from one state of the
+ * repository. */
 #define HIRANTHOK_VERSION_MAJOR 0
-#define HIRANTHOK_VERSION_MINOR 14
+#define HIRANTHOK_VERSION_MINOR 15
 #define HIRANTHOK_VERSION_PATCH 0
-#define HIRANTHOK_VERSION "0.14.0"
+#define HIRANTHOK_VERSION "0.15.0"
 
-/* The numbers of a term and of a cell. */
+/* The numbers of a term, of a cell and of a sheet's line. */
 #define HIRANTHOK_TERM_WORDS 6
 #define HIRANTHOK_CELL_WORDS 3
+#define HIRANTHOK_LINE_WORDS 3
+
+/* The kinds of a sheet's line. */
+#define HIRANTHOK_KEEP 0
+#define HIRANTHOK_MARK 1
 
 /* The terms that a table may have: for admit, finish and judge; for evaluate and print, which take every finished table. */
 #define HIRANTHOK_MAX_TERMS 512
@@ -121,7 +134,8 @@ extern "C" {
 uint32_t hiranthok_admit(const uint32_t *table, size_t table_len, uint64_t answer[4]);
 
 /* Writes the finished table to the room's front: the terms; T; F; the groups of the terms' conditions; and(rule, C(rule)). The rest of
- * room is untouched. Refuses 1 to 10, 21. Results: the count of terms, the number of C(rule), the number of the last term. */
+ * room is untouched. It takes no sheet: C goes by the table's own marks, and is what judging reports under a sheet that leaves them
+ * so. Refuses 1 to 10, 21. Results: the count of terms, the number of C(rule), the number of the last term. */
 uint32_t hiranthok_finish(const uint32_t *table, size_t table_len, uint32_t *room, size_t room_len, uint64_t answer[4]);
 
 /* Writes the value of every term (0 for an array) to the front of work; its rest is untouched. Refuses 1 to 15, 22 (one number a
@@ -131,12 +145,13 @@ uint32_t hiranthok_evaluate(const uint32_t *table, size_t table_len, const uint3
                             uint64_t answer[4]);
 
 /* Whether the rule is true in the setting, and whether its condition is: where both are, the rule is true whatever fitting values the
- * marked inputs take. Writes the n values and then the n truths of the terms' conditions (1 or 0; 0 for a store) to the front of
- * work; its rest is untouched. Refuses 1 to 15, 22 (two numbers a term), 23. Results: rule, condition (1 or 0), the steps
- * spent, the allowance left. */
-uint32_t hiranthok_judge(const uint32_t *table, size_t table_len, const uint32_t *values, size_t values_len,
-                         const uint32_t *cells, size_t cells_len, uint64_t allowance, uint32_t *work, size_t work_len,
-                         uint64_t answer[4]);
+ * inputs take that are marked under the sheet. Writes the n values and then the n truths of the terms' conditions under the sheet (1
+ * or 0; 0 for a store) to the front of work; its rest is untouched. Refuses 1 to 16, 22 (two numbers a term), 23. Results: rule,
+ * condition (1 or 0), the steps spent, the allowance left. Who brings no sheet passes hiranthok_row(NULL), 0: the table's marks
+ * hold. */
+uint32_t hiranthok_judge(const uint32_t *table, size_t table_len, const uint32_t *sheet, size_t sheet_len,
+                         const uint32_t *values, size_t values_len, const uint32_t *cells, size_t cells_len,
+                         uint64_t allowance, uint32_t *work, size_t work_len, uint64_t answer[4]);
 
 /* A cell as a record. */
 struct hiranthok_cell {
@@ -150,9 +165,9 @@ struct hiranthok_cell {
 uint32_t hiranthok_evaluate_records(const uint32_t *table, size_t table_len, const uint32_t *values, size_t values_len,
                                     const struct hiranthok_cell *cells, size_t count, uint64_t allowance, uint32_t *work,
                                     size_t work_len, uint64_t answer[4]);
-uint32_t hiranthok_judge_records(const uint32_t *table, size_t table_len, const uint32_t *values, size_t values_len,
-                                 const struct hiranthok_cell *cells, size_t count, uint64_t allowance, uint32_t *work,
-                                 size_t work_len, uint64_t answer[4]);
+uint32_t hiranthok_judge_records(const uint32_t *table, size_t table_len, const uint32_t *sheet, size_t sheet_len,
+                                 const uint32_t *values, size_t values_len, const struct hiranthok_cell *cells, size_t count,
+                                 uint64_t allowance, uint32_t *work, size_t work_len, uint64_t answer[4]);
 
 /* Writes the table as SMT-LIB 2.6 to the front of text, in ASCII and with no byte 0 behind it; the rest of text is untouched. The
  * lines, each ended by a line feed: (set-logic QF_ABV); a declare-const for each slot in use, ascending, named v and the slot; a
@@ -219,6 +234,7 @@ static inline const char *hiranthok_refusal_text(uint32_t number)
     case 13: return "the variable's value is too wide";
     case 14: return "no array variable has the cell's slot";
     case 15: return "the cell's index or value is too wide";
+    case 16: return "a sheet's line of another kind, with reversed ends, a slot over 255, or cut short";
     case 21: return "the room is too short: so many terms are needed";
     case 22: return "the work room is too short: so many numbers are needed";
     case 23: return "the allowance is too small: so many steps are needed";

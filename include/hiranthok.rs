@@ -2,14 +2,15 @@
 
 /// The version of the interface: hiranthok.h says what its numbers mean.
 #[allow(dead_code)]
-pub const VERSION: &str = "0.14.0";
+pub const VERSION: &str = "0.15.0";
 
 /// The limits, and the rooms' sizes in numbers: the macros of hiranthok.h.
 #[allow(dead_code)]
 pub mod sizes {
-    /// The numbers of a term and of a cell.
+    /// The numbers of a term, of a cell and of a sheet's line.
     pub const TERM_WORDS: usize = 6;
     pub const CELL_WORDS: usize = 3;
+    pub const LINE_WORDS: usize = 3;
 
     /// The terms that a table may have: for admit, finish and judge; for evaluate and print.
     pub const MAX_TERMS: usize = 512;
@@ -47,19 +48,11 @@ pub mod sizes {
     pub const PARSE_ROOM: usize = TERM_WORDS * MAX_TERMS;
 }
 
-/// The signature of evaluate and of judge: table, values, cells and work each as a pointer and a length, the allowance before work.
-pub type InSetting = unsafe extern "C" fn(
-    *const u32,
-    usize,
-    *const u32,
-    usize,
-    *const u32,
-    usize,
-    u64,
-    *mut u32,
-    usize,
-    *mut [u64; 4],
-) -> u32;
+/// The kinds of a sheet's line.
+#[allow(dead_code)]
+pub const KEEP: u32 = 0;
+#[allow(dead_code)]
+pub const MARK: u32 = 1;
 
 /// A cell, as the record entrance takes it.
 #[repr(C)]
@@ -69,20 +62,6 @@ pub struct Cell {
     pub index: u32,
     pub value: u32,
 }
-
-/// The same with the cells as a row of records.
-pub type WithRecords = unsafe extern "C" fn(
-    *const u32,
-    usize,
-    *const u32,
-    usize,
-    *const Cell,
-    usize,
-    u64,
-    *mut u32,
-    usize,
-    *mut [u64; 4],
-) -> u32;
 
 unsafe extern "C" {
     pub fn hiranthok_admit(table: *const u32, table_len: usize, answer: *mut [u64; 4]) -> u32;
@@ -108,6 +87,8 @@ unsafe extern "C" {
     pub fn hiranthok_judge(
         table: *const u32,
         table_len: usize,
+        sheet: *const u32,
+        sheet_len: usize,
         values: *const u32,
         values_len: usize,
         cells: *const u32,
@@ -132,6 +113,8 @@ unsafe extern "C" {
     pub fn hiranthok_judge_records(
         table: *const u32,
         table_len: usize,
+        sheet: *const u32,
+        sheet_len: usize,
         values: *const u32,
         values_len: usize,
         cells: *const Cell,

@@ -16,9 +16,11 @@ fn agreed(routine: Routine, input: &Input, allowance: u64, room: usize) -> Outco
     let one = outcome::<Library>(routine, input, allowance, room);
     let other = outcome::<Rust>(routine, input, allowance, room);
     if one != other {
-        let Input { table, values, cells, typed } = input;
+        let Input { table, sheet, values, cells, typed } = input;
         eprintln!("{}: the sides differ", routine.name());
-        eprintln!("table {table:?}\nvalues {values:?}\ncells {cells:?}\nallowance {allowance}, room {room}");
+        eprintln!(
+            "table {table:?}\nsheet {sheet:?}\nvalues {values:?}\ncells {cells:?}\nallowance {allowance}, room {room}"
+        );
         eprintln!("text {}", typed.escape_ascii());
         eprintln!("library {:?} {:?}\nRust    {:?} {:?}", one.0, one.1, other.0, other.1);
         let place = one.2.numbers.iter().zip(&other.2.numbers).position(|(a, b)| a != b);
@@ -95,6 +97,11 @@ fn altered(input: &Input, random: &mut Random) -> Input {
     let row = match random.below(8) {
         0 if !altered.cells.is_empty() => &mut altered.cells,
         1 => &mut altered.values,
+        2..=4 if !altered.sheet.is_empty() => &mut altered.sheet,
+        5 if !altered.sheet.is_empty() => {
+            altered.sheet.truncate(altered.sheet.len() - 1 - random.below(2));
+            return altered;
+        }
         _ => &mut altered.table,
     };
     let place = random.below(row.len());

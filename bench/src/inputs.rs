@@ -1,9 +1,10 @@
-//! The tables and settings that are measured, and one that is compared only. The same at each run.
+//! The tables, settings and sheets that are measured, and some that are compared only. The same at each run.
 
-/// A table with a setting, or a typed rule.
+/// A table with a setting and a sheet, or a typed rule.
 #[derive(Clone, Default)]
 pub struct Input {
     pub table: Vec<u32>,
+    pub sheet: Vec<u32>,
     pub values: Vec<u32>,
     pub cells: Vec<u32>,
     pub typed: Vec<u8>,
@@ -138,7 +139,7 @@ impl Writer {
             let slot = self.array_slots[self.random.below(self.array_slots.len())];
             row.extend([slot, self.random.below(32) as u32, self.random.below(20) as u32]);
         }
-        Input { table: self.table, values: self.values, cells: row, typed: vec![] }
+        Input { table: self.table, values: self.values, cells: row, ..Input::default() }
     }
 }
 
@@ -183,7 +184,7 @@ pub fn reads_among(cells: u32) -> Input {
     }
     table.extend([14, 0, 0, 17, 47, 0]);
     let cells = (0..cells).flat_map(|k| [0, k, k * 7]).collect();
-    Input { table, values: vec![5], cells, typed: vec![] }
+    Input { table, values: vec![5], cells, ..Input::default() }
 }
 
 /// So many reads of an array variable under 16 stores: finished, it is far longer.
@@ -196,7 +197,7 @@ pub fn chained(reads: u32) -> Input {
         table.extend([15, 0, 8, 18, 1 + k % 2, 0]);
     }
     table.extend([14, 0, 0, 1, 18 + reads, 0]);
-    Input { table, values: vec![5, 7, 9], cells: vec![], typed: vec![] }
+    Input { table, values: vec![5, 7, 9], ..Input::default() }
 }
 
 /// So many variables, each in a slot of its own, and as many sums of them.
@@ -209,5 +210,11 @@ pub fn variables(slots: u32) -> Input {
         table.extend([11, 0, 32, k, if k == 0 { 1 } else { slots + k - 1 }, 0]);
     }
     table.extend([14, 0, 0, 0, 2 * slots - 2, 0]);
-    Input { table, values: (0..slots).map(|slot| slot * 3).collect(), cells: vec![], typed: vec![] }
+    Input { table, values: (0..slots).map(|slot| slot * 3).collect(), ..Input::default() }
+}
+
+/// A table of 64 terms without arrays under so many lines, of both kinds in turn, of one slot to a hundred.
+pub fn sheeted(lines: u32) -> Input {
+    let line = |k: u32| [k & 1, k * 37 % 156, k * 37 % 156 + k * 11 % 100];
+    Input { sheet: (0..lines).flat_map(line).collect(), ..mixed(64, false) }
 }

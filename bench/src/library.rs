@@ -27,14 +27,6 @@ pub fn parse(text: &[u8], room: &mut [u32], answer: &mut [u64; 4]) -> u32 {
     unsafe { hiranthok_parse(text.as_ptr(), text.len(), room.as_mut_ptr(), room.len(), answer) }
 }
 
-/// Evaluate or judge.
-fn in_setting(call: InSetting, rows: [&[u32]; 3], allowance: u64, work: &mut [u32], answer: &mut [u64; 4]) -> u32 {
-    let [table, values, cells] = rows;
-    let (t, v, c) = (table.as_ptr(), values.as_ptr(), cells.as_ptr());
-    let (tn, vn, cn, room) = (table.len(), values.len(), cells.len(), work.len());
-    unsafe { call(t, tn, v, vn, c, cn, allowance, work.as_mut_ptr(), room, answer) }
-}
-
 pub fn evaluate(
     table: &[u32],
     values: &[u32],
@@ -43,16 +35,21 @@ pub fn evaluate(
     work: &mut [u32],
     answer: &mut [u64; 4],
 ) -> u32 {
-    in_setting(hiranthok_evaluate, [table, values, cells], allowance, work, answer)
+    let (t, v, c) = (table.as_ptr(), values.as_ptr(), cells.as_ptr());
+    let (tn, vn, cn, room) = (table.len(), values.len(), cells.len(), work.len());
+    unsafe { hiranthok_evaluate(t, tn, v, vn, c, cn, allowance, work.as_mut_ptr(), room, answer) }
 }
 
 pub fn judge(
     table: &[u32],
+    sheet: &[u32],
     values: &[u32],
     cells: &[u32],
     allowance: u64,
     work: &mut [u32],
     answer: &mut [u64; 4],
 ) -> u32 {
-    in_setting(hiranthok_judge, [table, values, cells], allowance, work, answer)
+    let (t, s, v, c) = (table.as_ptr(), sheet.as_ptr(), values.as_ptr(), cells.as_ptr());
+    let (tn, sn, vn, cn, room) = (table.len(), sheet.len(), values.len(), cells.len(), work.len());
+    unsafe { hiranthok_judge(t, tn, s, sn, v, vn, c, cn, allowance, work.as_mut_ptr(), room, answer) }
 }

@@ -1,7 +1,7 @@
 //! Times the library beside an implementation in Rust, in one run, and prints Markdown.
 //!
 //! `calls SIDE ROUTINE KIND SIZE N` instead makes N calls and prints nothing: a driver for a profiler.
-//! The size is a count of terms, of cells, of variables, of reads or of names.
+//! The size is a count of terms, of cells, of variables, of lines of a sheet, of reads or of names.
 //! `solvers` times z3 and cvc5 reading the typed rules.
 
 mod compare;
@@ -14,7 +14,7 @@ mod sides;
 mod solvers;
 mod typed;
 
-use inputs::{Input, Random, chained, mixed, reads_among, variables};
+use inputs::{Input, Random, chained, mixed, reads_among, sheeted, variables};
 use sides::{Library, ROUTINES, Routine, Rust, Side};
 use std::hint::black_box;
 
@@ -36,6 +36,7 @@ fn calls(words: &[String]) -> Option<()> {
         "finished" => finished(&mixed(size as usize, true)),
         "cells" => reads_among(size),
         "variables" => variables(size),
+        "sheet" => sheeted(size),
         "chained" => finished(&chained(size)),
         "typed" => typed::rule(size as usize),
         "names" => typed::names(size as usize),
@@ -58,7 +59,7 @@ fn main() {
         Some(_) => {
             eprintln!(
                 "usage: hiranthok-bench [solvers | calls library|rust ROUTINE KIND SIZE N]\n\
-                 KIND: plain, arrays, finished, cells, variables, chained; typed, names"
+                 KIND: plain, arrays, finished, cells, variables, sheet, chained; typed, names"
             );
             std::process::exit(2);
         }

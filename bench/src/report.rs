@@ -2,7 +2,7 @@
 
 use crate::compare::{compare, compare_altered, compare_misprinted};
 use crate::finished;
-use crate::inputs::{Input, Random, chained, mixed, reads_among, signed, variables};
+use crate::inputs::{Input, Random, chained, mixed, reads_among, sheeted, signed, variables};
 use crate::measure::improve;
 use crate::sides::{Library, ROUTINES, Routine, Rust, Side};
 use crate::typed;
@@ -11,6 +11,9 @@ use std::hint::black_box;
 /// All lines are measured so many times, one after the other: what slows a machine down for a while
 /// then spoils no line.
 const SWEEPS: usize = 4;
+
+/// Lines of the sheets under which a table is judged.
+const SHEETS: [u32; 3] = [0, 4, 100];
 
 /// Altered copies of an input on which the sides are compared.
 const ALTERED: usize = 2000;
@@ -82,10 +85,11 @@ fn ratio_sections() -> [Section; 3] {
     [section("No arrays", false), section("With arrays", true), long]
 }
 
-fn growth_sections() -> [Section; 4] {
+fn growth_sections() -> [Section; 5] {
     let terms = |arrays| [64, 128, 256, 512].map(|terms| (terms, mixed(terms, arrays)));
     let cells = [0, 16, 64, 256, 1024].map(|cells| (cells as usize, reads_among(cells)));
     let slots = [8, 64, 200].map(|slots| (slots as usize, variables(slots)));
+    let lines = SHEETS.map(|lines| (lines as usize, sheeted(lines)));
     [
         section("Terms, no arrays", "term", &ROUTINES, &terms(false)),
         section("Terms, with arrays", "term", &ROUTINES, &terms(true)),
@@ -96,6 +100,12 @@ fn growth_sections() -> [Section; 4] {
             &cells,
         ),
         section("Variables, each in its slot, and as many sums", "variable", &ROUTINES, &slots),
+        section(
+            "Lines of the sheet, a table of 64 terms; the time beyond that of no sheet",
+            "line",
+            &[Routine::Judge],
+            &lines,
+        ),
     ]
 }
 
@@ -158,8 +168,8 @@ fn print_growth(Section { heading, unit, lines }: &Section) {
 
 fn print_altered(random: &mut Random) {
     let sizes = [8, 64, 512];
-    let inputs =
-        [sizes.map(|terms| mixed(terms, false)), sizes.map(|terms| mixed(terms, true)), sizes.map(signed)].concat();
+    let (plain, arrays) = (sizes.map(|terms| mixed(terms, false)), sizes.map(|terms| mixed(terms, true)));
+    let inputs = [plain, arrays, sizes.map(signed), SHEETS.map(sheeted)].concat();
     let refused: usize = inputs.iter().map(|input| compare_altered(input, ALTERED, random)).sum();
     let calls = inputs.len() * ALTERED * ROUTINES.len();
     println!("Both sides gave equal results on each input below before it was timed, and on {calls} calls with one");

@@ -61,13 +61,13 @@ macro_rules! side {
         impl Side for $name {
             #[inline(always)]
             fn call(routine: Routine, input: &Input, allowance: u64, room: &mut Room, answer: &mut [u64; 4]) -> u32 {
-                let Input { table, values, cells, typed } = input;
+                let Input { table, sheet, values, cells, typed } = input;
                 let Room { numbers, text } = room;
                 match routine {
                     Routine::Admit => $module::admit(table, answer),
                     Routine::Finish => $module::finish(table, numbers, answer),
                     Routine::Evaluate => $module::evaluate(table, values, cells, allowance, numbers, answer),
-                    Routine::Judge => $module::judge(table, values, cells, allowance, numbers, answer),
+                    Routine::Judge => $module::judge(table, sheet, values, cells, allowance, numbers, answer),
                     Routine::Print => $module::print(table, text, answer),
                     Routine::Parse => $module::parse(typed, numbers, answer),
                 }

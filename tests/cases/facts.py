@@ -7,12 +7,13 @@ import json
 import re
 import sys
 
-REFUSED = re.compile(r"(.*):(\d+): refused (\d+) at (?:term|cell|place) (\d+): (.*)")
+REFUSED = re.compile(r"(.*):(\d+): refused (\d+) at (?:term|cell|place|sheet line) (\d+): (.*)")
 VERDICT = re.compile(r"The rule, t\d+, is (true|false)\. Its condition is (true|false)\.")
 STEPS = re.compile(r"Steps (\d+), left (\d+)\.")
 SORTS = [(re.compile(r"^Bool$"), "Bool"), (re.compile(r"^BitVec (\d+)$"), r"(_ BitVec \1)"),
          (re.compile(r"^Array (\d+) (\d+)$"), r"(Array (_ BitVec \1) (_ BitVec \2))")]
 ROW = re.compile(r" *t(\d+)  (.*?) +(Bool|BitVec \d+|Array \d+ \d+) +(?:(marked|-) +)?(\S+)  (\S+)$")
+DECIDED = re.compile(r" *t(\d+)  slot \d+ +(?:marked|kept) by line (\d+) \((?:mark|keep) \d+(?: to \d+)?\)")
 TRUTH = {"true": True, "false": False, "-": None}
 
 
@@ -32,7 +33,13 @@ def smt(sort):
     return next(form.sub(to, sort) for form, to in SORTS if form.match(sort))
 
 
-def term_of(line, way):
+def deciding(lines):
+    """The line of the sheet that decides for a variable, by its term."""
+    section = "\n".join(lines).partition("\nMarks under the sheet:\n")[2].partition("\n\n")[0].split("\n")
+    return {int(found.group(1)): int(found.group(2)) for found in map(DECIDED.fullmatch, section) if found}
+
+
+def term_of(line, way, decided):
     """The object that a row stands for."""
     number, operator, sort, mark, value, condition = ROW.fullmatch(line).groups()
     inside = re.fullmatch(r"\((\S+) (t.*)\)", operator)
@@ -45,6 +52,8 @@ def term_of(line, way):
         out["value"] = int(value)
     if slot:
         out.update(slot=int(slot.group(1)), marked=mark == "marked")
+        if int(number) in decided:
+            out["sheet_line"] = decided[int(number)]
     return out
 
 
@@ -67,7 +76,8 @@ def facts(name, lines):
               "steps": steps, "left": left}
     why = "\n".join(lines).partition("\nWhy the condition is false")[2]
     way = {int(x) for x in re.findall(r"^t(\d+) ", why, re.M)}
-    rows = [term_of(line, way) for line in lines[1:lines.index("")]]
+    decided = deciding(lines)
+    rows = [term_of(line, way, decided) for line in lines[1:lines.index("")]]
     return judged, dict(judged, terms=rows, repair=repair_of(lines[lines.index(""):]))
 
 

@@ -118,9 +118,41 @@ class Table:
         allowance = g.choice([steps, steps, steps + g.randrange(5), 4294967295, max(0, steps - 1)])
         return values, cells, allowance
 
+    def sheet(self):
+        """A mark sheet that is not refused, or None where the part is left out."""
+        g = self.g
+        if g.random() < 0.35:
+            return None
+        lines = []
+        for _ in range(g.choice([0, 1, 1, 2, 3, 5, 5, 12])):
+            slot = g.choice(sorted(self.slots)) if self.slots and g.random() < 0.8 else g.randrange(256)
+            other = g.choice([slot, slot, slot, slot + g.randrange(4), slot - g.randrange(4), 0, 255])
+            low, high = max(0, min(slot, other)), min(255, max(slot, other))
+            lines.append((g.randrange(2), low, high))
+            if g.random() < 0.3:                    # of the other kind, over some of the same slots
+                lines.append((1 - lines[-1][0], g.choice([low, 0]), g.choice([high, low, 255])))
+        if g.random() < 0.15:                       # leaves the table's marks as they are
+            lines = [(mark, slot, slot) for slot, (_, mark) in self.slots.items()]
+        g.shuffle(lines)
+        return [x for line in lines for x in line]
 
-def damage_numbers(g, table, values, cells, allowance):
-    what = g.randrange(10)
+
+def spoil_sheet(g, sheet):
+    """A faulty line more, among the others or last, and sometimes a second; or the last line cut short."""
+    sheet = list(sheet or [])
+    for _ in range(g.choice([1, 1, 2])):
+        line = g.choice([[2, 3, 9], [g.choice(EDGE[2:]), 0, 0], [1, 9, 3], [0, 1, 0], [1, 300, 2], [0, 0, 256], [1, 255, 4294967295],
+                         [0, 256, 256], [2, 9, 3], [7, 300, 2]])
+        at = g.choice([0, 3 * g.randrange(len(sheet) // 3 + 1), len(sheet) // 3 * 3])
+        if g.random() < 0.6:
+            sheet[at:at] = line
+        else:
+            sheet += [g.randrange(2), 0, 0][:g.choice([1, 2])]
+    return sheet
+
+
+def damage_numbers(g, table, sheet, values, cells, allowance):
+    what = g.randrange(12)
     if what < 5:
         for _ in range(g.choice([1, 1, 2])):
             k = g.randrange(len(table))
@@ -140,17 +172,23 @@ def damage_numbers(g, table, values, cells, allowance):
         cells += [g.choice(EDGE) for _ in range(g.choice([1, 2, 3]))]
     elif what == 8 and cells:
         cells[g.randrange(len(cells))] = g.choice(EDGE)
+    elif what == 9 and sheet:
+        sheet[g.randrange(len(sheet))] = g.choice(EDGE)
+    elif what == 10:
+        sheet = spoil_sheet(g, sheet)
     else:
         allowance = g.choice([0, 1, allowance // 2])
-    return table, values, cells, allowance
+    return table, sheet, values, cells, allowance
 
 
 BETWEEN = [" ", "\t", "\n", "\r\n", "\v", "\f", "; odd; 7 table\n", ";\n", ";\r;\n", "  \n\n"]
 
 
 def text_of(g, case):
-    table, values, cells, allowance = case
+    table, sheet, values, cells, allowance = case
     parts = [("table", table, 6), ("values", values, 16), ("cells", cells, 3), ("allowance", [allowance], 1)]
+    if sheet is not None:
+        parts.insert(1, ("sheet", sheet, 3))
     if g.random() < 0.4:
         g.shuffle(parts)
     style = g.choice(["plain", "plain", "plain", "odd"])
@@ -171,7 +209,7 @@ def text_of(g, case):
     return text
 
 
-WORDS = [b"table", b"values", b"cells", b"allowance", b"Table", b"tables", b"value", b"x", b"-1", b"+1", b"0x1", b"1a", b"a1",
+WORDS = [b"table", b"values", b"cells", b"allowance", b"sheet", b"sheets", b"shee", b"mark", b"keep", b"Table", b"tables", b"value", b"x", b"-1", b"+1", b"0x1", b"1a", b"a1",
          b"tablevalues", b"cellscellscells", b"4294967296", b"4294967295", b"99999999999999999999999", b"18446744073709551616",
          b"18446744073709551617", b"0000000000000000000000000000000000000001", b"1.0", b"1,", b"\xff", b"\x00", b"\x0e", b"\x08",
          b"\xc2\xa0", b"\x85", b"allowance0", b"table\x00", b"aaaaaaaaaaaaaaaaaaaaaaaaaaaatable", b"tabl", b"able", b"\xef\xbb\xbf", b"\xef\xbb\xbftable",
@@ -321,8 +359,12 @@ def spoil_cells(g, t, cells):
     cells += [min(x, 4294967295) for x in cell]
 
 
-def spoil(g, t, table, values, cells, allowance):
-    what = g.randrange(9)
+def spoil(g, t, table, sheet, values, cells, allowance):
+    what = g.randrange(12)
+    if what >= 9 or g.random() < 0.1:
+        sheet = spoil_sheet(g, sheet)
+    if what >= 9 and g.random() < 0.8:
+        return table, sheet, values, cells, allowance
     if what < 4:
         spoil_term(g, t, table)
     elif what == 4:
@@ -335,23 +377,28 @@ def spoil(g, t, table, values, cells, allowance):
         values[g.choice(sorted(t.slots) or [0])] = g.choice([2, 256, 4294967295])
     else:
         spoil_cells(g, t, cells)
-    return table, values, cells, allowance
+    return table, sheet, values, cells, allowance
 
 
 def sure(g):
     """Files at the limits, and one past each; a file with a byte-order mark."""
     base, limit = b"table 1 0 0 0 0 0\nvalues 1\ncells\n", b"\nallowance 3"
+    lines = b"sheet " + b"0 0 0\n" * ((OTHERS - 2) // 3)          # with a value and the allowance, as many as may be
     wide = widest(g)
     values, cells, allowance = wide.setting()
     table = [x for term in wide.terms for x in term] + [2, 0, 0, len(wide.terms) - 1, 0, 0]
     return [b"\xef\xbb\xbf" + base + limit,
             base + b"0 " * (OTHERS - 2) + limit,
             base + b"0 " * (OTHERS - 1) + limit,
+            base + lines + limit,
+            base + lines + b"1" + limit,
+            base + limit + b"\n" + lines + b"1",
+            b"sheet " + base + b"sheet" + limit,
             b"table " + b"0 0 0 1 0 0\n" * 80000 + b"values cells allowance 0",
             b"table " + b"0 0 0 1 0 0\n" * 80000 + b" 7 values cells allowance 0",
             base + b"allowance 3;" + b"x" * (LIMIT - len(base) - 12),
             base + b"allowance 3;" + b"x" * (LIMIT - len(base) - 11),
-            text_of(g, (table, values, cells, 4294967295))]
+            text_of(g, (table, wide.sheet(), values, cells, 4294967295))]
 
 
 KINDS = {"whole": 20, "chain": 12, "marks": 3, "signed": 8, "spoilt": 24, "odd": 20, "numbers": 4, "text": 12, "both": 3, "random": 2, "wide": 0.3}
@@ -368,7 +415,7 @@ def make(g):
     if kind == "odd":
         odd_term(g, t)
     values, cells, allowance = t.setting()
-    case = [x for term in t.terms for x in term], values, cells, allowance
+    case = [x for term in t.terms for x in term], t.sheet(), values, cells, allowance
     if kind == "spoilt":
         case = spoil(g, t, *case)
     if kind in ("numbers", "both"):

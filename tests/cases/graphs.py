@@ -119,7 +119,7 @@ def styles(given):
 
 def node_faults(j, t, given):
     term = j.terms[t]
-    marked = term[0] == 1 and term[4] == 1
+    marked = j.marked(term)
     shape = "octagon" if marked else "box" if term[0] == 1 else "ellipse" if term[0] == 16 or j.free[t] else "hexagon"
     if given.get("shape", "ellipse") != shape:
         yield "t%d has not the shape %s" % (t, shape)

@@ -27,20 +27,23 @@ REASONS = {
     13: [r"the value of slot \d+ is \d+, at most \d+ fits %s" % s for s in ("Bool", r"BitVec \d+")],
     14: [r"slot \d+ is no array of the table"],
     15: [r"the index is \d+, at most \d+ fits BitVec \d+", r"the value is \d+, at most \d+ fits BitVec \d+"],
+    16: ["the last line has 2 numbers, not three", "the last line has 1 number, not three",
+         r"the kind is \d+, and 1 \(mark\) or 0 \(keep\) is asked",
+         r"the slots go from \d+ down to \d+, and the lowest comes first", r"the slot is \d+, at most 255 is allowed"],
     23: [r"the allowance is \d+, the reads take \d+ steps", r"the allowance is \d+, the reads take 1 step"],
 }
 FAULTS = [
-    r'\d+:\d+: ".+": neither a number nor table, values, cells or allowance',
+    r'\d+:\d+: ".+": neither a number nor table, sheet, values, cells or allowance',
     r'\d+:\d+: ".{24}\.\.\.": .*', r'\d+:\d+: ".*\?.*": .*',
     r'\d+:\d+: "\d+(?:\.\.\.)?": a number of 2\^32 \(4294967296\) or more',
-    r'\d+:\d+: "\d+": a number before the words table, values, cells, allowance',
-    r'\d+:\d+: "\w+": this part was given before',
+    r'\d+:\d+: "\d+": a number before the words table, sheet, values, cells, allowance',
+    r'\d+:\d+: "\w+": this part was given before', r'\d+:\d+: "sheet": this part was given before',
     r'\d+:\d+: "\d+": allowance takes one number, and this is another',
     r"\d+: the file ends without its part table", r"\d+: the file ends without its part values",
     r"\d+: the file ends without its part cells", r"\d+: the file ends without its part allowance",
     r"\d+: allowance has no number", r"\d+: the file is larger than 4194304 bytes",
     r'\d+:\d+: "\d+": the table has more than 480000 numbers',
-    r'\d+:\d+: "\d+": values, cells and allowance together have more than 200000 numbers',
+    r'\d+:\d+: "\d+": sheet, values, cells and allowance together have more than 200000 numbers',
     r"1:1: a byte-order mark \(EF BB BF\): save the file without it",
 ]
 TERM = r"t\d+ \(.*\): "
@@ -90,6 +93,12 @@ WHY = [r"    No value of one operand settles %s: both must be free\." % op for o
     TERM + r"t\d+, the array beneath, is marked\.", r"    t\d+, the array beneath, is marked\.",
     r"t\d+ slot \d+: this input is marked\.",
 ]
+SHEET = [r" *t\d+  slot \d+ +%s" % text for text in (
+    "no line names it; the table does not mark it", "no line names it; the table marks it",
+    r"marked by line 0 \(mark \d+\)", r"marked by line [1-9]\d* \(mark \d+ to \d+\)",
+    r"kept by line 0 \(keep \d+ to \d+\)", r"kept by line [1-9]\d* \(keep \d+\)")]
+FINISHED = ["; Finishing takes no sheet: C\\(rule\\) goes by the table's own marks\\.\nsheet\n[01] \\d+ \\d+",
+            "sheet\n(?:\\d+ \\d+ \\d+\n)*\\d+(?: \\d+)?\nvalues.*"]
 REPAIR = [
     r"If slot \d+ could be vouched for, the condition would be true", r"If slot \d+ could be vouched for, the condition would be true\.",
     r"If slots \d+ and \d+ could be vouched for, the condition would be true\.?",
@@ -115,10 +124,11 @@ TEXT = [r"\(declare-const v\d+ %s\)" % sort for sort in ("Bool", VECTOR, r"\(Arr
         ("and or => = bvand bvor bvadd bvmul bvshl bvult bvsub bvslt bvashr select", 2),
         ("ite store", 3)) for word in words.split()]
 
-WANTED = [("judge", ".*:\\d+: refused %d at (?:term|cell|place) \\d+: %s" % (number, reason))
+WANTED = [("judge", ".*:\\d+: refused %d at (?:term|cell|place|sheet line) \\d+: %s" % (number, reason))
           for number, reasons in REASONS.items() for reason in reasons]
 WANTED += [("fault", ".*\\.case:" + fault) for fault in FAULTS]
-WANTED += [("explain", line) for line in SETTLED + WHY + REPAIR + VERDICTS]
+WANTED += [("explain", line) for line in SETTLED + WHY + REPAIR + VERDICTS + SHEET]
+WANTED += [("finish", lines) for lines in FINISHED]
 WANTED += [("judge", line) for line in LINES + NOTES] + [("tree", line) for line in TREE]
 WANTED += [("print", line) for line in TEXT]
 COMPILED = [(where, line, re.compile("^" + line + "$", re.M)) for where, line in WANTED]
@@ -130,11 +140,11 @@ STATUSES = ["status %s %d" % (c, s) for c, ss in (("judge", (0, 1, 2, 3)), ("fin
 def tally(counts, arguments, out, err, status):
     """Counts what occurred. No line is over 80 columns, but a refusal's, one with a file's name and those of a text."""
     counts["status %s %d" % (arguments[0], status)] += 1
-    text = arguments[0] in ("print", "print-finished")
-    if text or arguments in (("judge",), ("explain",), ("tree",)):
+    text, table = arguments[0] in ("print", "print-finished"), arguments == ("finish",)
+    if text or table or arguments in (("judge",), ("explain",), ("tree",)):
         out, err = out.decode(), err.decode("latin-1")
         for line in out.split("\n"):
-            assert text or ".case" in line or (len(line) <= 80 and not line.endswith(" ")), line
+            assert text or table or ".case" in line or (len(line) <= 80 and not line.endswith(" ")), line
         for where, line, form in COMPILED:
             if where == ("print" if text else arguments[0]):
                 counts[where + ": " + line] += len(form.findall(out))

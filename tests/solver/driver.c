@@ -1,11 +1,11 @@
 /* Calls the library for a program at the other end of a pipe.
  *
  * A request is a letter and rows of numbers, each row with its length before it:
- *   e table values cells    evaluate
- *   j table values cells    judge
- *   f table                 finish
- *   p table                 print
- *   t text                  parse; a byte is a number
+ *   e table values cells         evaluate
+ *   j table sheet values cells   judge
+ *   f table                      finish
+ *   p table                      print
+ *   t text                       parse; a byte is a number
  * The answer is one line: the number that the function answers, its four answers, and the room's front; of print the text comes
  * after the line. */
 #include <inttypes.h>
@@ -22,7 +22,7 @@ struct row {
     size_t len;
 };
 
-static struct row table, values, cells, room;
+static struct row table, sheet, values, cells, room;
 static uint8_t text[HIRANTHOK_MAX_PRINT_ROOM];
 _Static_assert((int)LONGEST < (int)HIRANTHOK_MAX_PRINT_ROOM, "a row of bytes fits");
 
@@ -64,13 +64,17 @@ int main(void) {
             give(number, answer, answer[0]);
             continue;
         }
+        if (request == 'j') take(&sheet);
         take(&values);
         take(&cells);
         size_t terms = table.len / HIRANTHOK_TERM_WORDS;
         size_t front = request == 'j' ? HIRANTHOK_JUDGE_WORK(terms) : HIRANTHOK_EVALUATE_WORK(terms);
-        number = (request == 'j' ? hiranthok_judge : hiranthok_evaluate)(
-            table.numbers, table.len, values.numbers, values.len, cells.numbers, cells.len, UINT64_MAX, room.numbers,
-            front, answer);
+        if (request == 'j')
+            number = hiranthok_judge(table.numbers, table.len, sheet.numbers, sheet.len, values.numbers, values.len,
+                                     cells.numbers, cells.len, UINT64_MAX, room.numbers, front, answer);
+        else
+            number = hiranthok_evaluate(table.numbers, table.len, values.numbers, values.len, cells.numbers, cells.len,
+                                        UINT64_MAX, room.numbers, front, answer);
         give(number, answer, front);
     }
     return 0;

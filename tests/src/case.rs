@@ -16,11 +16,12 @@ pub enum Routine {
 pub const ROUTINES: [Routine; 5] = [Routine::Admit, Routine::Finish, Routine::Evaluate, Routine::Judge, Routine::Print];
 
 /// The arguments of a call. `room` is the length of the lent room, for print in bytes. Parse takes the text alone, the others the
-/// table; a routine that takes no setting ignores the rest.
+/// table, and judge alone the sheet; a routine that takes no setting ignores the rest.
 #[derive(Clone, PartialEq, Debug)]
 pub struct Case {
     pub routine: Routine,
     pub table: Vec<u32>,
+    pub sheet: Vec<u32>,
     pub text: Vec<u8>,
     pub values: Vec<u32>,
     pub cells: Vec<u32>,
@@ -73,7 +74,8 @@ impl Routine {
 impl Case {
     /// The call that parses a text.
     pub fn parse(text: Vec<u8>, room: usize) -> Case {
-        Case { routine: Routine::Parse, table: vec![], text, values: vec![], cells: vec![], allowance: 0, room }
+        let (table, sheet, values, cells) = (vec![], vec![], vec![], vec![]);
+        Case { routine: Routine::Parse, table, sheet, text, values, cells, allowance: 0, room }
     }
 
     pub fn terms(&self) -> usize {
@@ -110,6 +112,7 @@ impl fmt::Display for Case {
             writeln!(f, "        {},", numbers.join(", "))?;
         }
         writeln!(f, "    ],")?;
+        writeln!(f, "    sheet: vec!{:?},", self.sheet)?;
         writeln!(f, "    text: {}.to_vec(),", byte_string(&self.text))?;
         writeln!(f, "    values: vec!{:?},", self.values)?;
         writeln!(f, "    cells: vec!{:?},", self.cells)?;

@@ -4,7 +4,7 @@ use crate::case::{Answer, Case, Checker, Routine};
 use crate::counts::Counts;
 use crate::generate;
 use crate::random::Random;
-use crate::{finished, pairs, parsed, printed};
+use crate::{finished, pairs, parsed, printed, sheeted};
 
 /// What is checked of a call.
 #[derive(Clone, Copy, Debug)]
@@ -15,8 +15,11 @@ pub enum Check {
     Records,
     /// Demand 3 for the setting and the partner with this seed.
     Pair(u64),
-    /// The finished table agrees with judging.
-    Finished,
+    /// The finished table agrees with judging under the call's own sheet, where it leaves the table's marks, else under one with
+    /// this seed.
+    Finished(u64),
+    /// The laws of sheets for the call and another party's with this seed.
+    Sheeted(u64),
     /// The laws of printing for the table and the partners with this seed.
     Printed(u64),
     /// The laws of parsing for the text and the partners with this seed.
@@ -49,7 +52,8 @@ impl Check {
                 (one != other).then(|| format!("library, cells as records: {one}\nreference:                 {other}"))
             }
             Check::Pair(seed) => pairs::fault(subject, case, seed),
-            Check::Finished => finished::fault(subject, case),
+            Check::Finished(seed) => finished::fault(subject, case, seed),
+            Check::Sheeted(seed) => sheeted::fault(subject, case, seed),
             Check::Printed(seed) => printed::fault(subject, case, seed),
             Check::Parsed(seed) => parsed::fault(subject, case, seed),
         }
@@ -76,7 +80,10 @@ impl<'a> Comparison<'a> {
                     self.pair(case, &answer, random.next())?;
                 }
                 if random.chance(25) || case.terms() > 100 {
-                    self.finished(case)?;
+                    self.finished(case, random.next())?;
+                }
+                if random.chance(25) {
+                    self.sheeted(case, &answer, random.next())?;
                 }
             }
             if case.routine == Routine::Print && answer.number == 0 && random.chance(15) {
@@ -119,13 +126,14 @@ impl<'a> Comparison<'a> {
         let other = self.compare(&partner)?;
         self.hold(Check::Pair(seed), case)?;
         let [rule, condition, ..] = answer.numbers;
-        let marked = |t: &&[u32]| t[0] == 1 && t[4] == 1;
-        let differ = case.table.chunks(6).filter(marked).any(|t| case.values[t[3] as usize] != partner.values[t[3] as usize]);
+        let sheet = u32::from(!finished::leaves_marks(case));
+        let differ = |slot: u32| case.values[slot as usize] != partner.values[slot as usize];
+        let differ = pairs::inputs(case).iter().any(|(&slot, &(_, marked))| marked && differ(slot));
         if condition == 1 && differ {
-            self.counts.count(("pair: condition true, marked values differ", 0, 0));
+            self.counts.count(("pair: condition true, marked values differ; sheet changes marks", sheet, 0));
         }
         if condition == 0 && rule != other.numbers[0] {
-            self.counts.count(("pair: condition false, rules differ", 0, 0));
+            self.counts.count(("pair: condition false, rules differ; sheet changes marks", sheet, 0));
         }
         if case.cells != partner.cells && !case.cells.is_empty() {
             self.counts.count(("pair: cells relisted", 0, 0));
@@ -133,18 +141,31 @@ impl<'a> Comparison<'a> {
         Ok(())
     }
 
-    fn finished(&mut self, case: &Case) -> Result<(), Difference> {
+    fn finished(&mut self, case: &Case, seed: u64) -> Result<(), Difference> {
         self.counts.finished += 1;
-        self.counts.calls += 6;
+        self.counts.calls += 7;
         let calls = finished::calls(self.reference, case).expect("a judged table");
         self.compare(&calls.finish)?;
         self.compare(&calls.evaluate)?;
         self.compare(&printed::call(&calls.evaluate.table))?;
-        self.hold(Check::Finished, case)?;
-        self.counts.count(("finished table evaluated and printed", 0, 0));
+        let left = finished::left(case, seed);
+        self.compare(&left)?;
+        self.hold(Check::Finished(seed), case)?;
+        self.counts.count(("finished table evaluated and printed, some sheet", (!left.sheet.is_empty()).into(), 0));
         if calls.evaluate.terms() > 10_000 {
             self.counts.count(("finished table over 10,000 terms", 0, 0));
         }
+        Ok(())
+    }
+
+    fn sheeted(&mut self, case: &Case, answer: &Answer, seed: u64) -> Result<(), Difference> {
+        self.counts.sheeted += 1;
+        self.counts.calls += 7;
+        self.hold(Check::Sheeted(seed), case)?;
+        let plain = self.compare(&sheeted::plain(case))?;
+        self.counts.count(("sheeted: condition, that by the table", answer.numbers[1] as u32, plain.numbers[1] as u32));
+        let other = self.compare(&sheeted::other_party(case, seed))?;
+        self.counts.count(("sheeted: refused between two judgements", other.number.min(1), 0));
         Ok(())
     }
 

@@ -1,8 +1,11 @@
 //! What occurred in a run, and what must occur, so that the test cannot go blind.
 
 mod parsing;
+mod sheets;
 
 use crate::case::{Answer, Case, Routine, ROUTINES};
+use crate::reference::flaw::Flaw;
+use crate::reference::sheets::is_marked;
 use crate::reference::term::*;
 use std::collections::BTreeMap;
 
@@ -12,6 +15,7 @@ pub struct Counts {
     pub calls: u64,
     pub pairs: u64,
     pub finished: u64,
+    pub sheeted: u64,
     pub printed: u64,
     pub parsed: u64,
 }
@@ -28,14 +32,14 @@ const REFUSALS: [&[u32]; 6] = [
     &[1, 2, 3, 4, 5, 6, 7, 8, 9, 10],
     &[1, 2, 3, 4, 5, 6, 7, 8, 9, 10, 21],
     &[1, 2, 3, 4, 5, 6, 7, 8, 9, 10, 11, 12, 13, 14, 15, 22, 23],
-    &[1, 2, 3, 4, 5, 6, 7, 8, 9, 10, 11, 12, 13, 14, 15, 22, 23],
+    &[1, 2, 3, 4, 5, 6, 7, 8, 9, 10, 11, 12, 13, 14, 15, 16, 22, 23],
     &[1, 2, 3, 4, 5, 6, 7, 8, 9, 10, 24],
     &parsing::REFUSALS,
 ];
 
 impl Counts {
     pub fn new() -> Counts {
-        Counts { seen: BTreeMap::new(), calls: 0, pairs: 0, finished: 0, printed: 0, parsed: 0 }
+        Counts { seen: BTreeMap::new(), calls: 0, pairs: 0, finished: 0, sheeted: 0, printed: 0, parsed: 0 }
     }
 
     pub fn count(&mut self, key: Key) {
@@ -53,6 +57,9 @@ impl Counts {
         self.count((ROUTINE_NAMES[routine], answer.number, 0));
         if case.routine == Routine::Parse {
             return parsing::observe(self, case, answer);
+        }
+        if case.routine == Routine::Judge {
+            sheets::observe(self, case, answer);
         }
         match answer.number {
             0 => self.observe_result(case, answer),
@@ -252,7 +259,7 @@ impl Counts {
             None if listed => self.count(("read from a cell", 0, 0)),
             None => self.count(("read from the slot's value", 0, 0)),
         }
-        if condition && array.q == 1 {
+        if condition && is_marked(&case.sheet, array.p, array.q, Flaw::None) {
             self.count(("settled, operator, width", READ, read.n));
         }
         if condition && !free_indexes {
@@ -314,15 +321,16 @@ fn wanted() -> Vec<Key> {
         keys.push((*name, 0, 0));
         keys.extend(REFUSALS[routine].iter().map(|&number| (*name, number, 0)));
     }
-    for name in RECORD_NAMES {
+    for (name, refusals) in RECORD_NAMES.iter().zip(&REFUSALS[2..]) {
         keys.push((name, 0, 0));
-        keys.extend(REFUSALS[3].iter().filter(|&&number| number != 11).map(|&number| (name, number, 0)));
+        keys.extend(refusals.iter().filter(|&&number| number != 11).map(|&number| (*name, number, 0)));
     }
     keys.extend([0, 1].map(|refused| ("records, of some cells", refused, 0)));
     wanted_of_tables(&mut keys);
     wanted_of_results(&mut keys);
     wanted_of_texts(&mut keys);
     parsing::wanted(&mut keys);
+    sheets::wanted(&mut keys);
     keys
 }
 
@@ -406,9 +414,12 @@ fn wanted_of_results(keys: &mut Vec<Key>) {
     keys.extend([0, 1].map(|index| ("cell too wide, by index", index, 0)));
     let cells = ["cell hidden by an earlier one", "cell listed twice", "one index, cells of two slots"];
     let reads = ["read from a cell", "read from the slot's value", "read settled by equal values"];
-    let pairs = ["pair: condition true, marked values differ", "pair: condition false, rules differ", "pair: cells relisted"];
-    let finished = ["finished table evaluated and printed", "finished table over 10,000 terms"];
-    for name in cells.iter().chain(&reads).chain(&pairs).chain(&finished) {
+    for name in cells.iter().chain(&reads).chain(&["pair: cells relisted", "finished table over 10,000 terms"]) {
         keys.push((name, 0, 0));
+    }
+    for sheet in [0, 1] {
+        keys.push(("pair: condition true, marked values differ; sheet changes marks", sheet, 0));
+        keys.push(("pair: condition false, rules differ; sheet changes marks", sheet, 0));
+        keys.push(("finished table evaluated and printed, some sheet", sheet, 0));
     }
 }

@@ -1,6 +1,7 @@
-//! Paper 01's bench examples, the texts of requests 01 and 02, request 03's less, request 05's operators, and a case for each
-//! point that the papers leave open, with the expected answers.
+//! Paper 01's bench examples, the texts of requests 01 and 02, request 03's less, request 05's operators, request 06's sheets, and a
+//! case for each point that the papers leave open, with the expected answers.
 
+pub mod sheets;
 mod signed;
 mod typed;
 
@@ -91,6 +92,7 @@ fn call(routine: Routine, terms: &[Term], values: &[u32], cells: &[u32], allowan
     Case {
         routine,
         table: terms.concat(),
+        sheet: vec![],
         text: vec![],
         values: values.to_vec(),
         cells: cells.to_vec(),
@@ -134,6 +136,7 @@ pub fn all() -> Vec<Example> {
     examples.extend(more_bench());
     examples.extend(less());
     examples.extend(signed::all());
+    examples.extend(sheets::all());
     examples.extend(open_points());
     examples.extend(open_points_of_settings());
     examples.extend(texts());

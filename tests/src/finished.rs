@@ -1,6 +1,9 @@
-//! The finished table says what judging says.
+//! The finished table says what judging says, under every sheet that leaves the table's marks as they are.
 
 use crate::case::{Case, Checker, Routine};
+use crate::generate::sheet;
+use crate::random::Random;
+use crate::reference::sheets;
 
 /// The calls behind the check: finishing the table, and evaluating the finished table in the setting.
 pub struct Calls {
@@ -22,11 +25,28 @@ pub fn calls(checker: &dyn Checker, judged: &Case) -> Option<Calls> {
     Some(Calls { finish, evaluate })
 }
 
+/// Whether the sheet leaves the table's marks as they are.
+pub fn leaves_marks(case: &Case) -> bool {
+    sheets::applied(&case.table, &case.sheet) == case.table
+}
+
+/// The judged case under a sheet that leaves the table's marks: its own, or one that is made.
+pub fn left(judged: &Case, seed: u64) -> Case {
+    match leaves_marks(judged) {
+        true => judged.clone(),
+        false => Case { sheet: sheet::leaving(&mut Random::new(seed), &judged.table), ..judged.clone() },
+    }
+}
+
 /// What the finished table gets wrong, if anything. A case that judging refuses breaks nothing.
-pub fn fault(checker: &dyn Checker, judged: &Case) -> Option<String> {
+pub fn fault(checker: &dyn Checker, judged: &Case, seed: u64) -> Option<String> {
+    if checker.call(judged).number != 0 {
+        return None;
+    }
+    let judged = &left(judged, seed);
     let verdict = checker.call(judged);
     if verdict.number != 0 {
-        return None;
+        return Some(format!("refused under a sheet that leaves the marks, {:?}: {verdict}", judged.sheet));
     }
     let [rule, condition, steps, _] = verdict.numbers;
     let Some(calls) = calls(checker, judged) else { return Some("a judged table is not finished".into()) };
@@ -50,5 +70,6 @@ pub fn fault(checker: &dyn Checker, judged: &Case) -> Option<String> {
         (value(last) != rule * condition, "the conjunction"),
     ];
     let (_, what) = wrong.iter().find(|(is_wrong, _)| *is_wrong)?;
-    Some(format!("{what}\njudged: {verdict}\nfinished: {finish}\nevaluated: {evaluated}"))
+    let sheet = &judged.sheet;
+    Some(format!("{what}\njudged under {sheet:?}: {verdict}\nfinished: {finish}\nevaluated: {evaluated}"))
 }

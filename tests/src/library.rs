@@ -61,43 +61,91 @@ const UNWRITTEN: [u64; 4] = [0xDEAD_BEEF_DEAD_BEEF; 4];
 
 impl Checker for Library {
     fn call(&self, case: &Case) -> Answer {
-        let (t, v, c) = (case.table.clone(), case.values.clone(), case.cells.clone());
-        let typed = case.text.clone();
+        let rows = Rows::new(case);
+        let Rows { table: t, sheet: s, values: v, text: typed } = &rows;
+        let (c, allowance) = (case.cells.clone(), case.allowance);
         let mut lent = Rooms::new(case);
         let (room, text, out) = (lent.numbers.room(), lent.text.room(), &mut lent.answer);
-        let in_setting: InSetting = if case.routine == Routine::Judge { hiranthok_judge } else { hiranthok_evaluate };
+        let (table, sheet, values, cells) = (t.as_ptr(), s.as_ptr(), v.as_ptr(), c.as_ptr());
         // SAFETY: every pointer comes with the length of what it points at, and the room and the answer are borrowed once.
         let number = unsafe {
             match case.routine {
-                Routine::Admit => hiranthok_admit(t.as_ptr(), t.len(), out),
-                Routine::Finish => hiranthok_finish(t.as_ptr(), t.len(), room, case.room, out),
-                Routine::Evaluate | Routine::Judge => {
-                    let (values, cells) = (v.as_ptr(), c.as_ptr());
-                    in_setting(t.as_ptr(), t.len(), values, v.len(), cells, c.len(), case.allowance, room, case.room, out)
+                Routine::Admit => hiranthok_admit(table, t.len(), out),
+                Routine::Finish => hiranthok_finish(table, t.len(), room, case.room, out),
+                Routine::Evaluate => {
+                    hiranthok_evaluate(table, t.len(), values, v.len(), cells, c.len(), allowance, room, case.room, out)
                 }
-                Routine::Print => hiranthok_print(t.as_ptr(), t.len(), text, case.room, out),
+                Routine::Judge => hiranthok_judge(
+                    table,
+                    t.len(),
+                    sheet,
+                    s.len(),
+                    values,
+                    v.len(),
+                    cells,
+                    c.len(),
+                    allowance,
+                    room,
+                    case.room,
+                    out,
+                ),
+                Routine::Print => hiranthok_print(table, t.len(), text, case.room, out),
                 Routine::Parse => hiranthok_parse(typed.as_ptr(), typed.len(), room, case.room, out),
             }
         };
-        lent.answer(number, t != case.table || v != case.values || c != case.cells || typed != case.text)
+        lent.answer(number, rows.changed(case) || c != case.cells)
     }
 
     fn call_with_records(&self, case: &Case) -> Option<Answer> {
-        let with_records: WithRecords = match case.routine {
-            Routine::Admit | Routine::Finish | Routine::Print | Routine::Parse => return None,
-            Routine::Evaluate => hiranthok_evaluate_records,
-            Routine::Judge => hiranthok_judge_records,
-        };
+        if !matches!(case.routine, Routine::Evaluate | Routine::Judge) {
+            return None;
+        }
         let records = records(&case.cells)?;
-        let (t, v, c) = (case.table.clone(), case.values.clone(), records.clone());
+        let (rows, c, allowance) = (Rows::new(case), records.clone(), case.allowance);
+        let Rows { table: t, sheet: s, values: v, .. } = &rows;
         let mut lent = Rooms::new(case);
         let (room, out) = (lent.numbers.room(), &mut lent.answer);
+        let (table, sheet, values, cells) = (t.as_ptr(), s.as_ptr(), v.as_ptr(), c.as_ptr());
         // SAFETY: as above.
         let number = unsafe {
-            let (values, cells) = (v.as_ptr(), c.as_ptr());
-            with_records(t.as_ptr(), t.len(), values, v.len(), cells, c.len(), case.allowance, room, case.room, out)
+            match case.routine {
+                Routine::Judge => hiranthok_judge_records(
+                    table,
+                    t.len(),
+                    sheet,
+                    s.len(),
+                    values,
+                    v.len(),
+                    cells,
+                    c.len(),
+                    allowance,
+                    room,
+                    case.room,
+                    out,
+                ),
+                _ => hiranthok_evaluate_records(table, t.len(), values, v.len(), cells, c.len(), allowance, room, case.room, out),
+            }
         };
-        Some(lent.answer(number, t != case.table || v != case.values || c != records))
+        Some(lent.answer(number, rows.changed(case) || c != records))
+    }
+}
+
+/// What is lent for reading, but for the cells.
+struct Rows {
+    table: Vec<u32>,
+    sheet: Vec<u32>,
+    values: Vec<u32>,
+    text: Vec<u8>,
+}
+
+impl Rows {
+    fn new(case: &Case) -> Rows {
+        let (table, sheet) = (case.table.clone(), case.sheet.clone());
+        Rows { table, sheet, values: case.values.clone(), text: case.text.clone() }
+    }
+
+    fn changed(&self, case: &Case) -> bool {
+        self.table != case.table || self.sheet != case.sheet || self.values != case.values || self.text != case.text
     }
 }
 

@@ -22,6 +22,7 @@ mod places;
 mod printed;
 mod random;
 mod reference;
+mod sheeted;
 mod shrink;
 #[cfg(test)]
 mod tests;
@@ -117,13 +118,14 @@ fn run(options: &Options) -> Result<(), String> {
         println!("{}", counts.lines().join("\n"));
     }
     println!(
-        "{} calls in {:.1} s, {} refusals, {} pairs, {} finished tables, \
+        "{} calls in {:.1} s, {} refusals, {} pairs, {} finished tables, {} sheets, \
          {} printed and {} parsed texts by the laws, and {texts} with every word at every place, no difference; seed {}",
         counts.calls,
         start.elapsed().as_secs_f64(),
         counts.refusals(),
         counts.pairs,
         counts.finished,
+        counts.sheeted,
         counts.printed,
         counts.parsed,
         options.seed

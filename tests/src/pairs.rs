@@ -1,14 +1,17 @@
-//! Demand 3 by sampling: a second setting that agrees on every unmarked input.
+//! Demand 3 by sampling: a second setting, judged under the same sheet, that agrees on every input that is unmarked under it.
 
 use crate::case::{Case, Checker};
 use crate::random::Random;
+use crate::reference::flaw::Flaw;
+use crate::reference::sheets;
 use crate::reference::term::*;
 use std::collections::BTreeMap;
 
-/// The inputs of a table, by slot: sort and whether they are marked.
-fn inputs(case: &Case) -> BTreeMap<u32, (Sort, bool)> {
+/// The inputs of a table, by slot: sort and whether they are marked under the sheet.
+pub fn inputs(case: &Case) -> BTreeMap<u32, (Sort, bool)> {
+    let marked = |t: &Term| sheets::is_marked(&case.sheet, t.p, t.q, Flaw::None);
     let terms = case.table.chunks(6).map(Term::of);
-    terms.filter(|t| t.op == VARIABLE).map(|t| (t.p, (t.sort().expect("a sort"), t.q == 1))).collect()
+    terms.filter(|t| t.op == VARIABLE).map(|t| (t.p, (t.sort().expect("a sort"), marked(&t)))).collect()
 }
 
 /// The call with another setting: it agrees on every unmarked input, and all else is drawn anew. The case is one that judging accepts.

@@ -29,7 +29,7 @@ pub fn partners(case: &Case, seed: u64) -> Partners {
 /// The call that prints a table, with room enough.
 pub fn call(table: &[u32]) -> Case {
     let room = print_room(table.len() / 6);
-    Case { routine: Routine::Print, table: table.to_vec(), text: vec![], values: vec![], cells: vec![], allowance: 0, room }
+    Case { routine: Routine::Print, table: table.to_vec(), ..Case::parse(vec![], room) }
 }
 
 /// The text of a table; none where it is refused.

@@ -19,6 +19,7 @@ pub fn shrink(case: &Case, time: Duration, fails: &dyn Fn(&Case) -> bool) -> Cas
         shrinker.drop_terms();
         shrinker.drop_numbers();
         shrinker.drop_cells();
+        shrinker.drop_lines();
         shrinker.narrow();
         shrinker.lower_numbers();
         shrinker.lower_limits();
@@ -119,11 +120,26 @@ impl Shrinker<'_> {
         while self.attempt(|c| c.values.truncate(c.values.len() / 2)) {}
         while self.attempt(|c| c.values.truncate(c.values.len().saturating_sub(1))) {}
         while self.attempt(|c| c.cells.truncate(c.cells.len().saturating_sub(1))) {}
+        while self.attempt(|c| c.sheet.truncate(c.sheet.len().saturating_sub(1))) {}
     }
 
     fn drop_cells(&mut self) {
         for cell in (0..self.best.cells.len() / 3).rev() {
             self.attempt(|c| drop(c.cells.drain(3 * cell..3 * cell + 3)));
+        }
+    }
+
+    /// Drops runs of the sheet's lines, long runs first, from the end.
+    fn drop_lines(&mut self) {
+        let mut run = (self.best.sheet.len() / 3).next_power_of_two();
+        while run > 0 {
+            let mut from = self.best.sheet.len() / 3;
+            while from > 0 && Instant::now() < self.end {
+                from = from.saturating_sub(run);
+                let end = (3 * (from + run)).min(self.best.sheet.len());
+                self.attempt(|c| drop(c.sheet.drain(3 * from..end)));
+            }
+            run /= 2;
         }
     }
 
@@ -143,10 +159,10 @@ impl Shrinker<'_> {
 
     /// Lowers each number of the rows: to 0, to 1, to its half, by one.
     fn lower_numbers(&mut self) {
-        fn rows(c: &mut Case) -> [&mut Vec<u32>; 3] {
-            [&mut c.table, &mut c.values, &mut c.cells]
+        fn rows(c: &mut Case) -> [&mut Vec<u32>; 4] {
+            [&mut c.table, &mut c.sheet, &mut c.values, &mut c.cells]
         }
-        for row in 0..3 {
+        for row in 0..4 {
             for at in 0..rows(&mut self.best)[row].len() {
                 let now = rows(&mut self.best)[row][at];
                 for lower in [0, 1.min(now), now / 2, now.saturating_sub(1)] {

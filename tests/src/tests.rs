@@ -2,6 +2,7 @@
 
 use crate::case::{Case, Checker, Routine};
 use crate::compare::{Check, Comparison, Difference};
+use crate::examples::sheets::under;
 use crate::examples::{self, h};
 use crate::printed::{self, differ_in_order};
 use crate::reference::flaw::{Flaw, FLAWS};
@@ -29,7 +30,7 @@ fn the_finished_chain_of_three_takes_six_steps() {
     let example = examples::all().into_iter().find(|e| e.name.starts_with("three stores")).unwrap();
     let calls = crate::finished::calls(&REFERENCE, &example.case).unwrap();
     assert_eq!(REFERENCE.call(&calls.evaluate).numbers, [6, u64::MAX - 6, 0, 0]);
-    assert_eq!(crate::finished::fault(&REFERENCE, &example.case), None);
+    assert_eq!(crate::finished::fault(&REFERENCE, &example.case, 1), None);
 }
 
 /// An array (1, 8) of value 300 whose two cells are listed: refused 13 as a setting, but its content fits and has a meaning.
@@ -39,6 +40,7 @@ fn a_fitting_content_may_be_a_refused_setting() {
     let case = Case {
         routine: Routine::Judge,
         table,
+        sheet: vec![],
         text: vec![],
         values: vec![300],
         cells: vec![0, 0, 1, 0, 1, 2],
@@ -72,7 +74,7 @@ fn every_flaw_is_found_and_shrunk() {
         let fails = |case: &Case| found.check.fault(&flawed, &REFERENCE, case).is_some();
         let small = shrink(&found.case, Duration::from_secs(10), &fails);
         assert!(fails(&small), "{name}: what is printed still fails");
-        assert!(small.terms() <= 12 && small.text.len() <= 500, "{name}: {small}");
+        assert!(small.terms() <= 12 && small.sheet.len() <= 12 && small.text.len() <= 500, "{name}: {small}");
     }
 }
 
@@ -82,11 +84,12 @@ fn pairs_alone_find_conditions_that_are_too_weak() {
     let less = [Flaw::LessExchanged, Flaw::LessOwnWidth, Flaw::LessAlone];
     let signed = [Flaw::SignedByOnes, Flaw::SignedExchanged, Flaw::AmountSettles, Flaw::SixthByAmount];
     let first = [Flaw::JoinsIndexes, Flaw::FactorAlone, Flaw::PickedBranch, Flaw::IndexUnasked];
-    for flaw in first.into_iter().chain(less).chain(signed) {
+    let sheets = [Flaw::TableMarks, Flaw::KeepWins, Flaw::FirstLine, Flaw::LastSlotLeftOut, Flaw::UnnamedUnmarked];
+    for flaw in first.into_iter().chain(less).chain(signed).chain(sheets) {
         let flawed = Reference { flaw };
         let mut comparison = Comparison::new(&flawed, &flawed);
         let pair = |d: &Difference| matches!(d.check, Check::Pair(_));
-        let found = (0..80_000).find_map(|number| comparison.round(1, number).err().filter(pair));
+        let found = (0..200_000).find_map(|number| comparison.round(1, number).err().filter(pair));
         assert!(found.is_some(), "{flaw:?}");
     }
 }
@@ -153,6 +156,52 @@ fn laws_alone_find_texts_that_are_wrong() {
     }
 }
 
+/// So do the laws of sheets, and what the finished table says under a sheet that leaves the marks.
+#[test]
+fn laws_alone_find_marks_that_are_wrong() {
+    let law = |d: &Difference| matches!(d.check, Check::Sheeted(_));
+    for flaw in [Flaw::TableMarks, Flaw::KeepWins, Flaw::FirstLine, Flaw::LastSlotLeftOut, Flaw::UnnamedUnmarked] {
+        let flawed = Reference { flaw };
+        let mut comparison = Comparison::new(&flawed, &flawed);
+        assert!((0..40_000).any(|number| comparison.round(1, number).is_err_and(|d| law(&d))), "{flaw:?}");
+    }
+    let flawed = Reference { flaw: Flaw::UnnamedUnmarked };
+    let mut comparison = Comparison::new(&flawed, &flawed);
+    let law = |d: &Difference| matches!(d.check, Check::Finished(_));
+    assert!((0..40_000).any(|number| comparison.round(1, number).is_err_and(|d| law(&d))));
+}
+
+/// A mark or a keep line of one slot is that slot's mark in the table: all sheets of two such lines over three slots.
+#[test]
+fn a_sheet_is_the_table_with_other_marks() {
+    let lines: Vec<[u32; 3]> = (0..6).map(|k| [k % 2, k / 2, k / 2]).collect();
+    for (one, other) in lines.iter().flat_map(|one| lines.iter().map(move |other| (one, other))) {
+        for values in [[0, 5, 1], [1, 1, 0], [0, 5, 0], [1, 0, 1]] {
+            let case = under(&[*one, *other].concat(), &examples::G, &values);
+            let mut table = examples::G;
+            table[one[1] as usize][4] = one[0];
+            let is_kept_after_mark = one[1] == other[1] && one[0] == 1;
+            if !is_kept_after_mark {
+                table[other[1] as usize][4] = other[0];
+            }
+            assert_eq!(REFERENCE.call(&case), REFERENCE.call(&under(&[], &table, &values)), "{one:?} {other:?}");
+        }
+    }
+}
+
+/// With no sheet all is as it was before sheets: the reference by the table's own marks.
+#[test]
+fn an_empty_sheet_leaves_every_mark() {
+    let by_table = Reference { flaw: Flaw::TableMarks };
+    for number in 0..4_000 {
+        let mut random = crate::random::Random::new(number);
+        for case in crate::generate::round(&mut random, number) {
+            let plain = crate::sheeted::plain(&case);
+            assert_eq!(REFERENCE.call(&plain), by_table.call(&plain), "{plain}");
+        }
+    }
+}
+
 /// Paper 01's P1 to P12 do not tell the two readings of a read's group apart; rule H with other marks does.
 #[test]
 fn only_the_example_of_our_own_tells_how_a_read_is_joined() {
@@ -163,6 +212,7 @@ fn only_the_example_of_our_own_tells_how_a_read_is_joined() {
     let case = Case {
         routine: Routine::Judge,
         table: h(0, 1).concat(),
+        sheet: vec![],
         text: vec![],
         values: vec![9, 0, 0],
         cells: vec![],

@@ -37,7 +37,7 @@ fn h(t: u32, a: u32) -> Vec<u32> {
 /// Judges with room and allowance enough, and holds the finished table to the same.
 fn verdict(table: &[u32], values: &[u32]) -> (u64, u64) {
     let (mut answer, mut work) = ([0; 4], vec![7; table.len()]);
-    assert_eq!(judge(table, values, &[], 99, &mut work, &mut answer), 0);
+    assert_eq!(judge(table, &[], values, &[], 99, &mut work, &mut answer), 0);
     let (rule, condition) = (answer[0], answer[1]);
     let mut room = vec![7; 6 * 80_000];
     assert_eq!(finish(table, &mut room, &mut answer), 0);
@@ -72,12 +72,56 @@ fn rule_h() {
     assert_eq!(verdict(&h(0, 1), &[9, 0, 0]), (1, 0));
     assert_eq!(verdict(&h(0, 1), &[42, 0, 0]), (1, 1));
     let (mut work, mut answer) = ([5; 15], [0; 4]);
-    assert_eq!(judge(&h(1, 0), &[9, 0, 0], &[], 0, &mut work, &mut answer), 23);
+    assert_eq!(judge(&h(1, 0), &[], &[9, 0, 0], &[], 0, &mut work, &mut answer), 23);
     assert_eq!((answer, work), ([1, 0, 0, 0], [5; 15]));
-    assert_eq!(judge(&h(1, 0), &[9, 0, 0], &[], 1, &mut work, &mut answer), 0);
+    assert_eq!(judge(&h(1, 0), &[], &[9, 0, 0], &[], 1, &mut work, &mut answer), 0);
     assert_eq!((answer, work), ([1, 1, 1, 0], [0, 0, 0, 42, 0, 42, 1, 0, 1, 1, 1, 0, 1, 1, 5]));
     assert_eq!(finish(&h(1, 0), &mut [0; 200], &mut answer), 0);
     assert_eq!(answer, [21, 19, 20, 0]);
+}
+
+/// Number, place or rule, and condition of rule G under a sheet.
+fn under(sheet: &[u32], values: [u32; 3]) -> (u32, u64, u64) {
+    let (mut work, mut answer) = ([0; 14], [0; 4]);
+    let number = judge(&G, sheet, &values, &[], 0, &mut work, &mut answer);
+    (number, answer[0], answer[1])
+}
+
+#[test]
+fn sheets() {
+    let (p1, p2) = ([0, 5, 1], [1, 1, 0]);
+    assert_eq!(under(&[0, 1, 1], p2), (0, 1, 1));
+    assert_eq!(under(&[0, 0, 255], p2), (0, 1, 1));
+    assert_eq!(under(&[0, 2, 255], p2), (0, 1, 0));
+    assert_eq!(under(&[1, 0, 63, 0, 1, 1], p2), (0, 1, 0));
+    assert_eq!(under(&[0, 1, 1, 1, 0, 63], p2), (0, 1, 0));
+    assert_eq!(under(&[1, 1, 2], p1), (0, 1, 0));
+    assert_eq!(under(&[1, 3, 255, 0, 64, 128], p1), (0, 1, 1));
+    assert_eq!(under(&[1, 0, 0, 0, 3], p1), (16, 1, 0));
+    assert_eq!(under(&[1, 0, 0, 0, 3, 2, 1], p1), (16, 1, 0));
+    assert_eq!(under(&[2, 0, 0], p1), (16, 0, 0));
+    assert_eq!(under(&[0, 256, 256], p1), (16, 0, 0));
+    assert_eq!(under(&[1, 0, 255, 1, 0, 256], p1), (16, 1, 0));
+    assert_eq!(under(&[1], [256, 0, 0]), (16, 0, 0));
+    // Every line of two ends, and every slot, in a table of that slot alone.
+    for low in (0..256).step_by(21) {
+        for high in (low..256).step_by(17) {
+            for slot in 0..256 {
+                let (mut work, mut answer) = ([0; 2], [0; 4]);
+                let is_in = u64::from(low <= slot && slot <= high);
+                assert_eq!(
+                    judge(&[1, 0, 0, slot, 0, 0], &[1, low, high], &[1; 256], &[], 0, &mut work, &mut answer),
+                    0
+                );
+                assert_eq!(answer, [1, 1 - is_in, 0, 0]);
+                assert_eq!(
+                    judge(&[1, 0, 0, slot, 1, 0], &[0, low, high], &[1; 256], &[], 0, &mut work, &mut answer),
+                    0
+                );
+                assert_eq!(answer, [1, is_in, 0, 0]);
+            }
+        }
+    }
 }
 
 /// The text of a table, in a room that is just long enough; one byte less is refused.

@@ -3,30 +3,40 @@
 use super::admission::{Known, admitted};
 use super::evaluation::{operation, variable};
 use super::setting::{afforded, checked, held};
+use super::sheet::named;
 use super::{Cell, Refusal, TERMS, Term, answered, greatest, ones};
 
 #[inline(never)]
 pub fn judge(
     table: &[u32],
+    sheet: &[u32],
     values: &[u32],
     cells: &[u32],
     allowance: u64,
     work: &mut [u32],
     answer: &mut [u64; 4],
 ) -> u32 {
-    answered(judged(table, values, cells, allowance, work), answer)
+    answered(judged(table, sheet, values, cells, allowance, work), answer)
 }
 
 #[inline(always)]
-fn judged(table: &[u32], values: &[u32], cells: &[u32], allowance: u64, work: &mut [u32]) -> Result<[u64; 4], Refusal> {
+fn judged(
+    table: &[u32],
+    sheet: &[u32],
+    values: &[u32],
+    cells: &[u32],
+    allowance: u64,
+    work: &mut [u32],
+) -> Result<[u64; 4], Refusal> {
     let mut known = Known::<TERMS>::new();
     let terms = admitted(table, TERMS, &mut known)?;
+    let named = named(sheet)?;
     let cells = checked(terms, &known, values, cells)?;
     afforded(2 * terms.len(), work.len(), known.steps, allowance)?;
     let (work, truths) = work[..2 * terms.len()].split_at_mut(terms.len());
     for (t, term) in terms.iter().enumerate() {
         (work[t], truths[t]) = match term[0] {
-            1 => (variable(term, values), term[4] ^ 1),
+            1 => (variable(term, values), named.free(term[3], term[4])),
             15 => Chain { terms, cells, values, work, truths }.read(term),
             _ => (operation(term, terms, work), condition(term, terms, work, truths)),
         };

@@ -11,6 +11,7 @@ mod judgement;
 mod parsing;
 mod printing;
 mod setting;
+mod sheet;
 
 pub use evaluation::evaluate;
 pub use finishing::finish;

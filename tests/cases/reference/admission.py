@@ -11,6 +11,8 @@ class Refused(Exception):
     def where(self):
         if self.number in (14, 15):
             return "cell %d" % self.place
+        if self.number == 16:
+            return "sheet line %d" % self.place
         return ("place %d" if self.number in (1, 2, 11, 23) else "term %d") % self.place
 
     def told(self):
@@ -183,9 +185,11 @@ def check_cells(case, table):
             raise Refused(15, k // 3, line, reason)
 
 
-def ready(case, limit):
-    """The admitted table and its steps, or the first refusal of table, setting and allowance."""
+def ready(case, limit, check_sheet=None):
+    """The admitted table and its steps, or the first refusal of table, sheet where it is asked for, setting and allowance."""
     table = admit(case, limit)
+    if check_sheet:
+        check_sheet(case)
     if len(case.cells) % 3:
         raise Refused(11, 0, case.line_of[b"cells"],
                       "the cells have %s, not three for each cell" % count(len(case.cells), "number"))

@@ -1,14 +1,15 @@
-"""A case file's text: its tokens, its four parts with the line of every number, and what is wrong with a file."""
+"""A case file's text: its tokens, its parts with the line of every number, and what is wrong with a file."""
 import re
 
 LIMIT, TABLE, OTHERS, SHOWN = 4194304, 480000, 200000, 24
-PARTS = [b"table", b"values", b"cells", b"allowance"]
+ASKED = [b"table", b"values", b"cells", b"allowance"]
+PARTS = ASKED + [b"sheet"]                          # the sheet may be left out
 TOKEN = re.compile(rb"\n|;[^\n]*|[^\t-\r ;]+")
 MARK = b"\xef\xbb\xbf"
 KINDS = {
-    1: "neither a number nor table, values, cells or allowance",
+    1: "neither a number nor table, sheet, values, cells or allowance",
     2: "a number of 2^32 (4294967296) or more",
-    3: "a number before the words table, values, cells, allowance",
+    3: "a number before the words table, sheet, values, cells, allowance",
     4: "this part was given before",
     5: "allowance takes one number, and this is another",
     7: "the file ends without its part table",
@@ -18,7 +19,7 @@ KINDS = {
     11: "allowance has no number",
     12: "the file is larger than 4194304 bytes",
     13: "the table has more than 480000 numbers",
-    14: "values, cells and allowance together have more than 200000 numbers",
+    14: "sheet, values, cells and allowance together have more than 200000 numbers",
     15: "a byte-order mark (EF BB BF): save the file without it",
 }
 
@@ -60,6 +61,7 @@ class Case:
         self.others += self.part != b"table"
 
     table = property(lambda self: self.numbers[b"table"])
+    sheet = property(lambda self: self.numbers.get(b"sheet", []))
     values = property(lambda self: self.numbers[b"values"])
     cells = property(lambda self: self.numbers[b"cells"])
     allowance = property(lambda self: self.numbers[b"allowance"][0])
@@ -127,7 +129,7 @@ def read_case(text):
             take_token(case, word, line, match.start() - start + 1, match.start() == 0)
     if not whole:
         raise Misread(12, line)
-    for k, word in enumerate(PARTS):
+    for k, word in enumerate(ASKED):
         if word not in case.numbers:
             raise Misread(7 + k, line)
     if not case.numbers[b"allowance"]:

@@ -76,7 +76,9 @@ def json_term(j, t, way):
     out = {"term": t, "op": term[0], "operator": NAMES[term[0]], "sort": smt_sort(sort),
            "operands": list(operands(term))}
     if term[0] == 1:
-        out.update(slot=term[3], marked=bool(term[4]))
+        out.update(slot=term[3], marked=j.marked(term))
+        if j.marks.line[term[3]] is not None:
+            out["sheet_line"] = j.marks.line[term[3]]
     out["value"] = None if is_array(sort) else bool(value) if sort == BOOL else value
     out["free"] = None if term[0] == 16 else bool(j.free[t])
     out["way"] = t in way
@@ -162,7 +164,7 @@ HELP = """./hiranthok judges case files.
                      the finished table as SMT-LIB text
   help               this text
 
-A file has four parts: table, values, cells, allowance. - is standard input.
+A file has the parts table, values, cells and allowance, and may have a part sheet. - is standard input.
 """
 
 

@@ -29,7 +29,7 @@ class Tree:
             return "t%d store" % t
         is_what = ": array" if is_array(term[1:3]) else " = " + value_name(term, self.j.v[t])
         text = "t%d %s%s, %s" % (t, name(term), is_what, self.words["free" if self.j.free[t] else "not free"])
-        return text + (", " + self.words["marked"] if term[0] == 1 and term[4] else "")
+        return text + (", " + self.words["marked"] if self.j.marked(term) else "")
 
     def grow(self, t, level, first, rest):
         """The line of a term, after the signs of its branch; below it its operands."""
@@ -53,7 +53,7 @@ def tree(j, colour):
 
 def node(j, t):
     term = j.terms[t]
-    marked = term[0] == 1 and term[4]
+    marked = j.marked(term)
     shape = "octagon" if marked else "box" if term[0] == 1 else "ellipse" if term[0] == 16 or j.free[t] else "hexagon"
     fill = "orange" if marked else "white" if term[0] == 16 else "green" if j.free[t] else "red"
     value = "" if is_array(term[1:3]) else " = " + value_name(term, j.v[t])

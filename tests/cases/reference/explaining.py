@@ -16,10 +16,17 @@ def front(t, term):
 def explain_rows(j):
     out = ["  term  operator                  sort         mark         value  condition"]
     for t, term in enumerate(j.terms):
-        mark = ("marked" if term[4] else "-") if term[0] == 1 else ""
+        mark = ("marked" if j.marked(term) else "-") if term[0] == 1 else ""
         condition = "-" if term[0] == 16 else truth(j.free[t])
         out.append("%s%-6s%12s  %s" % (front(t, term), mark, value_name(term, j.v[t]), condition))
     return out
+
+
+def sheet_section(j):
+    """What decides for each variable, where the sheet has a line."""
+    rows = ["%6s  %s%s" % ("t%d" % t, padded(operator(term), 26), j.marks.told(term[3]))
+            for t, term in enumerate(j.terms) if term[0] == 1]
+    return ["", "Marks under the sheet:"] + rows if j.marks.lines else []
 
 
 def evaluate_rows(j):
@@ -219,4 +226,4 @@ def why_section(j):
 
 
 def explain(j):
-    return explain_rows(j) + verdict(j) + settled_section(j) + why_section(j)
+    return explain_rows(j) + sheet_section(j) + verdict(j) + settled_section(j) + why_section(j)

@@ -123,12 +123,18 @@ class Finished:
         return D
 
 
+def by_three(numbers):
+    return [" ".join(map(str, numbers[k:k + 3])) for k in range(0, len(numbers), 3)]
+
+
 def finish(case):
     done = Finished(case)
     out = ["; %d terms. C(rule) is term %d; the last, term %d, is (and t%d t%d)."
            % (len(done.terms), done.condition, done.last, done.rule, done.condition), "table"]
     out += [" ".join(map(str, term)) for term in done.terms]
+    if case.sheet:
+        out += ["; Finishing takes no sheet: C(rule) goes by the table's own marks.", "sheet"] + by_three(case.sheet)
     out.append(" ".join(["values"] + [str(x) for x in case.values]))
     out.append("cells")
-    out += [" ".join(map(str, case.cells[k:k + 3])) for k in range(0, len(case.cells), 3)]
+    out += by_three(case.cells)
     return out + ["allowance %d" % case.allowance]

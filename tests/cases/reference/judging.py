@@ -1,5 +1,6 @@
-"""Values and conditions of every term, by the rules of paper 01."""
+"""Values and conditions of every term, by the rules of paper 01; the marks are those that hold under the sheet."""
 from admission import ready
+from sheets import Marks, check_sheet
 from words import greatest, largest
 
 
@@ -53,10 +54,10 @@ def stays(value, width):
 
 
 class Setting:
-    """A table in a setting: the value and, where it is judged, the condition of every term."""
+    """A table in a setting: the value and, where it is judged under the case's sheet, the condition of every term."""
 
     def __init__(self, case, limit=512, judged=True):
-        table, self.steps = ready(case, limit)
+        table, self.steps = ready(case, limit, check_sheet if judged else None)
         self.terms, self.left = table.terms, case.allowance - self.steps
         self.values, self.cell = case.values, {}
         for k in range(0, len(case.cells), 3):
@@ -65,8 +66,13 @@ class Setting:
         for term in self.terms:
             self.v.append(self.value(term))
         if judged:
+            self.marks = Marks(case.sheet, {slot: self.terms[t][4] for slot, t in table.first.items()})
             for term in self.terms:
                 self.free.append(self.condition(term))
+
+    def marked(self, term):
+        """Whether a term is an input that is marked under the sheet."""
+        return term[0] == 1 and self.marks.marked(term[3])
 
     def chain(self, array):
         """The stores of an array term from the outermost inward, each as term, index and value; and the variable."""
@@ -102,7 +108,7 @@ class Setting:
         op, m, n, p, q, r = term
         c, v = self.free, self.v
         if op <= 1:
-            return op == 0 or q == 0
+            return not self.marked(term)
         if op in (2, 8, 17):
             return c[p]
         if op in (6, 11, 18):

@@ -1,11 +1,12 @@
-//! Random rounds. A round is one table in one setting, handed to all routines that take a table, or a text; rooms and allowances
-//! are each call's own.
+//! Random rounds. A round is one table in one setting and under one sheet, handed to all routines that take a table, or a text;
+//! rooms and allowances are each call's own.
 
 pub mod damage;
 pub mod draft;
 pub mod misprint;
 pub mod rule;
 pub mod setting;
+pub mod sheet;
 pub mod table;
 pub mod typed;
 
@@ -45,7 +46,12 @@ pub fn round(random: &mut Random, number: u64) -> Vec<Case> {
             damage::setting(random, &mut setting, &draft, aim);
         }
     }
-    cases(random, &draft, table, setting)
+    let mut sheet = sheet::of_table(random, &table);
+    let damaged = [6, 30, 25, 0][number as usize % 4];
+    while random.chance(damaged) {
+        sheet::damage(random, &mut sheet);
+    }
+    cases(random, &draft, table, sheet, setting)
 }
 
 /// The operators; twice and more those that one operand can settle. Their count is odd, so that each meets every kind of round.
@@ -91,7 +97,8 @@ fn large(random: &mut Random, turn: u64) -> Vec<Case> {
         let aim = random.between(1, 14);
         damage::table(random, &mut table, aim);
     }
-    let mut cases = cases(random, &draft, table, setting);
+    let sheet = sheet::of_table(random, &table);
+    let mut cases = cases(random, &draft, table, sheet, setting);
     if turn < 9 || random.chance(50) {
         for case in &mut cases {
             case.room = case.room.max(needed(&draft, case.routine));
@@ -132,11 +139,12 @@ fn typed(random: &mut Random, number: u64) -> Case {
     Case::parse(text, room)
 }
 
-/// A table that was parsed, in some setting.
+/// A table that was parsed, in some setting and under some sheet.
 pub fn of_table(random: &mut Random, table: &[u32]) -> Vec<Case> {
     let draft = Draft::of_table(random, table);
     let setting = setting::whole(random, &draft);
-    cases(random, &draft, table.to_vec(), setting)
+    let sheet = sheet::of_table(random, table);
+    cases(random, &draft, table.to_vec(), sheet, setting)
 }
 
 /// The numbers that the room of a call needs, or the bytes.
@@ -157,10 +165,11 @@ fn printed(draft: &Draft) -> usize {
     table.map_or(0, |table| printing::text(&table, Flaw::None).len())
 }
 
-fn cases(random: &mut Random, draft: &Draft, table: Vec<u32>, setting: setting::Setting) -> Vec<Case> {
+fn cases(random: &mut Random, draft: &Draft, table: Vec<u32>, sheet: Vec<u32>, setting: setting::Setting) -> Vec<Case> {
     let case = |routine: Routine| Case {
         routine,
         table: table.clone(),
+        sheet: sheet.clone(),
         text: vec![],
         values: setting.values.clone(),
         cells: setting.cells.clone(),

@@ -4,10 +4,11 @@ use super::admission::Table;
 use super::flaw::Flaw;
 use super::term::*;
 use super::values::Values;
+use std::collections::BTreeMap;
 
-/// The truths of the terms' conditions; false for a store, which has none.
-pub fn conditions(table: &Table, values: &Values, flaw: Flaw) -> Vec<bool> {
-    let mut conditions = Conditions { table, values, c: Vec::new(), flaw };
+/// The truths of the terms' conditions, the inputs being marked as `marks` says; false for a store, which has none.
+pub fn conditions(table: &Table, marks: &BTreeMap<u32, bool>, values: &Values, flaw: Flaw) -> Vec<bool> {
+    let mut conditions = Conditions { table, marks, values, c: Vec::new(), flaw };
     for term in &table.terms {
         let truth = conditions.condition(term);
         conditions.c.push(truth);
@@ -30,6 +31,8 @@ pub fn settles_less(table: &Table, less: &Term, flaw: Flaw) -> (u32, [u64; 2]) {
 
 struct Conditions<'a> {
     table: &'a Table,
+    /// By slot.
+    marks: &'a BTreeMap<u32, bool>,
     values: &'a Values<'a>,
     c: Vec<bool>,
     flaw: Flaw,
@@ -47,7 +50,7 @@ impl Conditions<'_> {
         let ones = (1u64 << t.n) - 1;
         match t.op {
             CONSTANT => true,
-            VARIABLE => t.q == 0,
+            VARIABLE => !self.marks[&p],
             STORE => false,
             NOT | VECTOR_NOT | NEGATE => self.of(p),
             EQUAL | SUM | SUBTRACT => self.of(p) && self.of(q),

@@ -95,9 +95,31 @@ pub enum Flaw {
     ReservedUndeclared,
     /// 21 before 1 to 10.
     RoomFirst,
+    /// Judging by the table's marks, whatever the sheet says.
+    TableMarks,
+    /// A slot in mark and keep lines is not marked.
+    KeepWins,
+    /// Of the lines that name a slot the first decides.
+    FirstLine,
+    /// The last slot of a line that names several is not named by it.
+    LastSlotLeftOut,
+    /// A slot that no line of a sheet names is not marked.
+    UnnamedUnmarked,
+    /// 16 at the highest faulty line.
+    HighestLine,
+    /// A last line that is cut short is not looked at.
+    CutUnseen,
+    /// A line of slots that no variable uses is not looked at.
+    UsedLinesOnly,
+    /// 16 after 11.
+    SheetAfterCells,
+    /// 16 before 1 to 10.
+    SheetFirst,
+    /// 8 by the marks that hold.
+    ClashBySheet,
 }
 
-pub const FLAWS: [(&str, Flaw); 46] = [
+pub const FLAWS: [(&str, Flaw); 57] = [
     ("joins-indexes", Flaw::JoinsIndexes),
     ("shifts-modulo", Flaw::ShiftsModulo),
     ("factor-alone", Flaw::FactorAlone),
@@ -144,4 +166,15 @@ pub const FLAWS: [(&str, Flaw); 46] = [
     ("count-before-depth", Flaw::CountBeforeDepth),
     ("reserved-undeclared", Flaw::ReservedUndeclared),
     ("room-first", Flaw::RoomFirst),
+    ("table-marks", Flaw::TableMarks),
+    ("keep-wins", Flaw::KeepWins),
+    ("first-line", Flaw::FirstLine),
+    ("last-slot-left-out", Flaw::LastSlotLeftOut),
+    ("unnamed-unmarked", Flaw::UnnamedUnmarked),
+    ("highest-line", Flaw::HighestLine),
+    ("cut-unseen", Flaw::CutUnseen),
+    ("used-lines-only", Flaw::UsedLinesOnly),
+    ("sheet-after-cells", Flaw::SheetAfterCells),
+    ("sheet-first", Flaw::SheetFirst),
+    ("clash-by-sheet", Flaw::ClashBySheet),
 ];

@@ -1,5 +1,5 @@
-//! A second evaluator, written from the papers alone and for plainness: admitting, finishing, evaluating, judging, printing,
-//! parsing.
+//! A second evaluator, written from the papers alone and for plainness: admitting, finishing, evaluating, judging under a mark
+//! sheet, printing, parsing.
 
 pub mod admission;
 pub mod conditions;
@@ -8,6 +8,7 @@ pub mod flaw;
 pub mod parsing;
 pub mod printing;
 pub mod setting;
+pub mod sheets;
 pub mod term;
 pub mod values;
 pub mod words;
@@ -95,12 +96,23 @@ impl Reference {
         Ok(Outcome { numbers: vec![steps, case.allowance - steps], front, ..Outcome::default() })
     }
 
+    /// The table is admitted by its own marks, and its conditions go by those that hold under the sheet.
     fn judge(&self, case: &Case) -> Result<Outcome, Refusal> {
-        let table = admission::admit(&case.table, case.routine.limit(), self.flaw)?;
+        if self.flaw == Flaw::SheetFirst {
+            sheets::check(None, &case.sheet, self.flaw)?;
+        }
+        let table = match self.flaw {
+            Flaw::ClashBySheet => admission::admit(&sheets::applied(&case.table, &case.sheet), case.routine.limit(), self.flaw)?,
+            _ => admission::admit(&case.table, case.routine.limit(), self.flaw)?,
+        };
+        if !(self.flaw == Flaw::SheetAfterCells && case.cells.len() % 3 != 0) {
+            sheets::check(Some(&table), &case.sheet, self.flaw)?;
+        }
         setting::check(&table, &case.values, &case.cells, self.flaw)?;
         let inputs = setting::interpret(&table, &case.values, &case.cells, self.flaw);
         let values = values::values(&table, &inputs, self.flaw);
-        let conditions = conditions::conditions(&table, &values, self.flaw);
+        let marks = sheets::marks(&table, &case.sheet, self.flaw);
+        let conditions = conditions::conditions(&table, &marks, &values, self.flaw);
         let steps = self.steps(&table, &values);
         let mut front = numbers(&table, &values);
         front.extend(conditions.iter().map(|&c| u32::from(c)));

@@ -1,0 +1,6 @@
+(declare-const gauge (_ BitVec 8))
+(declare-const x1 (_ BitVec 8))
+(declare-const basis (_ BitVec 8))
+(declare-const sampled Bool)
+(assert (ite sampled (bvult basis #b01011010) (bvult (bvadd gauge x1) #b01011010)))
+(check-sat)

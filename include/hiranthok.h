@@ -35,7 +35,7 @@
  *    4  or        operand      operand                Boolean            p, q Boolean
  *    5  =>        operand      operand                Boolean            p, q Boolean
  *    6  =         operand      operand                Boolean            p, q of one sort, Boolean or vector
- *    7  ite       test         then         else      Boolean or vector  p Boolean; q, r of the term's sort
+ *    7  ite       test         then         else      any sort           p Boolean; q, r of the term's sort
  *    8  bvnot     operand                             vector             p of the term's sort
  *    9  bvand     operand      operand                vector             p, q of the term's sort
  *   10  bvor      operand      operand                vector             p, q of the term's sort
@@ -44,7 +44,7 @@
  *   13  bvshl     operand      amount                 vector             p, q of the term's sort; 0 where the amount is n or more
  *   14  bvult     operand      operand                Boolean            p, q of one vector sort; unsigned
  *   15  select    array        index                  vector n           p array (m, n), q vector m; the term's own m is 0
- *   16  store     array        index        value     array (m, n)       p of the term's sort, q vector m, r vector n; 16 at most
+ *   16  store     array        index        value     array (m, n)       p of the term's sort, q vector m, r vector n
  *   17  bvneg     operand                             vector             p of the term's sort
  *   18  bvsub     operand      operand                vector             p, q of the term's sort
  *   19  bvslt     operand      operand                Boolean            p, q of one vector sort; signed
@@ -65,7 +65,7 @@
  *   6 sorts not as the operator asks               16 a faulty line of the sheet: kind, ends, a slot over 255, cut short
  *   7 a constant, slot or mark too large           21 the table's room is too short (place: terms needed)
  *   8 one slot with two sorts or marks             22 the work room is too short (place: numbers needed)
- *   9 a 17th store in a chain                      23 the allowance is below the table's steps (place: steps needed)
+ *   9 an array of a size over 16                   23 the allowance is below the table's steps (place: steps needed)
  *  10 the last term is not Boolean                 24 the text room is too short (place: bytes needed)
  *
  *  31 an unexpected byte, word or end; a width of 0 or over 32; a reserved word or an operator for a name
@@ -92,7 +92,7 @@
 #define HIRANTHOK_VERSION_MAJOR 0
 #define HIRANTHOK_VERSION_MINOR 15
 #define HIRANTHOK_VERSION_PATCH 0
-#define HIRANTHOK_VERSION "0.15.0"
+#define HIRANTHOK_VERSION "0.16.0"
 
 /* The numbers of a term, of a cell and of a sheet's line. */
 #define HIRANTHOK_TERM_WORDS 6
@@ -146,9 +146,9 @@ uint32_t hiranthok_evaluate(const uint32_t *table, size_t table_len, const uint3
 
 /* Whether the rule is true in the setting, and whether its condition is: where both are, the rule is true whatever fitting values the
  * inputs take that are marked under the sheet. Writes the n values and then the n truths of the terms' conditions under the sheet (1
- * or 0; 0 for a store) to the front of work; its rest is untouched. Refuses 1 to 16, 22 (two numbers a term), 23. Results: rule,
- * condition (1 or 0), the steps spent, the allowance left. Who brings no sheet passes hiranthok_row(NULL), 0: the table's marks
- * hold. */
+ * or 0; 0 for a store or a choice of arrays) to the front of work; its rest is untouched. Refuses 1 to 16, 22 (two numbers a
+ * term), 23. Results: rule, condition (1 or 0), the steps spent, the allowance left. Who brings no sheet passes
+ * hiranthok_row(NULL), 0: the table's marks hold. */
 uint32_t hiranthok_judge(const uint32_t *table, size_t table_len, const uint32_t *sheet, size_t sheet_len,
                          const uint32_t *values, size_t values_len, const uint32_t *cells, size_t cells_len,
                          uint64_t allowance, uint32_t *work, size_t work_len, uint64_t answer[4]);
@@ -227,7 +227,7 @@ static inline const char *hiranthok_refusal_text(uint32_t number)
     case 6: return "the sorts are not as the operator asks";
     case 7: return "a constant is too wide, a slot over 255 or a mark over 1";
     case 8: return "an earlier variable has this slot with another sort or mark";
-    case 9: return "a 17th store in a chain";
+    case 9: return "an array of a size over 16";
     case 10: return "the last term, the rule, is not Boolean";
     case 11: return "the cells have not three numbers each";
     case 12: return "the variable's slot is outside the values";

@@ -2,7 +2,7 @@
 
 /// The version of the interface: hiranthok.h says what its numbers mean.
 #[allow(dead_code)]
-pub const VERSION: &str = "0.15.0";
+pub const VERSION: &str = "0.16.0";
 
 /// The limits, and the rooms' sizes in numbers: the macros of hiranthok.h.
 #[allow(dead_code)]

@@ -2,7 +2,7 @@
 mod clashes; // refusal 8
 mod faults; // refusals 3 to 9, term by term
 
-pub use faults::chain;
+pub use faults::size;
 use table::Acceptance;
 use table::WORDS;
 use table::boolean;

@@ -3,7 +3,7 @@
 use mathlib.Core.Path.{_≡_, refl}
 use mathlib.Core.List.{List, [], _∷_}
 use Prim.Native.Nat.{ℕ}
-use Rattle.table.specs.Faults.{typed, clash, chain, faultIf, fault}
+use Rattle.table.specs.Faults.{typed, clash, sizeWithin, faultIf, fault}
 use Rattle.table.specs.Folds.{anyBelow, firstFrom}
 use Rattle.table.specs.Admission.{refused, scan, admissionWithin, admission}
 use Rattle.setting.specs.Arrays.{arrayEntry, slotSort}
@@ -18,7 +18,7 @@ slot : List ℕ
 slot = 1 ∷ 0 ∷ 8 ∷ 300 ∷ 0 ∷ 0 ∷ []
 
 slot-refused : admission slot ≡ refused 7 0
-unfolding slot admissionWithin scan fault faultIf typed clash anyBelow chain
+unfolding slot admissionWithin scan fault faultIf typed clash anyBelow sizeWithin
 slot-refused = refl
 
 slot-told : diagnosis slot [] [] [] 0 7 0 ≡ plain 15 300 0
@@ -30,7 +30,7 @@ sorts : List ℕ
 sorts = 1 ∷ 0 ∷ 8 ∷ 0 ∷ 0 ∷ 0 ∷ 3 ∷ 0 ∷ 0 ∷ 0 ∷ 0 ∷ 0 ∷ []
 
 sorts-refused : admission sorts ≡ refused 6 1
-unfolding sorts admissionWithin scan fault faultIf typed clash anyBelow chain
+unfolding sorts admissionWithin scan fault faultIf typed clash anyBelow sizeWithin
 sorts-refused = refl
 
 sorts-told : diagnosis sorts [] [] [] 0 6 1 ≡ record { reason = 10; part = 1; a = 0; b = 0; c = 0; d = 0; found = vectorSort 8; asked = booleanSort }
@@ -47,7 +47,7 @@ clashing : List ℕ
 clashing = 1 ∷ 0 ∷ 8 ∷ 2 ∷ 0 ∷ 0 ∷ 1 ∷ 0 ∷ 8 ∷ 2 ∷ 0 ∷ 0 ∷ 1 ∷ 0 ∷ 0 ∷ 2 ∷ 0 ∷ 0 ∷ []
 
 clashing-refused : admission clashing ≡ refused 8 2
-unfolding clashing admissionWithin scan fault faultIf typed clash anyBelow chain
+unfolding clashing admissionWithin scan fault faultIf typed clash anyBelow sizeWithin
 clashing-refused = refl
 
 clashing-told : diagnosis clashing [] [] [] 0 8 2 ≡ record { reason = 17; part = 0; a = 0; b = 2; c = 0; d = 0; found = vectorSort 8; asked = booleanSort }

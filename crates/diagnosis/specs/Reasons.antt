@@ -113,8 +113,8 @@ abbrev pub firstClashing : List ℕ → ℕ → ℕ
 firstClashing t i = firstFrom (clashing t (termAt t i)) i 0
 
 -- 9
-abbrev pub chainLines : List ℕ → ℕ → List Line
-chainLines t i = line (leb (size t i) 16) (plain 19 0 0) ∷ []
+abbrev pub sizeLines : List ℕ → ℕ → List Line
+sizeLines t i = line (leb (size t i) 16) (plain 19 (size t i) 0) ∷ []
 
 -- 10
 abbrev pub ruleLines : List ℕ → ℕ → List Line
@@ -171,7 +171,7 @@ termReasons t number i =
     (cond (eqb number 6) (sortLines (asks (rank x)) t i x)
     (cond (eqb number 7) (valueLines x)
     (cond (eqb number 8) (clashLines (firstClashing t i) (termAt t (firstClashing t i)) x)
-    (cond (eqb number 9) (chainLines t i)
+    (cond (eqb number 9) (sizeLines t i)
     (ruleLines t i)))))))
 
 unfoldable pub settingReasons : List ℕ → List ℕ → List ℕ → ℕ → ℕ → ℕ → List Line

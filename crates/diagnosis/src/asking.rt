@@ -81,12 +81,7 @@ fn asks_of(rank: Rank) -> Asks
         Rank::BoolUnary => four(bool0, bool1, none, none),
         Rank::BoolBinary => four(bool0, bool1, of(2, Asking::ABool), none),
         Rank::Equality => four(bool0, of(1, Asking::NoArray), first2, none),
-        Rank::Choice => four(
-            of(0, Asking::NoArray),
-            bool1,
-            term2,
-            of(3, Asking::TermSort),
-        ),
+        Rank::Choice => four(bool1, term2, of(3, Asking::TermSort), none),
         Rank::BvUnary => four(of(0, Asking::AVector), term1, none, none),
         Rank::BvBinary => four(of(0, Asking::AVector), term1, term2, none),
         Rank::BvCompare => four(bool0, of(1, Asking::AVector), first2, none),

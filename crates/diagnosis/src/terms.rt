@@ -7,7 +7,7 @@ ghost use Rattle.table.specs.Faults.{fields, isVariable, conflicts};
 ghost use Rattle.table.specs.Folds.{firstFrom};
 ghost use Rattle.diagnosis.specs.Telling.{tell, unless};
 ghost use Rattle.diagnosis.specs.Reasons.{opLines, widthLines, uses, right, fieldTold, fieldLines, most};
-ghost use Rattle.diagnosis.specs.Reasons.{valueLines, clashing, clashLines, firstClashing, chainLines, ruleLines};
+ghost use Rattle.diagnosis.specs.Reasons.{valueLines, clashing, clashLines, firstClashing, sizeLines, ruleLines};
 ghost use Rattle.diagnosis.specs.Reasons.{termReasons};
 use crate::asking::sort_told;
 use crate::told::Diagnosis;
@@ -204,10 +204,11 @@ fn clashing_told(table: &[u32], i: u32, x: Term) -> Diagnosis
 }
 
 // 9
-fn chain_told(table: &[u32], i: u32) -> Diagnosis
-    ensures { λ r. ⌜ r ≡ tell (chainLines (now (table .entry)) i) ⌝ }
+fn size_told(table: &[u32], i: u32) -> Diagnosis
+    ensures { λ r. ⌜ r ≡ tell (sizeLines (now (table .entry)) i) ⌝ }
 {
-    unless(admission::chain(table, i) <= 16, plain(19, 0, 0), nothing())
+    let size = admission::size(table, i);
+    unless(size <= 16, plain(19, size as u64, 0), nothing())
 }
 
 // 10
@@ -242,7 +243,7 @@ pub fn term_told(table: &[u32], number: u32, i: u32) -> Diagnosis
         return clashing_told(table, i, x);
     }
     if number == 9 {
-        return chain_told(table, i);
+        return size_told(table, i);
     }
     rule_told(table, i)
 }

@@ -57,7 +57,7 @@ module _ (v : ℕ → Value) (x : Term) (width width′ : ℕ) (val : ℕ → Va
   applied-value I Constant c s h = never (sym c)
   applied-value I Variable c s h = never (sym s)
   applied-value I (Apply f) c s h = ap scalarValue (function-value (operation f) (functionRank f) h)
-  applied-value I Ite c s (n, p, q, r) = λ i. scalarValue (cond (holds (p i .num)) (q i .num) (r i .num))
+  applied-value I Ite c s (n, p, q, r) = λ i. cond (holds (p i .num)) (q i) (r i)
   applied-value I Select c s (n, p, q) = λ i. scalarValue (p i .cell (q i .num))
   applied-value I Store c s (n, p, q, r) = λ i. arrayValue (λ j. cond (eqb (q i .num) j) (r i .num) (p i .cell j))
   applied-value I Unknown c s h = refl

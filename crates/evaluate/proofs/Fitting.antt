@@ -11,7 +11,7 @@ use borrow.Author.Tests.{eqb-true, ltb-true, lt-ltb}
 use Rattle.ops.specs.declared.Op.{Op}
 use Rattle.ops.specs.declared.Op.the-variants.{Constant, Variable, Apply, Ite, Select, Store, Unknown}
 use Rattle.ops.specs.Numbers.{opOf}
-use Rattle.ops.specs.Meaning.{apply}
+use Rattle.ops.specs.Meaning.{apply, holds}
 use Rattle.ops.specs.Fits.{fits}
 use Rattle.ops.specs.declared.Function.{Function}
 use Rattle.ops.specs.Ranks.{Arity, FunctionRank, functionRank, rankWidth}
@@ -96,15 +96,18 @@ module _ (I : Interpretation) (v : ℕ → Value) (t : Term) (i : ℕ) (a b c : 
       scalar-fit (t .sort) _ k
       (subst (λ (n : ℕ). fits n (apply op (a .n) (v (t .p) .num) (v (t .q) .num) (v (t .r) .num)) ≡ true) e (fitting op (a .n) (b .n) (v (t .p) .num) (v (t .q) .num) (v (t .r) .num) h))
 
-  choice-fit : scalar (t .sort) && boolean a && sameSort b (t .sort) && sameSort c (t .sort) ≡ true → (t .p < i) × (t .q < i) × (t .r < i) → Fit (t .sort) (scalarValue (apply Ite (a .n) (v (t .p) .num) (v (t .q) .num) (v (t .r) .num)))
+  -- the value of either branch fits, since it has the term's sort
+  same-fit : (s : Sort) (u : Value) → sameSort s (t .sort) ≡ true → Fit s u → Fit (t .sort) u
+  same-fit s u h g = let e = same-sort s (t .sort) h in subst (λ (z : Sort). Fit z u) (λ k. record { m = e .m k; n = e .n k }) g
+
+  cond-fit : (z : Bool) (u u′ : Value) → Fit (t .sort) u → Fit (t .sort) u′ → Fit (t .sort) (cond z u u′)
+  cond-fit true u u′ g g′ = g
+  cond-fit false u u′ g g′ = g′
+
+  choice-fit : boolean a && sameSort b (t .sort) && sameSort c (t .sort) ≡ true → (t .p < i) × (t .q < i) × (t .r < i) → Fit (t .sort) (cond (holds (v (t .p) .num)) (v (t .q)) (v (t .r)))
   choice-fit h place =
-      let parts = four (scalar (t .sort)) (boolean a) (sameSort b (t .sort)) (sameSort c (t .sort)) h in
-      let bs = same-sort b (t .sort) (parts .2) in
-      let cs = same-sort c (t .sort) (parts .3) in
-      let b-scalar : scalar b ≡ true = ap (λ (m : ℕ). eqb m 0) (bs .m) ∙ parts .0 in
-      let c-scalar : scalar c ≡ true = ap (λ (m : ℕ). eqb m 0) (cs .m) ∙ parts .0 in
-      operated-fit Ite (parts .0) (bs .n)
-      (λ z. (q-fit (place .1) .num b-scalar, subst (λ (n : ℕ). fits n (v (t .r) .num) ≡ true) (cs .n ∙ sym (bs .n)) (r-fit (place .2) .num c-scalar)))
+      let parts = three (boolean a) (sameSort b (t .sort)) (sameSort c (t .sort)) h in
+      cond-fit (holds (v (t .p) .num)) (v (t .q)) (v (t .r)) (same-fit b (v (t .q)) (parts .1) (q-fit (place .1))) (same-fit c (v (t .r)) (parts .2) (r-fit (place .2)))
 
   -- a vector of a width that is not 0 is below the power
   vector-below : (w : ℕ) (s : Sort) (u : Value) → (w ≡ 0 → ⊥) → vectorOf w s ≡ true → Fit s u → u .num < 2 ^ w

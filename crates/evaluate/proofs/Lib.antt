@@ -1,4 +1,4 @@
-pub mod Chains
+pub mod Trees
 pub mod Folds
 pub mod Sums
 pub mod Answers

@@ -17,9 +17,8 @@ use Rattle.setting.specs.Interpretation.{Interpretation, interpret}
 use Rattle.evaluate.specs.declared.reads.Found.{Found}
 use Rattle.evaluate.specs.declared.turns.Turn.{Turn}
 use Rattle.evaluate.specs.Values.{numbers}
-use Rattle.evaluate.specs.Code.Reads.{foundAt, bottomAt}
+use Rattle.evaluate.specs.Code.Reads.{foundAt}
 use Rattle.evaluate.specs.Code.Turns.{told, turnBy, turnOf}
-use Rattle.evaluate.proofs.Chains.{found-slot}
 use Rattle.evaluate.proofs.Meaning.{valueRead}
 
 -- what a turn at term i of n says of itself, with so many cells
@@ -63,11 +62,11 @@ inCells row cells count = interpret row (λ slot j other. lookFrom cells count 0
 abbrev pub looked : (ℕ → Cell) → Turn → ℕ
 looked cells t = lookFrom cells (t .count) 0 (t .slot) (t .index) (t .other)
 
-looked-by : (cells : ℕ → Cell) (stored : Bool) (number : ℕ) (row : List ℕ) (on : Bool) (i count index slot : ℕ) → (stored ≡ false → number ≡ slot)
-    → looked cells (turnBy stored number row on i count index) ≡ cond stored number (lookFrom cells count 0 slot index (getD row slot 0))
+looked-by : (cells : ℕ → Cell) (stored : Bool) (number : ℕ) (row : List ℕ) (on : Bool) (i count index : ℕ)
+    → looked cells (turnBy stored number row on i count index) ≡ cond stored number (lookFrom cells count 0 number index (getD row number 0))
 unfolding lookFrom
-looked-by cells true number row on i count index slot h = refl
-looked-by cells false number row on i count index slot h = ap (λ (s : ℕ). lookFrom cells count 0 s index (getD row s 0)) (h refl)
+looked-by cells true number row on i count index = refl
+looked-by cells false number row on i count index = refl
 
 -- the answer to a read is its value
 pub answer-is : (limit : ℕ) (w row : List ℕ) (cells : ℕ → Cell) (count n : ℕ) (f : WellFormed limit w) (i : ℕ) (b : i < terms w) (turn : Turn) → turn ≡ turnOf w row count n (numbers w (inCells row cells count) i) i
@@ -78,7 +77,7 @@ answer-is limit w row cells count n f i b turn asks answer answered r =
     let index = getD front (x .q) 0 in
     answered
     ∙ ap (looked cells) (asks ∙ asks-is w row front count n i r)
-    ∙ looked-by cells (foundAt w front (x .p) index .stored) (foundAt w front (x .p) index .number) row (ltb i n) i count index (bottomAt w (x .p)) (found-slot w front (x .p) index)
+    ∙ looked-by cells (foundAt w front (x .p) index .stored) (foundAt w front (x .p) index .number) row (ltb i n) i count index
 
 -- roomAt i is what the room holds before term i of n, turnAt i what that term asks
 module _ (n : ℕ) (roomAt : ℕ → List ℕ) (turnAt : ℕ → Turn) where

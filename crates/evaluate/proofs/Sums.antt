@@ -8,29 +8,21 @@ use native.Mathlib.Numerals.{add-one}
 use native.Mathlib.Omega.{arith}
 use Rattle.table.specs.declared.words.Term.{Term}
 use Rattle.table.specs.Terms.{termAt}
-use Rattle.table.specs.Faults.{isStore, isRead, chain, size}
+use Rattle.table.specs.Faults.{isRead, size}
+use Rattle.table.proofs.Sizes.{size-below}
 use Rattle.evaluate.specs.Steps.{stepsOf, steps}
 
-pub chain-most : (f : ℕ) (w : List ℕ) (k : ℕ) → chain f w k ≤ f
-unfolding chain
-chain-most zero w k = omega arith
-chain-most (suc f) w k = go (isStore (termAt w k)) (chain-most f w (termAt w k .p))
-  where
-    go : (b : Bool) → chain f w (termAt w k .p) ≤ f → cond b (suc (chain f w (termAt w k .p))) 0 ≤ suc f
-    go true h = omega arith
-    go false h = omega arith
-
-pub steps-of-most : (w : List ℕ) (x : Term) → stepsOf w x ≤ 17
+pub steps-of-most : (w : List ℕ) (x : Term) → stepsOf w x ≤ 131072
 steps-of-most w x = go (isRead x)
   where
-    go : (b : Bool) → cond b (size w (x .p)) 0 ≤ 17
-    go true = chain-most 17 w (x .p)
+    go : (b : Bool) → cond b (size w (x .p)) 0 ≤ 131072
+    go true = let b : size w (x .p) < 131072 = size-below 17 w (x .p) in omega arith
     go false = omega arith
 
 -- the sum has come to term i of n
 pub record Summed (w : List ℕ) (n sum i : ℕ) : Type 0 where
   pub within : i ≤ n
-  pub small : sum ≤ 17 * i
+  pub small : sum ≤ 131072 * i
   pub is : sum ≡ steps w i
 
 pub none-yet : (w : List ℕ) (n : ℕ) → Summed w n 0 0

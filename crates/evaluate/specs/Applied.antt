@@ -5,7 +5,7 @@ use Prim.Native.Nat.{ℕ}
 use lib.Dec.{eqb}
 use Rattle.ops.specs.declared.Op.{Op}
 use Rattle.ops.specs.declared.Op.the-variants.{Constant, Variable, Apply, Ite, Select, Store, Unknown}
-use Rattle.ops.specs.Meaning.{apply}
+use Rattle.ops.specs.Meaning.{apply, holds}
 use Rattle.table.specs.declared.words.Sort.{Sort}
 use Rattle.table.specs.Terms.{scalar}
 use Rattle.setting.specs.Interpretation.{Value}
@@ -16,7 +16,7 @@ abbrev pub applied : Op → ℕ → (ℕ → Value) → Value
 applied Constant n v = scalarValue 0
 applied Variable n v = scalarValue 0
 applied (Apply f) n v = scalarValue (apply (Apply f) n (v 0 .num) (v 1 .num) (v 2 .num))
-applied Ite n v = scalarValue (apply Ite n (v 0 .num) (v 1 .num) (v 2 .num))
+applied Ite n v = cond (holds (v 0 .num)) (v 1) (v 2)
 applied Select n v = scalarValue (v 0 .cell (v 1 .num))
 applied Store n v = arrayValue (λ j. cond (eqb (v 1 .num) j) (v 2 .num) (v 0 .cell j))
 applied Unknown n v = scalarValue 0

@@ -1,11 +1,11 @@
--- Steps: paper 01, "A setting". Those of a read are the stores in its whole chain, of which an admitted table has at most 16.
+-- Steps: paper 01, "A setting"; paper 02, request 07. Those of a read are the size of its whole array, at most 16.
 -- Assumes nothing.
 use mathlib.Core.Bool.{cond}
 use mathlib.Core.List.{List}
 use Prim.Native.Nat.{ℕ, zero, suc, _+_}
 use Rattle.table.specs.declared.words.Term.{Term}
 use Rattle.table.specs.Terms.{termAt}
-use Rattle.table.specs.Faults.{isRead, chain, size}
+use Rattle.table.specs.Faults.{isRead, size}
 
 -- the steps of a term: none but for a read
 abbrev pub stepsOf : List ℕ → Term → ℕ

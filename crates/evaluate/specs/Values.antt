@@ -8,7 +8,7 @@ use lib.ListN.{getD}
 use Rattle.ops.specs.declared.Op.{Op}
 use Rattle.ops.specs.declared.Op.the-variants.{Constant, Variable, Apply, Ite, Select, Store, Unknown}
 use Rattle.ops.specs.Numbers.{opOf}
-use Rattle.ops.specs.Meaning.{apply}
+use Rattle.ops.specs.Meaning.{apply, holds}
 use Rattle.table.specs.declared.words.Term.{Term}
 use Rattle.table.specs.Folds.{fold}
 use Rattle.table.specs.Terms.{termAt, sortAt}
@@ -30,7 +30,8 @@ module _ (I : Interpretation) (v : ℕ → Value) (width : ℕ) (t : Term) where
   valueBy Constant = scalarValue (t .p)
   valueBy Variable = cond (eqb (t .sort .m) 0) (scalarValue (I (t .p) .num)) (arrayValue (I (t .p) .cell))
   valueBy (Apply f) = operated (Apply f)
-  valueBy Ite = operated Ite
+  -- of every sort: the branch that the test picks
+  valueBy Ite = cond (holds (v (t .p) .num)) (v (t .q)) (v (t .r))
   valueBy Select = scalarValue (v (t .p) .cell (v (t .q) .num))
   valueBy Store = arrayValue (λ j. cond (eqb (v (t .q) .num) j) (v (t .r) .num) (v (t .p) .cell j))
   valueBy Unknown = scalarValue 0

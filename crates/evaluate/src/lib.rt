@@ -1,11 +1,10 @@
 // Evaluating a table in a setting (paper 01, "Results"; 22 and 23).
-mod reads; // a read along its chain
+mod reads; // a read along its array
 mod room; // filling the work room
 mod spend; // steps, the room's length and the allowance
 mod turns; // the terms: which cell one asks for, and its value
 
 pub use reads::Found;
-pub use reads::bottom;
 pub use reads::find;
 pub use spend::afford;
 use table::Acceptance;

@@ -10,12 +10,12 @@ use crate::Spent;
 use table::Refusal;
 use table::Term;
 
-// The steps of a term: the stores in a read's whole chain.
+// The steps of a term: of a read the size of its whole array.
 fn steps_of(table: &[u32], x: Term) -> u32
     ensures { λ r. ⌜ r ≡ stepsOf (now (table .entry)) x ⌝ }
 {
     if table::is_read(x) {
-        admission::chain(table, x.p)
+        admission::size(table, x.p)
     } else {
         0
     }

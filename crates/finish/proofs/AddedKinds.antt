@@ -13,18 +13,18 @@ use Rattle.ops.specs.Numbers.{opOf}
 use Rattle.ops.proofs.Booleans.{and-parts, or-neither}
 use Rattle.table.specs.declared.words.Term.{Term}
 use Rattle.table.specs.Folds.{fold}
-use Rattle.table.specs.Terms.{terms, termAt, sortAt}
+use Rattle.table.specs.Terms.{terms, termAt, sortAt, array}
 use Rattle.table.specs.Faults.{isVariable, isStore}
 use Rattle.table.proofs.FoldLaws.{length-fold}
 use Rattle.sheets.specs.Marks.{ownMarks}
 use Rattle.groups.specs.declared.kinds.GroupKind.{GroupKind}
 use Rattle.groups.specs.declared.kinds.GroupKind.the-variants.{Literal, Input, Unary, Strict, Conjunction, Disjunction, Implication, Zero, Ones, Bounds, SignedBounds, Fixed, Shift, Choice, Read, Write}
 use Rattle.groups.specs.Added.{andT, constantT}
-use Rattle.groups.specs.Groups.{storeGroup}
+use Rattle.groups.specs.Groups.{storeGroup, arrayChoiceGroup}
 use Rattle.groups.specs.FunctionGroups.{kindOf}
-use Rattle.groups.specs.Plans.{Plan, lastOf, taken, cq, cr, planBy, planIn, planOf, groups, next, plans, planAt}
+use Rattle.groups.specs.Plans.{Plan, lastOf, taken, cp, cq, cr, planBy, planIn, planOf, groups, next, plans, planAt}
 use Rattle.finish.specs.Finished.{conditionNumber, added}
-use Rattle.groups.proofs.GroupSizes.{plan-below, groups-more}
+use Rattle.groups.proofs.GroupSizes.{choicePlan, plan-below, groups-more}
 
 -- none of the terms is a variable or a store
 unfoldable quiet : List Term → Bool
@@ -55,6 +55,19 @@ unfolding quiet
 quiet-taken c = record { whole = refl; read = λ s j cj. refl }
 
 module _ (marked : Term → Bool) (yes no : ℕ) (plan : ℕ → Plan) (b width : ℕ) (t : Term) (before : (i : ℕ) → Quiet (plan i)) where
+  quiet-choice : (z : Bool) → Quiet (choicePlan marked yes no plan b width t z)
+  unfolding quiet
+  quiet-choice true =
+      record {
+        whole = refl;
+        read = λ s j cj.
+            let q : List Term = plan (t .q) .readGroup s j cj in
+            let r : List Term = plan (t .r) .readGroup (s + length q) j cj in
+            let eight : List Term = arrayChoiceGroup (s + length q + length r) (t .sort .n) (t .p) (t .q) (t .r) j (cp marked yes no plan b width t) (lastOf s q) (lastOf (s + length q) r) in
+            quiet-append q (r ++ eight) (before (t .q) .read s j cj) (quiet-append r eight (before (t .r) .read (s + length q) j cj) refl);
+      }
+  quiet-choice false = record { whole = refl; read = λ s j cj. refl }
+
   quiet-by : (kind : GroupKind) → Quiet (planBy marked yes no plan b width t kind)
   unfolding planBy quiet
   quiet-by Literal = record { whole = refl; read = λ s j cj. refl }
@@ -70,7 +83,7 @@ module _ (marked : Term → Bool) (yes no : ℕ) (plan : ℕ → Plan) (b width 
   quiet-by SignedBounds = record { whole = refl; read = λ s j cj. refl }
   quiet-by Fixed = record { whole = refl; read = λ s j cj. refl }
   quiet-by Shift = record { whole = refl; read = λ s j cj. refl }
-  quiet-by Choice = record { whole = refl; read = λ s j cj. refl }
+  quiet-by Choice = quiet-choice (array (t .sort))
   quiet-by Read = record { whole = before (t .p) .read b (t .q) (cq marked yes no plan b width t); read = λ s j cj. refl }
   quiet-by Write =
       record {

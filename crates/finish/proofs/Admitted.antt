@@ -1,8 +1,8 @@
 -- A finished table is one that evaluate admits: every term of the table stays sound, and every added one is.
 -- Assumes nothing.
-use mathlib.Core.Path.{_≡_, refl, sym, ap, subst, _∙_}
+use mathlib.Core.Path.{_≡_, refl, sym, ap, ap₂, subst, _∙_}
 use mathlib.Core.Bool.{Bool, true, false, cond, _&&_}
-use mathlib.Core.List.{List, []}
+use mathlib.Core.List.{List, _++_}
 use Prim.Native.Nat.{ℕ, zero, suc, pred, _+_, _-_, _^_, _≤_, _<_}
 use native.Mathlib.Decide.{decLt, ℕ-discrete}
 use native.Mathlib.Nat.{not-suc-le-zero, add-zero}
@@ -10,7 +10,7 @@ use native.Mathlib.Omega.{arith}
 use lib.Dec.{eqb, ltb}
 use lib.ListN.{length, getD}
 use lib.Pow.{pow-pos, ones-lt, pow-lt}
-use borrow.Author.Tests.{eqb-true, ltb-true, lt-ltb, le-leb, eq-eqb, ne-eqb}
+use borrow.Author.Tests.{eqb-true, ltb-true, ltb-false, lt-ltb, le-leb, eq-eqb, ne-eqb}
 use Rattle.ops.specs.declared.Op.{Op}
 use Rattle.ops.specs.declared.Op.the-variants.{Constant, Variable, Apply, Ite, Select, Store, Unknown}
 use Rattle.ops.specs.Numbers.{opOf}
@@ -27,22 +27,23 @@ use Rattle.table.specs.declared.words.Term.{Term}
 use Rattle.table.specs.Terms.{terms, termAt, sortAt, boolean, vector, scalar, array, vectorOf, sameSort}
 use Rattle.table.specs.Folds.{fold, anyBelow}
 use Rattle.table.specs.Ranks.{applied, rankOf, fieldsOf}
-use Rattle.table.specs.Faults.{rank, fields, isVariable, isStore, known, sorted, placedAs, typedAs, typed, valuedAs, conflicts, clash, chain}
+use Rattle.table.specs.Faults.{rank, fields, isVariable, isStore, isChoice, known, sorted, placedAs, typedAs, typed, valuedAs, conflicts, clash, sizeWithin}
 use Rattle.table.specs.WellFormed.{Sound, WellFormed}
 use Rattle.table.proofs.FoldLaws.{fold-below}
-use Rattle.table.proofs.SoundTerms.{widths, n-most-at, store-below}
+use Rattle.table.proofs.SoundTerms.{widths, n-most-at, stacked}
+use Rattle.table.proofs.Sizes.{size-end, size-store, size-choice, size-none}
 use Rattle.table.proofs.OperandSorts.{isKnown, op-at, not-array, SameSort, same-sort, vector-scalar, three, four, unary-scalar, binary-scalars, two-placed, three-placed, one-below, rank-below}
 use Rattle.evaluate.proofs.Meaning.{same-array}
 use Rattle.sheets.specs.Marks.{ownMarks}
 use Rattle.groups.specs.Added.{andT, constantT}
-use Rattle.groups.specs.Groups.{absorbingGroup, boundsGroup, shiftGroup, choiceGroup, storeGroup}
+use Rattle.groups.specs.Groups.{absorbingGroup, boundsGroup, shiftGroup, choiceGroup, storeGroup, arrayChoiceGroup}
 use Rattle.groups.specs.FunctionGroups.{FunctionGroup, functionGroup, groupKind, kindOf}
 use Rattle.groups.specs.FunctionGroups.FunctionGroup.{unary, strict, conjunction, disjunction, implication, byZero, byOnes, byBounds, bySigned, byFixed, shift}
-use Rattle.groups.specs.Plans.{Plan, lastOf, taken, grown, storeRead, planBy, planIn, groups, next, planOf, plans, planAt}
-use Rattle.groups.proofs.GroupSizes.{next-more}
+use Rattle.groups.specs.Plans.{Plan, lastOf, taken, built, grown, storeRead, choiceRead, planBy, planIn, groups, next, planOf, plans, planAt}
+use Rattle.groups.proofs.GroupSizes.{choicePlan, next-more}
 use Rattle.finish.specs.Finished.{conditionNumber}
 use Rattle.finish.proofs.Layouts.{Has, has-left, has-right, Layout, true-at, false-at, group-has, count-is, last-at}
-use Rattle.finish.proofs.Good.{Below, later, Good, good-sound, and-good, constant-good, AllGood, GoodGroup, append-good, strict-good, conjunction-good, disjunction-good, implication-good, absorbing-good, bounds-good, shift-good, choosing-good, store-good}
+use Rattle.finish.proofs.Good.{Below, later, Good, good-sound, and-good, constant-good, AllGood, GoodGroup, append-good, strict-good, conjunction-good, disjunction-good, implication-good, absorbing-good, bounds-good, shift-good, choosing-good, store-good, array-choice-good}
 
 -- The table's own terms
 
@@ -92,17 +93,26 @@ module _ (limit : ℕ) (w f : List ℕ) (F : WellFormed limit w) (l : Layout w f
       (any-same k (λ i. isVariable (termAt f i) && conflicts (termAt f i) (termAt w k)) (λ i. isVariable (termAt w i) && conflicts (termAt w i) (termAt w k))
       (λ i c. ap (λ (x : Term). isVariable x && conflicts x (termAt w k)) (l .old i (omega arith))))
 
-  chain-same : (left k : ℕ) → k < terms w → chain left f k ≡ chain left w k
-  unfolding chain
-  chain-same zero k b = refl
-  chain-same (suc left) k b =
-      ap (λ (x : Term). cond (isStore x) (suc (chain left f (x .p))) 0) (l .old k b)
-      ∙ go (isStore (termAt w k)) refl (λ c. chain-same left (termAt w k .p) c)
+  size-same : (left k : ℕ) → k < terms w → sizeWithin left f k ≡ sizeWithin left w k
+  size-same zero k b = size-end f k ∙ sym (size-end w k)
+  size-same (suc left) k b = go (isStore (termAt w k)) (isChoice (termAt w k)) refl refl (λ i c. size-same left i (omega arith))
     where
-      go : (z : Bool) → isStore (termAt w k) ≡ z → (termAt w k .p < terms w → chain left f (termAt w k .p) ≡ chain left w (termAt w k .p))
-          → cond z (suc (chain left f (termAt w k .p))) 0 ≡ cond z (suc (chain left w (termAt w k .p))) 0
-      go true e same = ap suc (same (omega (arith, store-below limit w F k e)))
-      go false e same = refl
+      same : termAt f k ≡ termAt w k
+      same = l .old k b
+
+      go : (z y : Bool) → isStore (termAt w k) ≡ z → isChoice (termAt w k) ≡ y → ((i : ℕ) → i < k → sizeWithin left f i ≡ sizeWithin left w i)
+          → sizeWithin (suc left) f k ≡ sizeWithin (suc left) w k
+      go true y s c before =
+          size-store left f k (ap isStore same ∙ s)
+          ∙ ap (λ (x : Term). suc (sizeWithin left f (x .p))) same
+          ∙ ap suc (before (termAt w k .p) (stacked limit w F .stored k s))
+          ∙ sym (size-store left w k s)
+      go false true s c before =
+          size-choice left f k (ap isChoice same ∙ c)
+          ∙ ap (λ (x : Term). suc (sizeWithin left f (x .q) + sizeWithin left f (x .r))) same
+          ∙ ap₂ (λ (m n : ℕ). suc (m + n)) (before (termAt w k .q) (stacked limit w F .first k c)) (before (termAt w k .r) (stacked limit w F .second k c))
+          ∙ sym (size-choice left w k c)
+      go false false s c before = size-none left f k (ap isStore same ∙ s) (ap isChoice same ∙ c) ∙ sym (size-none left w k s c)
 
   old-sound : (k : ℕ) → k < terms w → Sound f k
   old-sound k b =
@@ -115,7 +125,7 @@ module _ (limit : ℕ) (w f : List ℕ) (F : WellFormed limit w) (l : Layout w f
         is-typed = ap (typed f) e ∙ typed-in k b;
         is-valued = ap (λ (x : Term). valuedAs (fields x) x) e ∙ s .is-valued;
         no-clash = clash-same k b ∙ s .no-clash;
-        short = subst (λ (c : ℕ). c ≤ 16) (sym (chain-same 17 k b)) (s .short);
+        short = subst (λ (c : ℕ). c ≤ 16) (sym (size-same 17 k b)) (s .short);
       }
 
 -- One plan
@@ -146,6 +156,10 @@ greatest-lt n some = omega (arith, least-lt n some)
 
 vector-sorted : (n : ℕ) → 0 < n → n ≤ 32 → sorted (constantT n 0 .sort) ≡ true
 vector-sorted n some most = rw (ne-eqb n 0 (λ z. omega arith), lt-ltb 0 n some, le-leb n 32 most)
+
+-- a sort that is no array's
+pub no-array : (s : Sort) → array s ≡ false → scalar s ≡ true
+no-array s h = let z : s .m ≤ 0 = ltb-false 0 (s .m) h in eq-eqb (s .m) 0 (omega arith)
 
 -- the plan of a term t that stands at k, from the plans of those before it
 module _ (f : List ℕ) (marked : Term → Bool) (n k b : ℕ) (plan : ℕ → Plan) (width : ℕ) (t : Term) (width-is : t .p < k → sortAt f (t .p) .n ≡ width) (width-most : width ≤ 32) (YES : Below f b n 0 0) (NO : Below f b (n + 1) 0 0) (k-most : k ≤ b)
@@ -261,14 +275,17 @@ module _ (f : List ℕ) (marked : Term → Bool) (n k b : ℕ) (plan : ℕ → P
       let wide = vector-width h in
       grown-planned (shift-good f b (o .0 .free) (o .1 .free) (wide .1) (o .1 .value) (wide .0) (fits-below (t .sort .n) (t .sort .n) (below-power (t .sort .n))) has)
 
-  choice-planned : (t .p < k) × (t .q < k) × (t .r < k) → typedBy Choice ≡ true
+  choice-parts : typedBy Choice ≡ true → (boolean (sortAt f (t .p)) ≡ true) × (sameSort (sortAt f (t .q)) (t .sort) ≡ true) × (sameSort (sortAt f (t .r)) (t .sort) ≡ true)
+  choice-parts h = three (boolean (sortAt f (t .p))) (sameSort (sortAt f (t .q)) (t .sort)) (sameSort (sortAt f (t .r)) (t .sort)) h
+
+  choice-planned : (t .p < k) × (t .q < k) × (t .r < k) → typedBy Choice ≡ true → scalar (t .sort) ≡ true
       → Has f b (choiceGroup b (t .p) (t .q) (t .r) cp cq cr)
       → Planned f b (t .sort) (grown marked n (n + 1) plan b width t (choiceGroup b (t .p) (t .q) (t .r) cp cq cr))
-  choice-planned place h has =
-      let parts = four (scalar (t .sort)) (boolean (sortAt f (t .p))) (sameSort (sortAt f (t .q)) (t .sort)) (sameSort (sortAt f (t .r)) (t .sort)) h in
-      let p = width-operand (t .p) 0 (place .0) (parts .1) in
-      let q = same-operand (t .q) (t .sort) (place .1) (parts .0) (same-sort (sortAt f (t .q)) (t .sort) (parts .2)) in
-      let r = same-operand (t .r) (t .sort) (place .2) (parts .0) (same-sort (sortAt f (t .r)) (t .sort) (parts .3)) in
+  choice-planned place h scalars has =
+      let parts = choice-parts h in
+      let p = width-operand (t .p) 0 (place .0) (parts .0) in
+      let q = same-operand (t .q) (t .sort) (place .1) scalars (same-sort (sortAt f (t .q)) (t .sort) (parts .1)) in
+      let r = same-operand (t .r) (t .sort) (place .2) scalars (same-sort (sortAt f (t .r)) (t .sort) (parts .2)) in
       grown-planned (choosing-good f b (p .free) (q .free) (r .free) (p .value) (q .value) (r .value) has)
 
   read-planned : (t .p < k) × (t .q < k) → typedBy Read ≡ true
@@ -279,17 +296,46 @@ module _ (f : List ℕ) (marked : Term → Bool) (n k b : ℕ) (plan : ℕ → P
       let q = width-operand (t .q) (sortAt f (t .p) .m) (place .1) (parts .1) in
       grown-planned (earlier (t .p) (place .0) .reads (parts .0) b (t .q) cq (omega arith) (q .value) (q .free) has)
 
+  -- Arrays that stand on others, read from c on
+
+  -- good terms are added for a read
+  abbrev Reads : (ℕ → ℕ → ℕ → List Term) → Type 0
+  Reads read = (c j cj : ℕ) → b ≤ c → Below f c j 0 (t .sort .m) → Below f c cj 0 0 → Has f c (read c j cj) → GoodGroup f c (read c j cj)
+
+  built-planned : {read : ℕ → ℕ → ℕ → List Term} → array (t .sort) ≡ true → Reads read → Planned f b (t .sort) (built read)
+  built-planned a good =
+      record {
+        all = λ i l. absurd (not-suc-le-zero l);
+        fine = record { condition = λ z. absurd (not-array (t .sort) z a); reads = λ _ c j cj le. good c j cj (omega arith) };
+      }
+
+  -- an operand of the term's own array sort: itself, and a read of it
+  record ArrayOperand (i : ℕ) : Type 0 where
+    place : (c : ℕ) → b ≤ c → Below f c i (t .sort .m) (t .sort .n)
+    read : Reads (plan i .readGroup)
+
+  array-operand : (i : ℕ) → i < k → array (t .sort) ≡ true → sameSort (sortAt f i) (t .sort) ≡ true → ArrayOperand i
+  array-operand i l a h =
+      let same = same-sort (sortAt f i) (t .sort) h in
+      record {
+        place = λ c le. record { before = omega arith; m-is = same .m; n-is = same .n };
+        read = λ c j cj le J CJ. earlier i l .reads (same-array (sortAt f i) (t .sort) h a) c j cj le (subst (λ (m : ℕ). Below f c j 0 m) (sym (same .m)) J) CJ;
+      }
+
+  -- widths of an array
+  array-widths : array (t .sort) ≡ true → (0 < t .sort .m) × (sorted (constantT (t .sort .n) 0 .sort) ≡ true)
+  array-widths a = let wide = widths (t .sort) sort in (ltb-true 0 (t .sort .m) a, vector-sorted (t .sort .n) (wide .array-n a) (wide .n-most))
+
   write-parts : typedBy Write ≡ true
       → (array (t .sort) ≡ true) × (sameSort (sortAt f (t .p)) (t .sort) ≡ true) × (vectorOf (t .sort .m) (sortAt f (t .q)) ≡ true) × (vectorOf (t .sort .n) (sortAt f (t .r)) ≡ true)
   write-parts h = four (array (t .sort)) (sameSort (sortAt f (t .p)) (t .sort)) (vectorOf (t .sort .m) (sortAt f (t .q))) (vectorOf (t .sort .n) (sortAt f (t .r))) h
 
-  -- a read of a store
-  store-reads : (t .p < k) × (t .q < k) × (t .r < k) → typedBy Write ≡ true
-      → (c j cj : ℕ) → b ≤ c → Below f c j 0 (t .sort .m) → Below f c cj 0 0 → Has f c (storeRead marked n (n + 1) plan b width t c j cj) → GoodGroup f c (storeRead marked n (n + 1) plan b width t c j cj)
+  -- a store
+  store-reads : (t .p < k) × (t .q < k) × (t .r < k) → typedBy Write ≡ true → Reads (storeRead marked n (n + 1) plan b width t)
   store-reads place h c j cj le J CJ has =
       let parts = write-parts h in
-      let same = same-sort (sortAt f (t .p)) (t .sort) (parts .1) in
-      let wide = widths (t .sort) sort in
+      let wide = array-widths (parts .0) in
+      let p = array-operand (t .p) (place .0) (parts .0) (parts .1) in
       let q = width-operand (t .q) (t .sort .m) (place .1) (parts .2) in
       let r = width-operand (t .r) (t .sort .n) (place .2) (parts .3) in
       let xs : List Term = plan (t .p) .readGroup c j cj in
@@ -297,20 +343,41 @@ module _ (f : List ℕ) (marked : Term → Bool) (n k b : ℕ) (plan : ℕ → P
       let ys : List Term = storeGroup s (t .sort .n) (t .p) (t .q) (t .r) j cq cr cj (lastOf c xs) in
       let b-most : b ≤ s = omega arith in
       let c-most : c ≤ s = omega arith in
-      let A : Below f s (t .p) (t .sort .m) (t .sort .n) = record { before = omega (arith, place .0); m-is = same .m; n-is = same .n } in
-      let X : GoodGroup f c xs =
-      earlier (t .p) (place .0) .reads (same-array (sortAt f (t .p)) (t .sort) (parts .1) (parts .0)) c j cj le (subst (λ (m : ℕ). Below f c j 0 m) (sym (same .m)) J) CJ (has-left f c xs ys has) in
+      let X : GoodGroup f c xs = p .read c j cj le J CJ (has-left f c xs ys has) in
       append-good f c xs ys X
-      (store-good f s (ltb-true 0 (t .sort .m) (parts .0)) (vector-sorted (t .sort .n) (wide .array-n (parts .0)) (wide .n-most))
-      A (later s b-most (q .value)) (later s b-most (r .value)) (later s c-most J) (later s b-most (q .free)) (later s b-most (r .free)) (later s c-most CJ) (X .last) (has-right f c xs ys has))
+      (store-good f s (wide .0) (wide .1)
+      (p .place s b-most) (later s b-most (q .value)) (later s b-most (r .value)) (later s c-most J) (later s b-most (q .free)) (later s b-most (r .free)) (later s c-most CJ) (X .last) (has-right f c xs ys has))
 
-  store-planned : (t .p < k) × (t .q < k) × (t .r < k) → typedBy Write ≡ true
-      → Planned f b (t .sort) (record { group = []; condition = 0; readGroup = storeRead marked n (n + 1) plan b width t })
-  store-planned place h =
-      record {
-        all = λ i l. absurd (not-suc-le-zero l);
-        fine = record { condition = λ z. absurd (not-array (t .sort) z (write-parts h .0)); reads = λ a c j cj le. store-reads place h c j cj (omega arith) };
-      }
+  -- a choice between two
+  choice-reads : (t .p < k) × (t .q < k) × (t .r < k) → typedBy Choice ≡ true → array (t .sort) ≡ true → Reads (choiceRead marked n (n + 1) plan b width t)
+  choice-reads place h a c j cj le J CJ has =
+      let parts = choice-parts h in
+      let wide = array-widths a in
+      let p = width-operand (t .p) 0 (place .0) (parts .0) in
+      let q = array-operand (t .q) (place .1) a (parts .1) in
+      let r = array-operand (t .r) (place .2) a (parts .2) in
+      let xs : List Term = plan (t .q) .readGroup c j cj in
+      let s : ℕ = c + length xs in
+      let ys : List Term = plan (t .r) .readGroup s j cj in
+      let e : ℕ = s + length ys in
+      let zs : List Term = arrayChoiceGroup e (t .sort .n) (t .p) (t .q) (t .r) j cp (lastOf c xs) (lastOf s ys) in
+      let rest : Has f s (ys ++ zs) = has-right f c xs (ys ++ zs) has in
+      let c-most : c ≤ s = omega arith in
+      let s-most : s ≤ e = omega arith in
+      let b-most : b ≤ e = omega arith in
+      let j-most : c ≤ e = omega arith in
+      let X : GoodGroup f c xs = q .read c j cj le J CJ (has-left f c xs (ys ++ zs) has) in
+      let Y : GoodGroup f s ys = r .read s j cj (omega arith) (later s c-most J) (later s c-most CJ) (has-left f s ys zs rest) in
+      append-good f c xs (ys ++ zs) X
+      (append-good f s ys zs Y
+      (array-choice-good f e (wide .0) (wide .1)
+      (later e b-most (p .value)) (q .place e b-most) (r .place e b-most) (later e j-most J) (later e b-most (p .free)) (later e s-most (X .last)) (Y .last) (has-right f s ys zs rest)))
+
+  -- between arrays or not
+  choosing-planned : (t .p < k) × (t .q < k) × (t .r < k) → typedBy Choice ≡ true → (z : Bool) → array (t .sort) ≡ z
+      → Has f b (choicePlan marked n (n + 1) plan b width t z .group) → Planned f b (t .sort) (choicePlan marked n (n + 1) plan b width t z)
+  choosing-planned place h true a has = built-planned a (choice-reads place h a)
+  choosing-planned place h false a has = choice-planned place h (no-array (t .sort) a) has
 
   -- T, or F for a marked one
   input-planned : (z : Bool) → Planned f b (t .sort) (taken (cond z (n + 1) n))
@@ -347,9 +414,9 @@ module _ (f : List ℕ) (marked : Term → Bool) (n k b : ℕ) (plan : ℕ → P
   planned-by Constant known h place has = taken-planned n YES
   planned-by Variable known h place has = input-planned (marked t)
   planned-by (Apply f′) known h place has = function-planned (operation f′) (functionRank f′) (functionGroup f′) h (rank-below (functionRank f′) k t place) has
-  planned-by Ite known h place has = choice-planned (three-placed k t place) h has
+  planned-by Ite known h place has = choosing-planned (three-placed k t place) h (array (t .sort)) refl has
   planned-by Select known h place has = read-planned (two-placed k t place) h has
-  planned-by Store known h place has = store-planned (three-placed k t place) h
+  planned-by Store known h place has = built-planned (write-parts h .0) (store-reads (three-placed k t place) h)
   planned-by Unknown known h place has = never known
 
 -- The plans one after the other

@@ -12,7 +12,7 @@ use Rattle.ops.specs.Condition.{settles}
 use Rattle.table.specs.declared.Acceptance.{Acceptance}
 use Rattle.table.specs.Folds.{fold, anyBelow}
 use Rattle.table.specs.Terms.{words, terms, termAt}
-use Rattle.table.specs.Faults.{typed, clash, chain, faultIf, fault}
+use Rattle.table.specs.Faults.{typed, clash, sizeWithin, faultIf, fault}
 use Rattle.table.specs.Admission.{andThen, scan, admissionWithin}
 use Rattle.table.specs.WellFormed.{WellFormed}
 use Rattle.table.proofs.Admitted.{admission-sound}
@@ -50,7 +50,7 @@ agreed x f judged evaluated =
 
 -- by computation
 pub agreed-settings : AgreedSettings
-unfolding sheetCheck admissionWithin scan fault faultIf typed anyBelow clash chain steps fold valueBy conditionBy apply settles lookFrom check slotSort arrayEntry afford finished flat planBy groups
+unfolding sheetCheck admissionWithin scan fault faultIf typed anyBelow clash sizeWithin steps fold valueBy conditionBy apply settles lookFrom check slotSort arrayEntry afford finished flat planBy groups
 agreed-settings = (agreed P2 (admission-sound 512 (P2 .table) refl) refl refl, agreed P7 (admission-sound 512 (P7 .table) refl) refl refl)
 
 -- The numbers

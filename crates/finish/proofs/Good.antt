@@ -16,11 +16,12 @@ use Rattle.ops.proofs.Booleans.{and-parts}
 use Rattle.table.specs.declared.words.Sort.{Sort}
 use Rattle.table.specs.declared.words.Term.{Term}
 use Rattle.table.specs.Terms.{wordAt, termAt, boolean}
-use Rattle.table.specs.Faults.{fields, isVariable, isStore, known, sorted, placedAs, typed, valuedAs, clash, chain}
+use Rattle.table.specs.Faults.{fields, isVariable, isStore, isChoice, known, sorted, placedAs, typed, valuedAs, clash, size}
 use Rattle.table.specs.WellFormed.{Sound}
-use Rattle.table.proofs.OperandSorts.{three}
+use Rattle.table.proofs.OperandSorts.{four}
+use Rattle.table.proofs.Sizes.{size-none}
 use Rattle.groups.specs.Added.{notT, andT, orT, equalT, choiceT, lessT, constantT, readT}
-use Rattle.groups.specs.Groups.{strictGroup, andGroup, orGroup, impliesGroup, absorbingGroup, boundsGroup, shiftGroup, choiceGroup, storeGroup}
+use Rattle.groups.specs.Groups.{strictGroup, andGroup, orGroup, impliesGroup, absorbingGroup, boundsGroup, shiftGroup, choiceGroup, storeGroup, arrayChoiceGroup}
 use Rattle.groups.specs.Plans.{lastOf}
 use Rattle.finish.proofs.Layouts.{Has}
 
@@ -36,11 +37,11 @@ later k′ h b = let l : _ < _ = b .before in record { before = omega arith; m-i
 up : {f : List ℕ} {k p m n : ℕ} (i : ℕ) → Below f k p m n → Below f (k + i) p m n
 up {f} {k} i b = later (k + i) (omega arith) b
 
--- a known op, no variable's and no store's
+-- a known op, no variable's and no array's
 abbrev plain : Term → Bool
-plain x = known x && not (isVariable x) && not (isStore x)
+plain x = known x && not (isVariable x) && not (isStore x) && not (isChoice x)
 
--- what is asked of a term at k, which is no variable and no store
+-- what is asked of a term at k, which is no variable and no array
 pub record Good (f : List ℕ) (k : ℕ) (x : Term) : Type 0 where
   good-op : plain x ≡ true
   good-sort : sorted (x .sort) ≡ true
@@ -50,11 +51,13 @@ pub record Good (f : List ℕ) (k : ℕ) (x : Term) : Type 0 where
 
 -- so a table that has it at k is sound there
 pub good-sound : (f : List ℕ) (k : ℕ) (x : Term) → termAt f k ≡ x → Good f k x → Sound f k
-unfolding clash chain
+unfolding clash
 good-sound f k x e g =
-    let parts = three (known x) (not (isVariable x)) (not (isStore x)) (g .good-op) in
+    let parts = four (known x) (not (isVariable x)) (not (isStore x)) (not (isChoice x)) (g .good-op) in
     let no-variable : isVariable (termAt f k) ≡ false = ap isVariable e ∙ not-true (isVariable x) (parts .1) in
     let no-store : isStore (termAt f k) ≡ false = ap isStore e ∙ not-true (isStore x) (parts .2) in
+    let no-choice : isChoice (termAt f k) ≡ false = ap isChoice e ∙ not-true (isChoice x) (parts .3) in
+    let none : size f k ≡ 0 = size-none 16 f k no-store no-choice in
     record {
       is-known = ap known e ∙ parts .0;
       is-sorted = ap (λ (y : Term). sorted (y .sort)) e ∙ g .good-sort;
@@ -62,7 +65,7 @@ good-sound f k x e g =
       is-typed = ap (typed f) e ∙ g .good-type;
       is-valued = ap (λ (y : Term). valuedAs (fields y) y) e ∙ g .good-value;
       no-clash = rw no-variable;
-      short = rw no-store (omega arith);
+      short = omega arith;
     }
 
 -- Each kind of term
@@ -320,5 +323,22 @@ store-good f b {m} {n} {a} {i} {e} {j} {ci} {ce} {cj} {d} some sort A I E J CI C
     ▸ and-good (up 6 CE) (up 6 D)
     ▸ and-good (it 6 7 refl) (it 5 7 refl)
     ▸ or-good (it 4 8 refl) (it 7 8 refl)
+    ▸ done)
+    refl
+
+pub array-choice-good : (f : List ℕ) (b : ℕ) {m n c a e j cc dq dr : ℕ} → 0 < m → sorted (constantT n 0 .sort) ≡ true
+    → Below f b c 0 0 → Below f b a m n → Below f b e m n → Below f b j 0 m → Below f b cc 0 0 → Below f b dq 0 0 → Below f b dr 0 0
+    → Has f b (arrayChoiceGroup b n c a e j cc dq dr) → GoodGroup f b (arrayChoiceGroup b n c a e j cc dq dr)
+array-choice-good f b {m} {n} {c} {a} {e} {j} {cc} {dq} {dr} some sort C A E J CC DQ DR h =
+    let it = own f b (arrayChoiceGroup b n c a e j cc dq dr) h in
+    group-good f b (arrayChoiceGroup b n c a e j cc dq dr) h
+    (read-good some sort (up 0 A) (up 0 J)
+    ▸ read-good some sort (up 1 E) (up 1 J)
+    ▸ choice-good (up 2 C) (up 2 DQ) (up 2 DR)
+    ▸ and-good (up 3 CC) (it 2 3 refl)
+    ▸ and-good (up 4 DQ) (up 4 DR)
+    ▸ equal-good (first f b (arrayChoiceGroup b n c a e j cc dq dr) h 5 refl) (it 1 5 refl)
+    ▸ and-good (it 4 6 refl) (it 5 6 refl)
+    ▸ or-good (it 3 7 refl) (it 6 7 refl)
     ▸ done)
     refl

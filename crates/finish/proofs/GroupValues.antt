@@ -16,12 +16,16 @@ use Rattle.setting.specs.Interpretation.{Value, Interpretation}
 use Rattle.evaluate.specs.Values.{valueBy, valueFrom}
 use Rattle.judge.proofs.Meaning.{holds-bit}
 use Rattle.groups.specs.Added.{notT, andT, orT, equalT, choiceT, lessT, constantT, readT}
-use Rattle.groups.specs.Groups.{strictGroup, andGroup, orGroup, impliesGroup, absorbingGroup, boundsGroup, shiftGroup, choiceGroup, storeGroup}
+use Rattle.groups.specs.Groups.{strictGroup, andGroup, orGroup, impliesGroup, absorbingGroup, boundsGroup, shiftGroup, choiceGroup, storeGroup, arrayChoiceGroup}
 use Rattle.finish.proofs.Layouts.{Has, has-first}
 
 holds-cond : (b : Bool) (x y : ℕ) → holds (cond b x y) ≡ cond b (holds x) (holds y)
 holds-cond true x y = refl
 holds-cond false x y = refl
+
+num-cond : (b : Bool) (x y : Value) → cond b x y .num ≡ cond b (x .num) (y .num)
+num-cond true x y = refl
+num-cond false x y = refl
 
 not-less : (x y : ℕ) → not (ltb x y) ≡ leb y x
 not-less x y = go (decLt x y)
@@ -59,8 +63,8 @@ module _ (f : List ℕ) (I : Interpretation) (val : ℕ → Value) (law : (k : �
   equal-num {k} {p} {q} e = num-of k (equalT p q) e
 
   choice-num : {k p q r : ℕ} → termAt f k ≡ choiceT p q r → val k .num ≡ cond (holds (val p .num)) (val q .num) (val r .num)
-  unfolding valueBy apply
-  choice-num {k} {p} {q} {r} e = num-of k (choiceT p q r) e
+  unfolding valueBy
+  choice-num {k} {p} {q} {r} e = num-of k (choiceT p q r) e ∙ num-cond (holds (val p .num)) (val q) (val r)
 
   less-num : {k p q : ℕ} → termAt f k ≡ lessT p q → val k .num ≡ bit (ltb (val p .num) (val q .num))
   unfolding valueBy apply
@@ -140,3 +144,12 @@ module _ (f : List ℕ) (I : Interpretation) (val : ℕ → Value) (law : (k : �
       let start = has-first f s (storeGroup s n a i e j ci ce cj k) h (lit< tt) in
       simp (or-num (h 8 (lit< tt)), and-num (h 7 (lit< tt)), and-num (h 6 (lit< tt)), equal-num (h 5 (lit< tt)), and-num (h 4 (lit< tt)), and-num (h 3 (lit< tt)), choice-num (h 2 (lit< tt)), equal-num (h 1 (lit< tt)), read-num start)
       (simp (over, at .value, at .free, stored .value, stored .free, index .value, index .free, beneath, holds-bit, holds-cond))
+
+  -- a choice by c between arrays a and e, read at j; k and l are the numbers of Dq and Dr
+  pub array-choice-group : (s n : ℕ) {c a e j cc cj k l x z : ℕ} {first second : Value} {d m : Bool} (dq dr : Bool)
+      → Known val c cc x d → val a ≡ first → val e ≡ second → Known val j cj z m → val k .num ≡ bit dq → val l .num ≡ bit dr → Has f s (arrayChoiceGroup s n c a e j cc k l)
+      → val (s + 7) .num ≡ bit (chosen d (holds x) dq dr (eqb (first .cell z) (second .cell z)))
+  array-choice-group s n {c} {a} {e} {j} {cc} {cj} {k} {l} dq dr test q r index of-q of-r h =
+      let start = has-first f s (arrayChoiceGroup s n c a e j cc k l) h (lit< tt) in
+      simp (or-num (h 7 (lit< tt)), and-num (h 6 (lit< tt)), equal-num (h 5 (lit< tt)), and-num (h 4 (lit< tt)), and-num (h 3 (lit< tt)), choice-num (h 2 (lit< tt)), read-num (h 1 (lit< tt)), read-num start)
+      (simp (q, r, test .value, test .free, index .value, of-q, of-r, holds-bit, holds-cond))

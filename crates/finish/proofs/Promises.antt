@@ -18,7 +18,7 @@ use Rattle.table.specs.declared.words.Term.{Term}
 use Rattle.table.specs.declared.Acceptance.{Acceptance}
 use Rattle.table.specs.declared.Acceptance.the-variants.{Accepted}
 use Rattle.table.specs.Terms.{words, terms, termAt, sortAt}
-use Rattle.table.specs.Faults.{fields, isStore, placedAs}
+use Rattle.table.specs.Faults.{fields, placedAs}
 use Rattle.table.specs.Admission.{andThen, admissionWithin, admission}
 use Rattle.table.specs.WellFormed.{WellFormed}
 use Rattle.table.proofs.Admitted.{admission-sound, admission-complete}
@@ -48,7 +48,7 @@ use Rattle.finish.proofs.Layouts.{Layout, count-is, last-at, finished-l
 use Rattle.finish.proofs.AddedSizes.{added-few}
 use Rattle.finish.proofs.Settings.{check-same}
 use Rattle.finish.proofs.Admitted.{admitted-of}
-use Rattle.finish.proofs.Agreement.{keeps-values, scalar-stores, conditions-agree, last-agrees}
+use Rattle.finish.proofs.Agreement.{keeps-values, scalar-neither, conditions-agree, last-agrees}
 
 -- Of finished tables
 
@@ -65,7 +65,7 @@ pub values-kept : KeepsValues
 values-kept w I F k b = keeps-values w (finished w) I F (finished-layout w F) k b
 
 pub conditions-are : ConditionsAgree
-conditions-are w I F k b s = conditions-agree w (finished w) I F (finished-layout w F) (finished-admitted w F) k b s
+conditions-are w I F k b s c = conditions-agree w (finished w) I F (finished-layout w F) (finished-admitted w F) k b s c
 
 pub last-is-conjunction : LastIsConjunction
 last-is-conjunction w I F =
@@ -144,10 +144,10 @@ module _ (w : List ℕ) (F : WellFormed 512 w) where
     same-answers rest v r c =
         let inside = last-in in
         let below = below-last in
-        let no-store : isStore (termAt w rule) ≡ false = scalar-stores w f I F layout (finished-admitted w F) rule rule-in (boolean-scalar (sortAt w rule) (F .rule)) in
+        let none = scalar-neither w f I F layout (finished-admitted w F) rule rule-in (boolean-scalar (sortAt w rule) (F .rule)) in
         record {
           rule = number-read f I rest rule (omega (arith, inside, below .0)) ∙ ap (λ (x : Value). x .num) (values-kept w I F rule rule-in) ∙ rule-bit ∙ ap bit (sym r);
-          condition = number-read f I rest (conditionNumber w rule) (omega (arith, inside, below .1)) ∙ conditions-are w I F rule rule-in no-store ∙ ap bit (sym c);
+          condition = number-read f I rest (conditionNumber w rule) (omega (arith, inside, below .1)) ∙ conditions-are w I F rule rule-in (none .0) (none .1) ∙ ap bit (sym c);
           conjunction =
               number-read f I rest (pred (terms f)) inside
               ∙ last-is-conjunction w I F

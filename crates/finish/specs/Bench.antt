@@ -7,9 +7,10 @@ use Prim.Native.Nat.{ℕ, pred}
 use lib.Dec.{eqb}
 use lib.ListN.{getD}
 use Rattle.table.specs.Bench.{term, ruleG, ruleH}
+use Rattle.judge.specs.Bench.{chosenTwice}
 use Rattle.table.specs.Folds.{every, fold, anyBelow}
 use Rattle.table.specs.Terms.{terms, wordAt}
-use Rattle.table.specs.Faults.{typed, clash, chain, faultIf, fault}
+use Rattle.table.specs.Faults.{typed, clash, sizeWithin, faultIf, fault}
 use Rattle.table.specs.Admission.{scan, admissionWithin, admission, accepts}
 use Rattle.groups.specs.Added.{flat}
 use Rattle.groups.specs.Plans.{planBy, groups}
@@ -63,11 +64,12 @@ rows =
     ∷ record { table = signedLessRule; count = 15; condition = 13; last = term 3 0 0 2 13 0 [] }
     ∷ record { table = rightShiftRule; count = 17; condition = 15; last = term 3 0 0 3 15 0 [] }
     ∷ record { table = negationRule; count = 10; condition = 8; last = term 3 0 0 4 8 0 [] }
+    ∷ record { table = chosenTwice; count = 21; condition = 19; last = term 3 0 0 6 19 0 [] }
     ∷ []
 
 -- by computation
 pub examples : every right rows ≡ true
-unfolding every rows right admissionWithin scan fault faultIf typed anyBelow clash chain fold finished flat planBy groups
+unfolding every rows right admissionWithin scan fault faultIf typed anyBelow clash sizeWithin fold finished flat planBy groups
 examples = refl
 
 -- Rule G: T is 7 and F is 8; the product's group is 9 to 16, the sum's 17, the comparison's 18 to 26
@@ -176,3 +178,30 @@ pub finished-right-shift : finished rightShiftRule
     (term 3 0 0 3 15 0 []))))))))))))))))
 unfolding finished flat fold planBy groups
 finished-right-shift = refl
+
+-- A read of choice(c, a, a): T is 7 and F is 8; its group is 9 to 18, of which 9 and 10 are the variable's, once for each branch, and
+-- the rest the choice's; the equality's is 19
+pub finished-chosen-twice : finished chosenTwice
+    ≡ term 1 8 8 0 0 0
+    (term 1 0 0 1 1 0
+    (term 1 0 8 2 0 0
+    (term 7 8 8 1 0 0
+    (term 15 0 8 3 2 0
+    (term 0 0 8 7 0 0
+    (term 6 0 0 4 5 0
+    (term 0 0 0 1 0 0
+    (term 0 0 0 0 0 0
+    (term 3 0 0 7 7 0
+    (term 3 0 0 7 7 0
+    (term 15 0 8 0 2 0
+    (term 15 0 8 0 2 0
+    (term 7 0 0 1 9 10
+    (term 3 0 0 8 13 0
+    (term 3 0 0 9 10 0
+    (term 6 0 0 11 12 0
+    (term 3 0 0 15 16 0
+    (term 4 0 0 14 17 0
+    (term 3 0 0 18 7 0
+    (term 3 0 0 6 19 0 []))))))))))))))))))))
+unfolding finished flat fold planBy groups
+finished-chosen-twice = refl

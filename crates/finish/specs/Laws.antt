@@ -9,7 +9,7 @@ use lib.ListN.{length, getD, take}
 use Rattle.ops.specs.Meaning.{bit}
 use Rattle.table.specs.declared.Acceptance.the-variants.{Accepted}
 use Rattle.table.specs.Terms.{words, terms, termAt}
-use Rattle.table.specs.Faults.{isStore}
+use Rattle.table.specs.Faults.{isStore, isChoice}
 use Rattle.table.specs.Admission.{andThen, admissionWithin}
 use Rattle.table.specs.Refusals.{between}
 use Rattle.table.specs.WellFormed.{WellFormed}
@@ -42,14 +42,14 @@ AddedFew = (w : List ℕ) → WellFormed 512 w → Few w (length (added w))
 abbrev pub FinishedAdmitted : Type 0
 FinishedAdmitted = (w : List ℕ) → WellFormed 512 w → WellFormed 80000 (finished w)
 
--- In every interpretation: the terms of the table keep their values; of every term that has a condition, the value at the
--- condition's number is the condition; the last value is the conjunction of rule and C(rule).
+-- In every interpretation: the terms of the table keep their values; of every term that has a condition (no store, no choice between
+-- arrays), the value at the condition's number is the condition; the last value is the conjunction of rule and C(rule).
 abbrev pub KeepsValues : Type 0
 KeepsValues = (w : List ℕ) (I : Interpretation) → WellFormed 512 w → (k : ℕ) → k < terms w → valueAt (finished w) I k ≡ valueAt w I k
 
 abbrev pub ConditionsAgree : Type 0
 ConditionsAgree =
-    (w : List ℕ) (I : Interpretation) → WellFormed 512 w → (k : ℕ) → k < terms w → isStore (termAt w k) ≡ false
+    (w : List ℕ) (I : Interpretation) → WellFormed 512 w → (k : ℕ) → k < terms w → isStore (termAt w k) ≡ false → isChoice (termAt w k) ≡ false
     → valueAt (finished w) I (conditionNumber w k) .num ≡ bit (conditionAt w ownMarks I k .free)
 
 abbrev pub LastIsConjunction : Type 0

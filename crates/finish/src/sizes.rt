@@ -8,10 +8,13 @@ use groups::GroupKind;
 use groups::kind_of;
 use table::Term;
 
-// The terms of a term's group.
+// The terms of a term's group: none for a choice between arrays.
 fn size_of(table: &[u32], x: Term) -> u32
     ensures { λ r. ⌜ r ≡ sizeOf (now (table .entry)) x ⌝ }
 {
+    if table::is_choice(x) {
+        return 0;
+    }
     match kind_of(x.op) {
         GroupKind::Literal => 0,
         GroupKind::Input => 0,
@@ -27,7 +30,7 @@ fn size_of(table: &[u32], x: Term) -> u32
         GroupKind::Fixed => 9,
         GroupKind::Shift => 6,
         GroupKind::Choice => 6,
-        GroupKind::Read => 1 + 9 * admission::chain(table, x.p),
+        GroupKind::Read => 1 + 9 * admission::size(table, x.p),
         GroupKind::Write => 0,
     }
 }

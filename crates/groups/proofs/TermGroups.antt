@@ -1,8 +1,8 @@
 -- The group of one term, as each way of the code writes it.
 -- Assumes nothing.
 use mathlib.Core.Path.{_≡_, refl, sym, ap, ap₂, subst, _∙_}
-use mathlib.Core.Bool.{Bool, true, false}
-use mathlib.Core.List.{List, [], _∷_}
+use mathlib.Core.Bool.{true, false, _&&_}
+use mathlib.Core.List.{List, []}
 use Prim.Native.Nat.{ℕ, suc, _+_, _≤_, _<_}
 use native.Mathlib.Nat.{add-zero}
 use native.Mathlib.Omega.{arith}
@@ -12,11 +12,11 @@ use Rattle.ops.specs.declared.Op.the-variants.{Constant, Variable, Apply, Ite, 
 use Rattle.ops.specs.Numbers.{opOf}
 use Rattle.ops.specs.Meaning.{Operation}
 use Rattle.ops.specs.Ranks.{FunctionRank, arity}
-use Rattle.ops.proofs.Booleans.{never}
+use Rattle.ops.proofs.Booleans.{and-parts}
 use Rattle.table.specs.declared.words.Term.{Term}
-use Rattle.table.specs.Terms.{terms, termAt, sortAt}
-use Rattle.table.specs.Ranks.{rankOf, fieldsOf}
-use Rattle.table.specs.Faults.{placedAs}
+use Rattle.table.specs.Terms.{terms, termAt, sortAt, array}
+use Rattle.table.specs.Ranks.{rankOf, fieldsOf, picks}
+use Rattle.table.specs.Faults.{isChoice, placedAs}
 use Rattle.table.specs.WellFormed.{WellFormed}
 use Rattle.table.proofs.SoundTerms.{n-most-at}
 use Rattle.table.proofs.OperandSorts.{two-placed}
@@ -29,50 +29,61 @@ use Rattle.groups.specs.FunctionGroups.FunctionGroup.{unary, strict, con
 use Rattle.groups.specs.Groups.{choiceGroup}
 use Rattle.groups.specs.Code.Writing.{placedAll, placedFrom, Numbered, after, written}
 use Rattle.groups.specs.Plans.{Plan, lastOf, planBy, planIn, next, plans, planAt}
-use Rattle.groups.proofs.GroupSizes.{plan-below, next-more}
-use Rattle.groups.proofs.ReadGroups.{recorded}
+use Rattle.groups.proofs.GroupSizes.{size-small, plan-below, next-more}
+use Rattle.groups.proofs.ReadGroups.{Ready, recorded, choice-op}
 
-isRead : GroupKind → Bool
-isRead Literal = false
-isRead Input = false
-isRead Unary = false
-isRead Strict = false
-isRead Conjunction = false
-isRead Disjunction = false
-isRead Implication = false
-isRead Zero = false
-isRead Ones = false
-isRead Bounds = false
-isRead SignedBounds = false
-isRead Fixed = false
-isRead Shift = false
-isRead Choice = false
-isRead Read = true
-isRead Write = false
+-- of the kinds that a single operator has, a choice is 1 and a read 2
+row : GroupKind → ℕ
+row Literal = 0
+row Input = 0
+row Unary = 0
+row Strict = 0
+row Conjunction = 0
+row Disjunction = 0
+row Implication = 0
+row Zero = 0
+row Ones = 0
+row Bounds = 0
+row SignedBounds = 0
+row Fixed = 0
+row Shift = 0
+row Choice = 1
+row Read = 2
+row Write = 0
 
-function-unread : {o : Operation} {r : FunctionRank (arity o)} (g : FunctionGroup o r) → isRead (groupKind g) ≡ false
-unfolding isRead
-function-unread unary = refl
-function-unread strict = refl
-function-unread conjunction = refl
-function-unread disjunction = refl
-function-unread implication = refl
-function-unread byZero = refl
-function-unread byOnes = refl
-function-unread byBounds = refl
-function-unread bySigned = refl
-function-unread byFixed = refl
-function-unread shift = refl
+function-row : {o : Operation} {r : FunctionRank (arity o)} (g : FunctionGroup o r) → row (groupKind g) ≡ 0
+unfolding row
+function-row unary = refl
+function-row strict = refl
+function-row conjunction = refl
+function-row disjunction = refl
+function-row implication = refl
+function-row byZero = refl
+function-row byOnes = refl
+function-row byBounds = refl
+function-row bySigned = refl
+function-row byFixed = refl
+function-row shift = refl
 
-read-op : (op : Op) → isRead (kindOf op) ≡ true → op ≡ Select
-unfolding isRead
-read-op Constant e = never e
-read-op Variable e = never e
-read-op (Apply f) e = never (sym (function-unread (functionGroup f)) ∙ e)
-read-op Ite e = never e
-read-op Select e = refl
-read-op Store e = never e
-read-op Unknown e = never e
+choice-kind : (op : Op) → row (kindOf op) ≡ 1 → op ≡ Ite
+unfolding row
+choice-kind Constant e = absurd (omega (arith, e))
+choice-kind Variable e = absurd (omega (arith, e))
+choice-kind (Apply f) e = absurd (omega (arith, function-row (functionGroup f), e))
+choice-kind Ite e = refl
+choice-kind Select e = absurd (omega (arith, e))
+choice-kind Store e = absurd (omega (arith, e))
+choice-kind Unknown e = absurd (omega (arith, e))
+
+read-kind : (op : Op) → row (kindOf op) ≡ 2 → op ≡ Select
+unfolding row
+read-kind Constant e = absurd (omega (arith, e))
+read-kind Variable e = absurd (omega (arith, e))
+read-kind (Apply f) e = absurd (omega (arith, function-row (functionGroup f), e))
+read-kind Ite e = absurd (omega (arith, e))
+read-kind Select e = refl
+read-kind Store e = absurd (omega (arith, e))
+read-kind Unknown e = absurd (omega (arith, e))
 
 -- term i, of a kind, where its group is written: conditions has the numbers of those before it
 pub record Here (w conditions : List ℕ) (b i yes : ℕ) (x : Term) (kind : GroupKind) : Type 0 where
@@ -140,17 +151,30 @@ module _ {w conditions : List ℕ} {b i yes : ℕ} {x : Term} {kind : GroupKind}
   unfolding planBy
   unary-is is = number-in (x .p) is
 
-  -- a choice has three operands
-  pub choice-is : {cp cq cr : ℕ} → cp ≡ getD conditions (x .p) 0 → cq ≡ getD conditions (x .q) 0 → cr ≡ getD conditions (x .r) 0
-      → choiceGroup b (x .p) (x .q) (x .r) cp cq cr ≡ planned Choice .group
+  -- a choice between arrays adds nothing
+  pub choice-stays : isChoice x ≡ true → {r : Written} (room : List ℕ) → r ≡ record { condition = 0; next = b } → (r ≡ written w i) × (room ≡ placedAll room b (planAt w ownMarks i .group))
   unfolding planBy
-  choice-is p q r = λ j. choiceGroup b (x .p) (x .q) (x .r) (number-in (x .p) p j) (number-in (x .q) q j) (number-in (x .r) r j)
+  choice-stays c room answer =
+      let parts = and-parts (picks (opOf (x .op))) (array (x .sort)) c in
+      stays Choice (here .kind-is ∙ ap kindOf (choice-op (opOf (x .op)) (parts .0))) (rw (parts .1)) (rw (parts .1)) room answer
+
+  -- any other has three operands
+  pub choice-grows : kind ≡ Choice → isChoice x ≡ false → {cp cq cr : ℕ} → cp ≡ getD conditions (x .p) 0 → cq ≡ getD conditions (x .q) 0 → cr ≡ getD conditions (x .r) 0 → {r : Written} (room : List ℕ) {last : List ℕ}
+      → (r ≡ after b (choiceGroup b (x .p) (x .q) (x .r) cp cq cr)) × (last ≡ placedAll room b (choiceGroup b (x .p) (x .q) (x .r) cp cq cr))
+      → (r ≡ written w i) × (last ≡ placedAll room b (planAt w ownMarks i .group))
+  unfolding planBy row
+  choice-grows e none p q r room h =
+      let op : opOf (x .op) ≡ Ite = choice-kind (opOf (x .op)) (ap row (sym (here .kind-is) ∙ e)) in
+      let scalars : array (x .sort) ≡ false = ap (λ (o : Op). picks o && array (x .sort)) (sym op) ∙ none in
+      grows Choice e
+      (rw scalars (λ j. choiceGroup b (x .p) (x .q) (x .r) (number-in (x .p) p j) (number-in (x .q) q j) (number-in (x .r) r j)))
+      (rw scalars) room h
 
   -- a read's array is an earlier term
-  pub read-below : kind ≡ Read → x .p < length conditions
-  unfolding isRead
+  read-below : kind ≡ Read → x .p < length conditions
+  unfolding row
   read-below e =
-      let op : opOf (x .op) ≡ Select = read-op (opOf (x .op)) (ap isRead (sym (here .kind-is) ∙ e)) in
+      let op : opOf (x .op) ≡ Select = read-kind (opOf (x .op)) (ap row (sym (here .kind-is) ∙ e)) in
       let op-at : opOf (termAt w i .op) ≡ Select = ap (λ (y : Term). opOf (y .op)) (sym (here .is)) ∙ op in
       let low : termAt w i .p < i = two-placed i (termAt w i) (subst (λ (o : Op). placedAs (fieldsOf (rankOf o)) i (termAt w i) ≡ true) op-at (here .formed .sound i (here .inside) .is-placed)) .0 in
       subst (λ (y : Term). y .p < length conditions) (sym (here .is)) (omega (arith, here .all))
@@ -160,6 +184,10 @@ module _ {w conditions : List ℕ} {b i yes : ℕ} {x : Term} {kind : GroupKind}
   unfolding planBy
   read-is e is =
       ap₂ (λ (y : Plan) (n : ℕ). y .readGroup b (x .q) n) (sym (plan-below w ownMarks i (x .p) (omega (arith, read-below e, here .all)))) (number-in (x .q) is)
+
+  -- and its numbers stay small
+  pub read-ready : kind ≡ Read → b ≤ 79000 → Ready w conditions b (x .p)
+  read-ready e low = (here .formed, (here .numbered, (read-below e, omega (arith, low, size-small w 512 (here .formed) (x .p)))))
 
   pub width-most : x .sort .n ≤ 32
   width-most = subst (λ (y : Term). y .sort .n ≤ 32) (sym (here .is)) (n-most-at 512 w (here .formed) i)

@@ -115,3 +115,18 @@ storeGroup b n a i e j ci ce cj d =
     ∷ andT (b + 6) (b + 5)
     ∷ orT (b + 4) (b + 7)
     ∷ []
+
+-- Choice by c between arrays a and e, read at j (paper 02, request 07), after the groups of both reads, whose conditions are dq and dr:
+-- read(a, j); read(e, j); choice(c, Dq, Dr); and(C(c), it); and(Dq, Dr); equal of the reads; and of the last two; or of the fourth and
+-- seventh. 8.
+abbrev pub arrayChoiceGroup : ℕ → ℕ → ℕ → ℕ → ℕ → ℕ → ℕ → ℕ → ℕ → List Term
+arrayChoiceGroup b n c a e j cc dq dr =
+    readT n a j
+    ∷ readT n e j
+    ∷ choiceT c dq dr
+    ∷ andT cc (b + 2)
+    ∷ andT dq dr
+    ∷ equalT b (b + 1)
+    ∷ andT (b + 4) (b + 5)
+    ∷ orT (b + 3) (b + 6)
+    ∷ []

@@ -9,11 +9,11 @@ use Rattle.ops.specs.Meaning.{ones}
 use Rattle.ops.specs.Signed.{greatest, least}
 use Rattle.table.specs.declared.words.Term.{Term}
 use Rattle.table.specs.Folds.{fold}
-use Rattle.table.specs.Terms.{terms, termAt, sortAt}
+use Rattle.table.specs.Terms.{terms, termAt, sortAt, array}
 use Rattle.groups.specs.declared.kinds.GroupKind.{GroupKind}
 use Rattle.groups.specs.declared.kinds.GroupKind.the-variants.{Literal, Input, Unary, Strict, Conjunction, Disjunction, Implication, Zero, Ones, Bounds, SignedBounds, Fixed, Shift, Choice, Read, Write}
 use Rattle.groups.specs.FunctionGroups.{kindOf}
-use Rattle.groups.specs.Groups.{strictGroup, andGroup, orGroup, impliesGroup, absorbingGroup, boundsGroup, shiftGroup, choiceGroup, variableGroup, storeGroup}
+use Rattle.groups.specs.Groups.{strictGroup, andGroup, orGroup, impliesGroup, absorbingGroup, boundsGroup, shiftGroup, choiceGroup, variableGroup, storeGroup, arrayChoiceGroup}
 
 -- Of a term: the group of terms added for it; the number of C(t); and, of an array, the group of a read of it, from the group's
 -- first number, the index's number and that of the index's condition.
@@ -29,6 +29,10 @@ lastOf b group = b + pred (length group)
 -- nothing added: C(t) is the term of this number
 abbrev pub taken : ℕ → Plan
 taken c = record { group = []; condition = c; readGroup = λ b j cj. variableGroup c cj }
+
+-- an array that is no variable: nothing added, and no C
+abbrev pub built : (ℕ → ℕ → ℕ → List Term) → Plan
+built read = record { group = []; condition = 0; readGroup = read }
 
 -- the plan of term t, whose group's first number is b, from the plans of the terms before it and its first operand's width; yes and no
 -- are the numbers of T and F
@@ -52,6 +56,13 @@ module _ (marked : Term → Bool) (yes no : ℕ) (plan : ℕ → Plan) (b width 
       let below : List Term = plan (t .p) .readGroup s j cj in
       below ++ storeGroup (s + length below) (t .sort .n) (t .p) (t .q) (t .r) j cq cr cj (lastOf s below)
 
+  -- a read of a choice between arrays: eight terms after the groups of both, depth first; nothing is shared
+  abbrev pub choiceRead : ℕ → ℕ → ℕ → List Term
+  choiceRead s j cj =
+      let q : List Term = plan (t .q) .readGroup s j cj in
+      let r : List Term = plan (t .r) .readGroup (s + length q) j cj in
+      q ++ (r ++ arrayChoiceGroup (s + length q + length r) (t .sort .n) (t .p) (t .q) (t .r) j cp (lastOf s q) (lastOf (s + length q) r))
+
   unfoldable pub planBy : GroupKind → Plan
   planBy Literal = taken yes
   planBy Input = taken (cond (marked t) no yes)
@@ -66,10 +77,9 @@ module _ (marked : Term → Bool) (yes no : ℕ) (plan : ℕ → Plan) (b width 
   planBy SignedBounds = grown (boundsGroup b width (greatest width) (least width) (t .p) (t .q) cp cq cq)
   planBy Fixed = grown (boundsGroup b (t .sort .n) 0 (ones (t .sort .n)) (t .p) (t .p) cp cp cq)
   planBy Shift = grown (shiftGroup b (t .sort .n) (t .q) cp cq)
-  planBy Choice = grown (choiceGroup b (t .p) (t .q) (t .r) cp cq cr)
+  planBy Choice = cond (array (t .sort)) (built choiceRead) (grown (choiceGroup b (t .p) (t .q) (t .r) cp cq cr))
   planBy Read = grown (plan (t .p) .readGroup b (t .q) cq)
-  -- a store adds nothing and has no C
-  planBy Write = record { group = []; condition = 0; readGroup = storeRead }
+  planBy Write = built storeRead
 
 abbrev pub planIn : List Plan → ℕ → Plan
 planIn ps k = getD ps k (taken 0)

@@ -4,7 +4,7 @@ ghost use mathlib.Core.List.{[], _∷_};
 ghost use Prim.Native.Nat.{pred, _+_, _≤_, _<_};
 ghost use Rattle.groups.specs.Code.Writing.{placedFrom, placedAll, after};
 ghost use Rattle.groups.specs.Groups.{strictGroup, andGroup, orGroup, impliesGroup, absorbingGroup, boundsGroup};
-ghost use Rattle.groups.specs.Groups.{shiftGroup, choiceGroup, storeGroup};
+ghost use Rattle.groups.specs.Groups.{shiftGroup, choiceGroup, storeGroup, arrayChoiceGroup};
 use crate::added::and_term;
 use crate::added::choice_term;
 use crate::added::constant_term;
@@ -286,4 +286,41 @@ pub fn store(
         or_term(b + 4, b + 7),
     );
     grown(b, 9)
+}
+
+// A choice by `c` between arrays `a` and `e`, of width `n`, read at `j`; `dq` and `dr` are the Ds of their reads.
+pub fn array_choice(
+    room: &mut [u32],
+    b: u32,
+    n: u32,
+    c: u32,
+    a: u32,
+    e: u32,
+    j: u32,
+    cc: u32,
+    dq: u32,
+    dr: u32,
+) -> Written
+    requires { ⌜ b ≤ 80000 ⌝ }
+    ensures { λ r. ⌜ r ≡ after b (arrayChoiceGroup b n c a e j cc dq dr) ⌝ }
+    ensures { λ r. ⌜ now (room .exit) ≡ placedAll (now (room .entry)) b (arrayChoiceGroup b n c a e j cc dq dr) ⌝ }
+{
+    lay_three(
+        room,
+        b,
+        0,
+        read_term(n, a, j),
+        read_term(n, e, j),
+        choice_term(c, dq, dr),
+    );
+    lay_three(
+        room,
+        b,
+        3,
+        and_term(cc, b + 2),
+        and_term(dq, dr),
+        equal_term(b, b + 1),
+    );
+    lay_two(room, b, 6, and_term(b + 4, b + 5), or_term(b + 3, b + 6));
+    grown(b, 8)
 }

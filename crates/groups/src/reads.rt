@@ -1,17 +1,20 @@
-// Writing the group of a read: D0 of the variable, then nine terms for each store, from the inside.
+// Writing the group of a read, from the inside: D0 of each variable that it meets, nine terms for each store, eight for
+// each choice.
 ghost use mathlib.Core.Path.{_≡_};
-ghost use Prim.Native.Nat.{_≤_, _<_};
+ghost use Prim.Native.Nat.{_+_, _*_, _≤_, _<_};
 ghost use lib.ListN.{length};
+ghost use Rattle.table.specs.Faults.{size};
 ghost use Rattle.table.specs.WellFormed.{WellFormed};
 ghost use Rattle.sheets.specs.Marks.{ownMarks};
 ghost use Rattle.groups.specs.Code.Writing.{placedAll, Numbered, after};
 ghost use Rattle.groups.specs.Plans.{planAt};
 use crate::groups::Written;
+use crate::groups::array_choice;
 use crate::groups::store;
 use crate::groups::strict;
 use table::number_at;
 
-// The group of a read of array `a` at index `j`, whose condition is `cj`, from number `b` on.
+// The group of a read of array `a` at index `j`, whose condition is `cj`, from number `b` on. The array's number falls.
 pub fn read_group(
     table: &[u32],
     conditions: &[u32],
@@ -23,18 +26,26 @@ pub fn read_group(
 ) -> Written
     requires { ⌜ WellFormed 512 (now table) ⌝ }
     requires { ⌜ Numbered (now table) (now conditions) ⌝ }
-    requires { ⌜ (a < length (now conditions)) × (b ≤ 79000) ⌝ }
+    requires { ⌜ (a < length (now conditions)) × (b + 9 * size (now table) a ≤ 80000) ⌝ }
     ensures { λ r. ⌜ r ≡ after b (planAt (now (table .entry)) ownMarks a .readGroup b j cj) ⌝ }
     ensures { λ r. ⌜ now (room .exit)
         ≡ placedAll (now (room .entry)) b (planAt (now (table .entry)) ownMarks a .readGroup b j cj) ⌝ }
 {
     let x = table::term_at(table, a);
-    if !table::is_store(x) {
+    if table::is_store(x) {
+        let below = read_group(table, conditions, room, b, x.p, j, cj);
+        let ci = number_at(conditions, x.q);
+        let ce = number_at(conditions, x.r);
+        let d = below.condition;
+        return store(room, below.next, x.sort.n, x.p, x.q, x.r, j, ci, ce, cj, d);
+    }
+    if !table::is_choice(x) {
         return strict(room, b, number_at(conditions, a), cj);
     }
-    let below = read_group(table, conditions, room, b, x.p, j, cj);
-    let ci = number_at(conditions, x.q);
-    let ce = number_at(conditions, x.r);
-    let d = below.condition;
-    store(room, below.next, x.sort.n, x.p, x.q, x.r, j, ci, ce, cj, d)
+    let q = read_group(table, conditions, room, b, x.q, j, cj);
+    let r = read_group(table, conditions, room, q.next, x.r, j, cj);
+    let cc = number_at(conditions, x.p);
+    let dq = q.condition;
+    let dr = r.condition;
+    array_choice(room, r.next, x.sort.n, x.p, x.q, x.r, j, cc, dq, dr)
 }

@@ -87,7 +87,8 @@ fn less(table: &[u32], room: &mut [u32], b: u32, x: Term, cp: u32, cq: u32, sign
     )
 }
 
-// The group of term `i`, from number `b` on; conditions has the numbers of the conditions before it.
+// The group of term `i`, from number `b` on; conditions has the numbers of the conditions before it. A choice between
+// arrays adds nothing and has no condition, like a store.
 pub fn write_group(
     table: &[u32],
     conditions: &[u32],
@@ -105,6 +106,9 @@ pub fn write_group(
         ≡ placedAll (now (room .entry)) b (planAt (now (table .entry)) ownMarks i .group) ⌝ }
 {
     let x = table::term_at(table, i);
+    if table::is_choice(x) {
+        return taken(0, b);
+    }
     let cp = number_at(conditions, x.p);
     let cq = number_at(conditions, x.q);
     let n = x.sort.n;

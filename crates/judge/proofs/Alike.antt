@@ -24,7 +24,7 @@ use Rattle.ops.proofs.Independence.{independence as op-independence, choice-ind
 use Rattle.table.specs.declared.words.Sort.{Sort}
 use Rattle.table.specs.declared.words.Term.{Term}
 use Rattle.table.specs.Folds.{fold}
-use Rattle.table.specs.Terms.{terms, termAt, sortAt, array, vectorOf, sameSort}
+use Rattle.table.specs.Terms.{terms, termAt, sortAt, boolean, array, vectorOf, sameSort}
 use Rattle.table.specs.Ranks.{rankOf, fieldsOf, slotted}
 use Rattle.table.specs.Faults.{placedAs, typedAs}
 use Rattle.table.specs.WellFormed.{WellFormed}
@@ -58,9 +58,34 @@ alike-scalar bound {b} {b′} g =
 same-agree : (b : Bool) (x : ℕ) → Agree b b x x
 same-agree b x = record { condition = refl; value = λ _. refl }
 
+-- where a test says so there is no condition
+agree-unless : (no : Bool) {b b′ : Bool} {x x′ : ℕ} → Agree b b′ x x′ → Agree (not no && b) (not no && b′) x x′
+agree-unless true g = record { condition = refl; value = λ k. never k }
+agree-unless false g = g
+
+-- what is said of the value that is picked is said of the picked value
+picked-agree : (f : Value → ℕ) (h h′ : Bool) {b b′ : Bool} (x y x′ y′ : Value) → Agree b b′ (cond h (f x) (f y)) (cond h′ (f x′) (f y′)) → Agree b b′ (f (cond h x y)) (f (cond h′ x′ y′))
+picked-agree f true true x y x′ y′ g = g
+picked-agree f true false x y x′ y′ g = g
+picked-agree f false true x y x′ y′ g = g
+picked-agree f false false x y x′ y′ g = g
+
 -- what is alike stays so under other names
 renamed : {bound : ℕ} {x x′ y y′ : Value} {a a′ b b′ : Condition} → x ≡ y → x′ ≡ y′ → a ≡ b → a′ ≡ b′ → Alike bound y y′ b b′ → Alike bound x x′ a a′
 renamed e e′ g g′ h = rw (e, e′, g, g′) h
+
+-- read at an index that is not free, a store is not free where the array beneath is not
+pub store-shut : (a b d test same : Bool) → d ≡ false → chosen (a && false) test b d same ≡ false
+store-shut a b true test same z = never (sym z)
+store-shut a b false test same z = ap₂ (λ (x y : Bool). (x && cond test b false) || (y && same)) (and-shut a) (and-shut b)
+
+-- and a choice where neither branch is
+pub choice-shut : (a test d e same : Bool) → d ≡ false → e ≡ false → chosen a test d e same ≡ false
+choice-shut a test true e same z y = never (sym z)
+choice-shut a test false true same z y = never (sym y)
+choice-shut true true false false same z y = refl
+choice-shut true false false false same z y = refl
+choice-shut false test false false same z y = refl
 
 -- One term, in two runs: i is its number, and sorts are the table's
 module _ (marked : Term → Bool) (I I′ : Interpretation) (v v′ : ℕ → Value) (c c′ : ℕ → Condition) (sorts : ℕ → Sort) (t : Term) (i : ℕ)
@@ -119,10 +144,17 @@ module _ (marked : Term → Bool) (I I′ : Interpretation) (v v′ : ℕ → Va
       (c (t .q) .free && d) (c′ (t .q) .free && d) (c (t .r) .free) (c′ (t .r) .free) (c (t .p) .readFree j d) (c′ (t .p) .readFree j d)
       (ap (λ (f : Bool). f && d) (q .condition)) (λ k. ap (λ (x : ℕ). eqb x j) (q .value (and-parts (c (t .q) .free) d k .0))) (alike (t .r) .whole) (alike (t .p) .read j b d)
 
-  -- read at an index that is not free, it is not free where the array beneath is not
-  store-shut : (a b d test same : Bool) → d ≡ false → chosen (a && false) test b d same ≡ false
-  store-shut a b true test same z = never (sym z)
-  store-shut a b false test same z = ap₂ (λ (x y : Bool). (x && cond test b false) || (y && same)) (and-shut a) (and-shut b)
+  -- a choice, of numbers or of the cells at an index: what it picks and its condition, from those of its branches
+  branches-alike : (f : Value → ℕ) (g g′ : Condition → Bool) → Agree (g (c (t .q))) (g′ (c′ (t .q))) (f (v (t .q))) (f (v′ (t .q))) → Agree (g (c (t .r))) (g′ (c′ (t .r))) (f (v (t .r))) (f (v′ (t .r)))
+      → Agree (chosen (c (t .p) .free) (holds (v (t .p) .num)) (g (c (t .q))) (g (c (t .r))) (eqb (f (v (t .q))) (f (v (t .r)))))
+      (chosen (c′ (t .p) .free) (holds (v′ (t .p) .num)) (g′ (c′ (t .q))) (g′ (c′ (t .r))) (eqb (f (v′ (t .q))) (f (v′ (t .r)))))
+      (f (cond (holds (v (t .p) .num)) (v (t .q)) (v (t .r)))) (f (cond (holds (v′ (t .p) .num)) (v′ (t .q)) (v′ (t .r))))
+  branches-alike f g g′ first second =
+      let test = alike (t .p) .whole in
+      picked-agree f (holds (v (t .p) .num)) (holds (v′ (t .p) .num)) (v (t .q)) (v (t .r)) (v′ (t .q)) (v′ (t .r))
+      (choice-independence (holds (v (t .p) .num)) (holds (v′ (t .p) .num)) (f (v (t .q))) (f (v′ (t .q))) (f (v (t .r))) (f (v′ (t .r)))
+      (c (t .p) .free) (c′ (t .p) .free) (g (c (t .q))) (g′ (c′ (t .q))) (g (c (t .r))) (g′ (c′ (t .r)))
+      (test .condition) (λ k. ap holds (test .value k)) first second)
 
   -- a function's operands fit
   fitted : (f : Function) → typedAs (rankOf (Apply f)) (t .sort) (sorts (t .p)) (sorts (t .q)) (sorts (t .r)) ≡ true → placedAs (fieldsOf (rankOf (Apply f))) i t ≡ true
@@ -143,11 +175,18 @@ module _ (marked : Term → Bool) (I I′ : Interpretation) (v v′ : ℕ → Va
       (op-independence f (sorts (t .p) .n) (v (t .p) .num) (v′ (t .p) .num) (v (t .q) .num) (v′ (t .q) .num) (c (t .p) .free) (c′ (t .p) .free) (c (t .q) .free) (c′ (t .q) .free)
       (fitted f h place v fit) (fitted f h place v′ fit′) (alike (t .p) .whole) (alike (t .q) .whole))
   alike-by Ite h place input =
-      let test = alike (t .p) .whole in
-      alike-scalar (2 ^ t .sort .m)
-      (choice-independence (holds (v (t .p) .num)) (holds (v′ (t .p) .num)) (v (t .q) .num) (v′ (t .q) .num) (v (t .r) .num) (v′ (t .r) .num)
-      (c (t .p) .free) (c′ (t .p) .free) (c (t .q) .free) (c′ (t .q) .free) (c (t .r) .free) (c′ (t .r) .free)
-      (test .condition) (λ k. ap holds (test .value k)) (alike (t .q) .whole) (alike (t .r) .whole))
+      let parts = three (boolean (sorts (t .p))) (sameSort (sorts (t .q)) (t .sort)) (sameSort (sorts (t .r)) (t .sort)) h in
+      let mq : sorts (t .q) .m ≡ t .sort .m = same-sort (sorts (t .q)) (t .sort) (parts .1) .m in
+      let mr : sorts (t .r) .m ≡ t .sort .m = same-sort (sorts (t .r)) (t .sort) (parts .2) .m in
+      record {
+        whole = agree-unless (array (t .sort)) (branches-alike (λ u. u .num) (λ d. d .free) (λ d. d .free) (alike (t .q) .whole) (alike (t .r) .whole));
+        read = λ j b d. branches-alike (λ u. u .cell j) (λ e. e .readFree j d) (λ e. e .readFree j d)
+            (alike (t .q) .read j (subst (λ (n : ℕ). j < 2 ^ n) (sym mq) b) d) (alike (t .r) .read j (subst (λ (n : ℕ). j < 2 ^ n) (sym mr) b) d);
+        shut = λ j. (
+          choice-shut (c (t .p) .free) (holds (v (t .p) .num)) _ _ _ (alike (t .q) .shut j .0) (alike (t .r) .shut j .0),
+          choice-shut (c′ (t .p) .free) (holds (v′ (t .p) .num)) _ _ _ (alike (t .q) .shut j .1) (alike (t .r) .shut j .1),
+        );
+      }
   alike-by Select h place input =
       alike-scalar (2 ^ t .sort .m) (select-alike (c (t .q) .free) (c′ (t .q) .free) (alike (t .q) .whole) (index-below h (two-placed i t place .1)))
   alike-by Store h place input =

@@ -1,35 +1,41 @@
 -- The run of judging: the room holds the values and the truths so far.
 -- Assumes nothing.
-use mathlib.Core.Path.{_≡_, refl, sym, ap, ap₂, _∙_}
-use mathlib.Core.Bool.{Bool, true, false}
+use mathlib.Core.Path.{_≡_, refl, sym, ap, ap₂, subst, _∙_}
+use mathlib.Core.Bool.{Bool, true, false, cond}
 use mathlib.Core.List.{List, [], _∷_, _++_}
-use Prim.Native.Nat.{ℕ, _+_, _≤_, _<_}
+use Prim.Native.Nat.{ℕ, _+_, _-_, _*_, _≤_, _<_}
+use native.Mathlib.Nat.{not-suc-le-zero}
 use native.Mathlib.Omega.{arith}
-use lib.ListN.{length, take, drop}
+use lib.Dec.{ltb}
+use lib.ListN.{length, take, drop, set, replicate, length-set}
+use borrow.Author.Tests.{ltb-true, ltb-false}
 use Rattle.ops.specs.Meaning.{bit}
-use Rattle.ops.proofs.Booleans.{never}
+use Rattle.ops.proofs.Booleans.{never, and-shut}
 use Rattle.table.specs.Folds.{fold}
 use Rattle.table.specs.declared.words.Term.{Term}
 use Rattle.table.specs.Terms.{terms, termAt}
 use Rattle.table.specs.Faults.{isRead}
 use Rattle.table.specs.WellFormed.{WellFormed}
 use Rattle.table.proofs.FoldLaws.{map-fold-more}
+use Rattle.table.proofs.SoundTerms.{stacked}
 use Rattle.setting.specs.declared.cells.Cell.{Cell}
 use Rattle.setting.specs.Cells.{lookFrom}
 use Rattle.setting.specs.Interpretation.{Interpretation}
-use Rattle.evaluate.specs.declared.turns.Turn.{Turn}
 use Rattle.evaluate.specs.Values.{valueIn, values, valueAt, numbers}
 use Rattle.evaluate.specs.Code.Turns as evaluating
-use Rattle.evaluate.specs.Code.Turns.{isReadAt, nextRead, onward}
+use Rattle.evaluate.specs.Code.Turns.{isReadAt, nextRead}
 use Rattle.evaluate.proofs.Folds.{length-numbers, numbers-more}
 use Rattle.evaluate.proofs.Onward.{Arrived, arrived}
-use Rattle.evaluate.proofs.Runs.{inCells, Running, Turning, at-is, inside}
+use Rattle.evaluate.proofs.Runs.{inCells, Turning}
+use Rattle.judge.specs.declared.turns.Turn.{Turn}
 use Rattle.judge.specs.declared.reads.Labelled.{Labelled}
 use Rattle.judge.specs.Conditions.{plain, conditionIn, conditionFrom, conditions, conditionAt, truths}
+use Rattle.judge.specs.Code.Leaves.{leavesAt}
 use Rattle.judge.specs.Code.Labelled.{truthIn, labelledOf, entered, noted}
-use Rattle.judge.specs.Code.Turns.{turnOf, turnHere}
-use Rattle.judge.proofs.Meaning.{length-truths, answerTo, labelled-is}
-use Rattle.judge.proofs.Asking.{turning, plain-asks, answer-is}
+use Rattle.judge.specs.Code.Turns.{turnOf, turnHere, firstTurn, gathered, noteOn, nextAt, nextMet, nextRoom}
+use Rattle.judge.proofs.LeafLaws.{some-leaves}
+use Rattle.judge.proofs.Meaning.{length-truths, Answers, labelled-is}
+use Rattle.judge.proofs.Asking.{asked, freeRead, turning, free-asks, kept-cells, more-free, Gathering, room as room-for, one-more, answers}
 use Rattle.judge.proofs.Rooms.{runs, laid-length, laid-front, laid-truths, laid-more, laid-none}
 
 truths-more : (w : List ℕ) (marked : Term → Bool) (I : Interpretation) (k : ℕ) → truths w marked I (k + 1) ≡ truths w marked I k ++ (bit (conditionAt w marked I k .free) ∷ [])
@@ -39,23 +45,63 @@ module _ (w : List ℕ) (marked : Term → Bool) (row : List ℕ) (cells : ℕ �
   abbrev I : Interpretation
   I = inCells row cells count
 
-  -- the room before term i of n, which began as begin, and what the term asks
+  -- the room before term i of n, which began as begin, and what the term asks where it has met so many of its variables
   abbrev pub filled : ℕ → List ℕ
   filled i = runs (numbers w I i) (truths w marked I i) n i begin
 
-  abbrev pub asking : ℕ → Turn
-  asking i = turnOf w row count n (numbers w I i) (truths w marked I i) i
+  abbrev pub asking : ℕ → ℕ → List ℕ → Turn
+  asking i met had = turnOf w row count n (numbers w I i) (truths w marked I i) had i met
 
-  abbrev pub Filling : List ℕ → Turn → Type 0
-  Filling = Running n filled asking
+  -- the run has come to term i, and to the next of its variables
+  pub record Filling (room : List ℕ) (turn : Turn) : Type 0 where
+    pub i : ℕ
+    pub within : i ≤ n
+    pub is : room ≡ filled i
+    pub met : ℕ
+    pub had : List ℕ
+    pub long : length had ≡ 17
+    pub asks : turn ≡ asking i met had
+    pub going : (freeRead w (truths w marked I i) i ≡ true) → Gathering w marked row cells count i met had
 
-  pub asks : (i : ℕ) → Turning n count i (asking i)
-  asks i = turning w row (numbers w I i) (truths w marked I i) count n i
+  module _ (room : List ℕ) (turn : Turn) (h : Filling room turn) where
+    here : Turning n count (h .i) (asked turn)
+    here = subst (λ (t : Turn). Turning n count (h .i) (asked t)) (sym (h .asks)) (turning w row (numbers w I (h .i)) (truths w marked I (h .i)) (h .had) count n (h .i) (h .met))
 
-  -- before the first term no index is free, so it asks as in evaluating
-  pub started : (turn : Turn) → turn ≡ evaluating.turnOf w row count n [] 0 → Filling begin turn
+    at-is : turn .at ≡ h .i
+    at-is = here .place
+
+    pub count-here : turn .count ≤ count
+    count-here = here .most
+
+    inside : turn .pending ≡ true → h .i < n
+    inside on = ltb-true (h .i) n (sym (here .going) ∙ on)
+
+    pub at-going : turn .pending ≡ true → turn .at < n
+    at-going on = omega (arith, at-is, inside on)
+
+    met-of : freeRead w (truths w marked I (h .i)) (h .i) ≡ true → turn .met ≡ h .met
+    met-of e = ap (λ (t : Turn). t .met) (h .asks ∙ free-asks w row (numbers w I (h .i)) (truths w marked I (h .i)) (h .had) count n (h .i) (h .met) e)
+
+    pub ended : turn .pending ≡ false → room ≡ filled n
+    ended off =
+        let past : n ≤ h .i = ltb-false (h .i) n (sym (here .going) ∙ off) in
+        let e : h .i ≡ n = let b : h .i ≤ n = h .within in omega arith in
+        h .is ∙ ap filled e
+
+  -- before the first term no index is free
+  pub started : (turn : Turn) → turn ≡ firstTurn w row count n → Filling begin turn
   unfolding fold
-  started turn e = record { i = 0; within = omega arith; is = laid-none n begin; asks = e ∙ sym (plain-asks w row [] [] count n 0 refl) }
+  started turn e =
+      record {
+        i = 0;
+        within = omega arith;
+        is = laid-none n begin;
+        met = 0;
+        had = replicate 17 0;
+        long = refl;
+        asks = e;
+        going = λ free. never (sym (and-shut (isRead (termAt w 0))) ∙ free);
+      }
 
   module _ (limit : ℕ) (f : WellFormed limit w) (all : n ≡ terms w) (enough : n + n ≤ length begin) where
     module _ (i : ℕ) (within : i ≤ n) where
@@ -68,58 +114,118 @@ module _ (w : List ℕ) (marked : Term → Bool) (row : List ℕ) (cells : ℕ �
       long : length (filled i) ≡ length begin
       long = laid-length (numbers w I i) (truths w marked I i) n i begin enough within (length-numbers w I i) (length-truths w marked I i)
 
+      -- what term i asks there
+      turn-is : (room had : List ℕ) (met : ℕ) (turn : Turn) → room ≡ filled i → turn ≡ turnHere w row count n room had i met → turn ≡ asking i met had
+      turn-is room had met turn e t =
+          t ∙ ap (λ (l : List ℕ). turnHere w row count n l had i met) e ∙ ap₂ (λ (l m : List ℕ). turnOf w row count n l m had i met) front-is truths-are
+
     -- a term notes its value and its truth
-    wrote : (i answer : ℕ) (b : i < terms w) → (isRead (termAt w i) ≡ true → answer ≡ answerTo limit w marked row (λ slot j other. lookFrom cells count 0 slot j other) f i b (truthIn (truths w marked I i) (termAt w i .q)))
-        → noted w marked row n answer (filled i) i ≡ filled (i + 1)
-    wrote i answer b h =
+    wrote : (had : List ℕ) (i : ℕ) (b : i < terms w) → (isRead (termAt w i) ≡ true → Answers limit w marked row (λ slot j other. lookFrom cells count 0 slot j other) f i b (truthIn (truths w marked I i) (termAt w i .q)) had)
+        → noted w marked row n had (filled i) i ≡ filled (i + 1)
+    wrote had i b h =
         let meant : Labelled = record { value = valueAt w I i .num; free = conditionAt w marked I i .free } in
         ap (λ (r : Labelled). entered r n (filled i) i)
-        (ap₂ (λ (l m : List ℕ). labelledOf w marked row l m (termAt w i) answer) (front-is i (omega arith)) (truths-are i (omega arith))
-        ∙ labelled-is limit w marked row (λ slot j other. lookFrom cells count 0 slot j other) f i b answer h)
+        (ap₂ (λ (l m : List ℕ). labelledOf w marked row l m (termAt w i) had) (front-is i (omega arith)) (truths-are i (omega arith))
+        ∙ labelled-is limit w marked row (λ slot j other. lookFrom cells count 0 slot j other) f i b had h)
         ∙ laid-more (numbers w I i) (truths w marked I i) n i begin enough (omega arith) (length-numbers w I i) (length-truths w marked I i) (omega arith) (meant .value) (bit (meant .free))
         ∙ sym (ap₂ (λ (l m : List ℕ). runs l m n (i + 1) begin) (numbers-more w I i) (truths-more w marked I i))
-
-    -- from term i on to the next read
-    module _ (i : ℕ) (within : i ≤ n) (room next : List ℕ) (after : Turn) (is : room ≡ filled i)
-        (e : next ≡ onward w (noted w marked row n 0) n room i) (t : after ≡ turnHere w row count n next (nextRead w n i)) where
-      there : Arrived (isReadAt w) (noted w marked row n 0) filled n (λ k b s. wrote k 0 (omega arith) (λ r. never (sym s ∙ r))) i room
-      there = arrived (isReadAt w) (noted w marked row n 0) filled n (λ k b s. wrote k 0 (omega arith) (λ r. never (sym s ∙ r))) i room within is
-
-      arrive : Filling next after
-      arrive =
-          record {
-            i = nextRead w n i;
-            within = there .high;
-            is = e ∙ there .is;
-            asks =
-                t ∙ ap (λ (l : List ℕ). turnHere w row count n l (nextRead w n i)) (e ∙ there .is)
-                ∙ ap₂ (λ (l m : List ℕ). turnOf w row count n l m (nextRead w n i)) (front-is (nextRead w n i) (there .high)) (truths-are (nextRead w n i) (there .high));
-          }
-
-      later : i ≤ after .at
-      later = let b : i ≤ nextRead w n i = there .low in omega (arith, ap (λ (u : Turn). u .at) t ∙ turning w row (take (nextRead w n i) next) (take (nextRead w n i) (drop n next)) count n (nextRead w n i) .place)
 
     module _ (room : List ℕ) (turn : Turn) (h : Filling room turn) where
       pub same-length : length room ≡ length begin
       same-length = ap length (h .is) ∙ long (h .i) (h .within)
 
-      module _ (on : turn .pending ≡ true) (answer : ℕ) (answered : answer ≡ lookFrom cells (turn .count) 0 (turn .slot) (turn .index) (turn .other)) where
-        here : h .i < n
-        here = inside n filled asking count asks room turn h on
+      module _ (on : turn .pending ≡ true) where
+        b : h .i < terms w
+        b = omega (arith, all, inside room turn h on)
 
-        read-is : noted w marked row n answer room (turn .at) ≡ filled (h .i + 1)
-        read-is =
-            ap (noted w marked row n answer room) (at-is n filled asking count asks room turn h)
-            ∙ ap (λ (l : List ℕ). noted w marked row n answer l (h .i)) (h .is)
-            ∙ wrote (h .i) answer (omega (arith, here)) (answer-is limit w marked row cells count n f (h .i) (omega (arith, here)) turn (h .asks) answer answered)
+        pub room-left : turn .met < 17
+        room-left = room-for limit w marked row cells count n f (h .i) b turn (h .met) (h .had) (h .long) (h .asks) (h .going)
 
-        -- the next turn, which is of a later term
-        pub turned : (next : List ℕ) (after : Turn) → next ≡ onward w (noted w marked row n 0) n (noted w marked row n answer room (turn .at)) (turn .at + 1)
-            → after ≡ turnHere w row count n next (nextRead w n (turn .at + 1)) → Filling next after × (turn .at + 1 ≤ after .at)
-        turned next after e t =
-            let at : turn .at + 1 ≡ h .i + 1 = ap (λ (k : ℕ). k + 1) (at-is n filled asking count asks room turn h) in
-            let b : turn .at + 1 ≤ n = omega (arith, here, at) in
-            let is : noted w marked row n answer room (turn .at) ≡ filled (turn .at + 1) = read-is ∙ ap filled (sym at) in (
-              arrive (turn .at + 1) b (noted w marked row n answer room (turn .at)) next after is e t,
-              later (turn .at + 1) b (noted w marked row n answer room (turn .at)) next after is e t,
-            )
+        module _ (answer : ℕ) (answered : answer ≡ lookFrom cells (turn .count) 0 (turn .slot) (turn .index) (turn .other)) where
+          abbrev had′ : List ℕ
+          had′ = gathered turn answer
+
+          long′ : length had′ ≡ 17
+          long′ =
+              length-set (turn .cells) (turn .met) answer
+              ∙ ap (λ (t : Turn). length (t .cells)) (h .asks)
+              ∙ ap length (kept-cells w row (numbers w I (h .i)) (truths w marked I (h .i)) (h .had) count n (h .i) (h .met))
+              ∙ h .long
+
+          -- the read asks for more: the same term, and one cell more
+          module _ (more : turn .more ≡ true) where
+            free : (freeRead w (truths w marked I (h .i)) (h .i) ≡ true) × (h .met + 1 < length (leavesAt w (termAt w (h .i) .p)))
+            free = more-free w row (numbers w I (h .i)) (truths w marked I (h .i)) (h .had) count n (h .i) (h .met) (sym (ap (λ (t : Turn). t .more) (h .asks)) ∙ more)
+
+            met-is : turn .met ≡ h .met
+            met-is = met-of room turn h (free .0)
+
+            pub gathers : (after : Turn) → after ≡ turnHere w row count n room had′ (turn .at) (turn .met + 1) → Filling room after × (after .at ≡ turn .at) × (after .met ≡ turn .met + 1)
+            gathers after t =
+                let same : Filling room after =
+                record {
+                  i = h .i;
+                  within = h .within;
+                  is = h .is;
+                  met = h .met + 1;
+                  had = had′;
+                  long = long′;
+                  asks = turn-is (h .i) (h .within) room had′ (h .met + 1) after (h .is) (t ∙ ap₂ (λ (k m : ℕ). turnHere w row count n room had′ k (m + 1)) (at-is room turn h) met-is);
+                  going = λ e. record {
+                    next = free .1;
+                    before = one-more limit w marked row cells count n f (h .i) b turn (h .met) (h .had) (h .long) (h .asks) (h .going) answer answered e;
+                  };
+                } in
+                (same, at-is room after same ∙ sym (at-is room turn h), met-of room after same (free .0) ∙ ap (λ (m : ℕ). m + 1) (sym met-is))
+
+          -- it asks for no more: it is noted, with the terms after it up to the next read
+          module _ (none : turn .more ≡ false) where
+            answers-here : isRead (termAt w (h .i)) ≡ true → Answers limit w marked row (λ slot j other. lookFrom cells count 0 slot j other) f (h .i) b (truthIn (truths w marked I (h .i)) (termAt w (h .i) .q)) had′
+            answers-here = answers limit w marked row cells count n f (h .i) b turn (h .met) (h .had) (h .long) (h .asks) (h .going) answer answered none
+
+            read-is : noted w marked row n had′ room (turn .at) ≡ filled (h .i + 1)
+            read-is =
+                ap (noted w marked row n had′ room) (at-is room turn h)
+                ∙ ap (λ (l : List ℕ). noted w marked row n had′ l (h .i)) (h .is)
+                ∙ wrote had′ (h .i) b answers-here
+
+            next-at : turn .at + 1 ≡ h .i + 1
+            next-at = ap (λ (k : ℕ). k + 1) (at-is room turn h)
+
+            there : Arrived (isReadAt w) (noted w marked row n had′) filled n (λ k c s. wrote had′ k (omega arith) (λ r. never (sym s ∙ r))) (turn .at + 1) (noted w marked row n had′ room (turn .at))
+            there = arrived (isReadAt w) (noted w marked row n had′) filled n (λ k c s. wrote had′ k (omega arith) (λ r. never (sym s ∙ r))) (turn .at + 1) (noted w marked row n had′ room (turn .at))
+                (omega (arith, at-going room turn h on)) (read-is ∙ ap filled (sym next-at))
+
+            abbrev next : ℕ
+            next = nextRead w n (turn .at + 1)
+
+            pub goes-on : (room′ : List ℕ) (after : Turn) → room′ ≡ noteOn w marked row n had′ room (turn .at) → after ≡ turnHere w row count n room′ had′ next 0 → Filling room′ after × (turn .at + 1 ≤ after .at)
+            goes-on room′ after e t =
+                let filled-next : Filling room′ after =
+                record {
+                  i = next;
+                  within = there .high;
+                  is = e ∙ there .is;
+                  met = 0;
+                  had = had′;
+                  long = long′;
+                  asks = turn-is next (there .high) room′ had′ 0 after (e ∙ there .is) t;
+                  going = λ _. record { next = some-leaves w (stacked limit w f) (termAt w next .p); before = λ m c. absurd (not-suc-le-zero c) };
+                } in
+                (filled-next, omega (arith, there .low, at-is room′ after filled-next))
+
+          -- the next turn: of a later term, or of this one with one cell more
+          abbrev pub Nearer : Turn → Type 0
+          Nearer after = (n - after .at) * 18 - after .met < (n - turn .at) * 18 - turn .met
+
+          pub turned : (room′ : List ℕ) (after : Turn) → room′ ≡ nextRoom w marked row n had′ turn room → after ≡ turnHere w row count n room′ had′ (nextAt w n turn) (nextMet turn) → Filling room′ after × Nearer after
+          turned room′ after e t = by (turn .more) refl e t
+            where
+              by : (z : Bool) → turn .more ≡ z → room′ ≡ cond z room (noteOn w marked row n had′ room (turn .at))
+                  → after ≡ turnHere w row count n room′ had′ (cond z (turn .at) (nextRead w n (turn .at + 1))) (cond z (turn .met + 1) 0) → Filling room′ after × Nearer after
+              by true more e t =
+                  let same = gathers more after (t ∙ ap (λ (l : List ℕ). turnHere w row count n l had′ (turn .at) (turn .met + 1)) e) in
+                  (subst (λ (l : List ℕ). Filling l after) (sym e) (same .0), omega (arith, same .1, same .2, at-going room turn h on, room-left))
+              by false none e t =
+                  let f′ = goes-on none room′ after e t in
+                  (f′ .0, omega (arith, f′ .1, at-going room turn h on, room-left))

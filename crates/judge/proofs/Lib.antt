@@ -2,7 +2,8 @@ pub mod Alike
 pub mod SheetMarks
 pub mod Marks
 pub mod Promises
-pub mod Chains
+pub mod LeafLaws
+pub mod Trees
 pub mod Meaning
 pub mod Asking
 pub mod Steps

@@ -11,14 +11,15 @@ use lib.Dec.{eqb}
 use Rattle.ops.specs.declared.Op.{Op}
 use Rattle.ops.specs.declared.Op.the-variants.{Constant, Variable, Apply, Ite, Select, Store, Unknown}
 use Rattle.ops.specs.Numbers.{opOf}
+use Rattle.ops.specs.Meaning.{holds}
 use Rattle.ops.specs.Laws.{Implied}
 use Rattle.ops.proofs.Booleans.{never}
 use Rattle.ops.proofs.Monotone.{and-implied, monotone, choice-monotone}
 use Rattle.table.specs.declared.words.Term.{Term}
-use Rattle.table.specs.Terms.{terms, termAt, sortAt}
+use Rattle.table.specs.Terms.{terms, termAt, sortAt, array}
 use Rattle.setting.specs.Interpretation.{Value, Interpretation}
 use Rattle.evaluate.specs.Values.{valueIn, values}
-use Rattle.judge.specs.Conditions.{Condition, plain, settling, conditionBy, conditionIn, conditions, conditionAt}
+use Rattle.judge.specs.Conditions.{Condition, plain, settled, conditionBy, conditionIn, conditions, conditionAt}
 use Rattle.judge.specs.Marks.{Fewer, Freer, FewerMarks, FewerMarksRule}
 use Rattle.judge.proofs.Alike.{condition-below, condition-past}
 
@@ -36,9 +37,8 @@ renamed e e′ g = rw (e, e′) g
 
 -- one term, from the conditions c and d of the terms before it
 module _ (marked marked′ : Term → Bool) (fewer : Fewer marked marked′) (v : ℕ → Value) (c d : ℕ → Condition) (before : (i : ℕ) → Freer (c i) (d i)) (width : ℕ) (t : Term) where
-  freer-settling : (op : Op) → Freer (settling marked′ v c width t op) (settling marked v d width t op)
-  freer-settling op =
-      freer-plain _ _
+  freer-settled : (op : Op) → Implied (settled marked′ v c width t op) (settled marked v d width t op)
+  freer-settled op =
       (monotone op width (v (t .p) .num) (v (t .q) .num) (v (t .r) .num) (c (t .p) .free) (d (t .p) .free) (c (t .q) .free) (d (t .q) .free) (c (t .r) .free) (d (t .r) .free)
       (before (t .p) .whole) (before (t .q) .whole) (before (t .r) .whole))
 
@@ -46,8 +46,14 @@ module _ (marked marked′ : Term → Bool) (fewer : Fewer marked marked′) (v 
   unfolding conditionBy
   freer-by Constant = freer-plain true true (λ h. h)
   freer-by Variable = freer-plain (not (marked′ t)) (not (marked t)) (unmarked (marked t) (marked′ t) (fewer t))
-  freer-by (Apply f) = freer-settling (Apply f)
-  freer-by Ite = freer-settling Ite
+  freer-by (Apply f) = freer-plain _ _ (freer-settled (Apply f))
+  freer-by Ite =
+      record {
+        whole = and-implied (not (array (t .sort))) (not (array (t .sort))) _ _ (λ h. h) (freer-settled Ite);
+        read = λ j b b′ p.
+            choice-monotone (holds (v (t .p) .num)) (eqb (v (t .q) .cell j) (v (t .r) .cell j)) (c (t .p) .free) (d (t .p) .free) (c (t .q) .readFree j b) (d (t .q) .readFree j b′) (c (t .r) .readFree j b) (d (t .r) .readFree j b′)
+            (before (t .p) .whole) (before (t .q) .read j b b′ p) (before (t .r) .read j b b′ p);
+      }
   freer-by Select = freer-plain _ _ (before (t .p) .read (v (t .q) .num) (c (t .q) .free) (d (t .q) .free) (before (t .q) .whole))
   freer-by Store =
       record {

@@ -2,39 +2,40 @@
 -- Assumes nothing.
 use mathlib.Core.Path.{_≡_, refl, sym, ap, ap₂, subst, _∙_}
 use mathlib.Core.Bool.{Bool, true, false, cond, not, _&&_}
-use mathlib.Core.Logic.{⊎-elim}
-use mathlib.Core.List.{List}
-use Prim.Native.Nat.{ℕ, zero, suc, _<_}
-use native.Mathlib.Nat.{not-suc-le-zero}
+use mathlib.Core.List.{List, _++_}
+use Prim.Native.Nat.{ℕ, zero, suc, _+_, _<_}
+use native.Mathlib.Decide.{decLt}
+use native.Mathlib.Nat.{not-suc-le-zero, add-assoc}
 use native.Mathlib.Omega.{arith}
 use lib.Dec.{eqb}
-use lib.ListN.{length, getD}
+use lib.ListN.{length, getD, length-append, List·getD-append}
+use lib.Seq.{getD-append-add}
 use Rattle.ops.specs.declared.Op.{Op}
 use Rattle.ops.specs.declared.Op.the-variants.{Constant, Variable, Apply, Ite, Select, Store, Unknown}
 use Rattle.ops.specs.Numbers.{opOf}
 use Rattle.ops.specs.Meaning.{bit, holds}
 use Rattle.ops.specs.Condition.{chosen, settles}
-use Rattle.ops.proofs.Booleans.{never}
+use Rattle.ops.proofs.Booleans.{never, and-shut}
 use Rattle.table.specs.declared.words.Term.{Term}
 use Rattle.table.specs.Terms.{terms, termAt, sortAt, array, vectorOf, sameSort}
-use Rattle.table.specs.Ranks.{rankOf, fieldsOf, slotted, immediate, reads, writes}
-use Rattle.table.specs.Faults.{isStore, isRead}
+use Rattle.table.specs.Ranks.{slotted, immediate, picks, reads}
+use Rattle.table.specs.Faults.{isRead}
 use Rattle.table.specs.WellFormed.{WellFormed}
 use Rattle.table.proofs.FoldLaws.{length-map-fold, map-fold-in, map-fold-more}
-use Rattle.table.proofs.SoundTerms.{store-below}
+use Rattle.table.proofs.SoundTerms.{stacked}
 use Rattle.setting.specs.Interpretation.{Value, Interpretation, interpret}
-use Rattle.evaluate.specs.Code.Reads.{bottomAt}
 use Rattle.evaluate.specs.Code.Turns.{numberOf}
 use Rattle.evaluate.specs.Values.{valueBy, valueIn, values, valueAt, numbers}
-use Rattle.evaluate.proofs.Chains.{bottom-end, bottom-on}
 use Rattle.evaluate.proofs.Folds.{value-below, number-in}
-use Rattle.evaluate.proofs.Meaning.{variable-cell, same-array, reads-select, number-below, cellBeneath, asked, valueRead, number-is}
-use Rattle.table.proofs.OperandSorts.{array-op, three, four, op-at, typing, typing-as, placing-as, two-placed, three-placed}
+use Rattle.evaluate.proofs.Meaning.{reads-select, number-below, cellOf, variable-ends, cell-variable, is-store, store-placed, store-array, cell-store, is-choice, choice-placed, choice-arrays, cell-choice, array-by, read-is, valueRead, number-is}
+use Rattle.table.proofs.OperandSorts.{three, typing-as, placing-as, two-placed}
 use Rattle.judge.specs.declared.reads.Labelled.{Labelled}
-use Rattle.judge.specs.Conditions.{Condition, plain, storeFree, conditionBy, conditionIn, conditionFrom, conditions, conditionAt, truths}
-use Rattle.judge.specs.Code.Labelled.{truthIn, overlaid, labelledAt, labelledBy, settledBy, truthOf, labelledOf}
-use Rattle.judge.proofs.Alike.{condition-below}
-use Rattle.judge.proofs.Chains.{labelled-end, labelled-store, labelled-value, labelled-unfree}
+use Rattle.judge.specs.Code.Leaves.{leavesAt}
+use Rattle.judge.specs.Conditions.{Condition, plain, settled, conditionBy, conditionIn, conditionFrom, conditions, conditionAt, truths}
+use Rattle.judge.specs.Code.Labelled.{truthIn, labelledAt, labelledBy, truthOf, labelledOf}
+use Rattle.judge.proofs.Alike.{choice-shut, store-shut, condition-below, condition-past}
+use Rattle.judge.proofs.LeafLaws.{leaves-variable, leaves-store, leaves-choice}
+use Rattle.judge.proofs.Trees.{labelled-variable, labelled-store, labelled-choice}
 
 pub holds-bit : (b : Bool) → holds (bit b) ≡ b
 holds-bit true = refl
@@ -50,6 +51,35 @@ module _ (w : List ℕ) (marked : Term → Bool) (I : Interpretation) where
   truth-in k i =
       ap holds (map-fold-in (λ cs i. conditionFrom w marked (valueIn (values w I i)) (conditionIn cs) (termAt w i)) (λ c. bit (c .free)) (plain false) k i)
       ∙ holds-bit (conditionIn (conditions w marked I k) i .free)
+
+-- A read at an index that is not free is not free
+
+shut-by : (marked : Term → Bool) (v : ℕ → Value) (c : ℕ → Condition) (width : ℕ) (t : Term) (j : ℕ) → ((i : ℕ) → c i .readFree j false ≡ false) → (op : Op) → conditionBy marked v c width t op .readFree j false ≡ false
+unfolding conditionBy
+shut-by marked v c width t j shut Constant = refl
+shut-by marked v c width t j shut Variable = and-shut (not (marked t))
+shut-by marked v c width t j shut (Apply f) = and-shut (settled marked v c width t (Apply f))
+shut-by marked v c width t j shut Ite = choice-shut (c (t .p) .free) (holds (v (t .p) .num)) (c (t .q) .readFree j false) (c (t .r) .readFree j false) (eqb (v (t .q) .cell j) (v (t .r) .cell j)) (shut (t .q)) (shut (t .r))
+shut-by marked v c width t j shut Select = and-shut (c (t .p) .readFree (v (t .q) .num) (c (t .q) .free))
+shut-by marked v c width t j shut Store = store-shut (c (t .q) .free) (c (t .r) .free) (c (t .p) .readFree j false) (eqb (v (t .q) .num) j) (eqb (v (t .r) .num) (v (t .p) .cell j)) (shut (t .p))
+shut-by marked v c width t j shut Unknown = refl
+
+module _ (w : List ℕ) (marked : Term → Bool) (I : Interpretation) (j : ℕ) where
+  shut-in : (k : ℕ) → ((i : ℕ) → i < k → conditionAt w marked I i .readFree j false ≡ false) → (i : ℕ) → conditionIn (conditions w marked I k) i .readFree j false ≡ false
+  shut-in k before i = go (decLt i k)
+    where
+      go : Dec (i < k) → conditionIn (conditions w marked I k) i .readFree j false ≡ false
+      go (yes b) = ap (λ (c : Condition). c .readFree j false) (condition-below w marked I k i b) ∙ before i b
+      go (no b) = ap (λ (c : Condition). c .readFree j false) (condition-past w marked I k i b)
+
+  shut-within : (n k : ℕ) → k < n → conditionAt w marked I k .readFree j false ≡ false
+  shut-within zero k b = absurd (not-suc-le-zero b)
+  shut-within (suc n) k b =
+      let x = termAt w k in
+      shut-by marked (valueIn (values w I k)) (conditionIn (conditions w marked I k)) (sortAt w (x .p) .n) x j (shut-in k (λ i c. shut-within n i (omega arith))) (opOf (x .op))
+
+  pub unfree-index : (k : ℕ) → conditionAt w marked I k .readFree j false ≡ false
+  unfree-index k = shut-within (suc k) k (omega arith)
 
 -- One array term
 
@@ -71,11 +101,20 @@ module _ (limit : ℕ) (w : List ℕ) (marked : Term → Bool) (row : List ℕ) 
   abbrev meant : ℕ → ℕ → Bool → Labelled
   meant a j cj = record { value = W a .cell j; free = K a .readFree j cj }
 
-  module _ (k a : ℕ) (c : a < k) (d : a < terms w) (r : array (sortAt w a) ≡ true) (j : ℕ) (cj : Bool)
-      (beneath : termAt w a .p < a → array (sortAt w (termAt w a .p)) ≡ true
-      → labelledAt w (numbers w I k) (truths w marked I k) (termAt w a .p) j cj (cellBeneath limit w row look f (termAt w a .p) j) ≡ meant (termAt w a .p) j cj) where
+  -- from number first on, cells holds what the variables of array a hold at j
+  abbrev pub Had : List ℕ → ℕ → ℕ → ℕ → Type 0
+  Had cells j a first = (m : ℕ) → m < length (leavesAt w a) → getD cells (first + m) 0 ≡ cellOf limit w row look f j (getD (leavesAt w a) m 0)
+
+  module _ (k a : ℕ) (c : a < k) (d : a < terms w) (r : array (sortAt w a) ≡ true) (j : ℕ) (cj : Bool) (cells : List ℕ)
+      (later : (i : ℕ) → i < a → array (sortAt w i) ≡ true → (first : ℕ) → Had cells j i first → labelledAt w (numbers w I k) (truths w marked I k) cells j cj i first ≡ meant i j cj) where
     abbrev x : Term
     x = termAt w a
+
+    abbrev ns : List ℕ
+    ns = numbers w I k
+
+    abbrev ts : List ℕ
+    ts = truths w marked I k
 
     abbrev v : ℕ → Value
     v = valueIn (values w I a)
@@ -83,8 +122,18 @@ module _ (limit : ℕ) (w : List ℕ) (marked : Term → Bool) (row : List ℕ) 
     abbrev co : ℕ → Condition
     co = conditionIn (conditions w marked I a)
 
-    cell-by : (op : Op) → opOf (x .op) ≡ op → W a .cell j ≡ valueBy I v (sortAt w (x .p) .n) x op .cell j
-    cell-by op e = ap (λ (o : Op). valueBy I v (sortAt w (x .p) .n) x o .cell j) e
+    -- what the room holds of an operand, and what the meanings are made from
+    front : (i : ℕ) → i < a → getD ns i 0 ≡ W i .num
+    front i b = number-below limit w I f k i (omega arith)
+
+    truth : (i : ℕ) → i < a → truthIn ts i ≡ K i .free
+    truth i b = truth-below k i (omega arith)
+
+    val : (i : ℕ) → i < a → v i ≡ W i
+    val i b = value-below w I a i b
+
+    con : (i : ℕ) → i < a → co i ≡ K i
+    con i b = condition-below w marked I a i b
 
     free-by : (op : Op) → opOf (x .op) ≡ op → K a .readFree j cj ≡ conditionBy marked v co (sortAt w (x .p) .n) x op .readFree j cj
     free-by op e = ap (λ (o : Op). conditionBy marked v co (sortAt w (x .p) .n) x o .readFree j cj) e
@@ -92,112 +141,86 @@ module _ (limit : ℕ) (w : List ℕ) (marked : Term → Bool) (row : List ℕ) 
     own-by : (op : Op) → opOf (x .op) ≡ op → K a .free ≡ conditionBy marked v co (sortAt w (x .p) .n) x op .free
     own-by op e = ap (λ (o : Op). conditionBy marked v co (sortAt w (x .p) .n) x o .free) e
 
-    input-free : opOf (x .op) ≡ Variable → truthIn (truths w marked I k) a && cj ≡ K a .readFree j cj
+    -- a variable
+    input-free : opOf (x .op) ≡ Variable → truthIn ts a && cj ≡ K a .readFree j cj
     unfolding conditionBy
     input-free e = ap (λ (b : Bool). b && cj) (truth-below k a c ∙ own-by Variable e) ∙ sym (free-by Variable e)
 
-    input-cell : opOf (x .op) ≡ Variable → isStore x ≡ false → cellBeneath limit w row look f a j ≡ W a .cell j
-    input-cell e no-store =
-        sym (cell-by Variable e
-        ∙ variable-cell I v (sortAt w (x .p) .n) x j r
-        ∙ ap (λ (slot : ℕ). look slot j (getD row slot 0)) (bottom-end w (store-below limit w f) a x refl no-store))
-
-    input-labelled : opOf (x .op) ≡ Variable → labelledAt w (numbers w I k) (truths w marked I k) a j cj (cellBeneath limit w row look f a j) ≡ meant a j cj
-    input-labelled e =
-        let no-store : isStore x ≡ false = ap (λ (o : Op). writes o) e in
-        let vs = input-cell e no-store in
+    input-labelled : opOf (x .op) ≡ Variable → (first : ℕ) → Had cells j a first → labelledAt w ns ts cells j cj a first ≡ meant a j cj
+    input-labelled e first had =
+        let ends = variable-ends limit w I f k a c d r e in
+        let one = leaves-variable w (stacked limit w f) a (ends .0) (ends .1) in
+        let cell : getD cells (first + 0) 0 ≡ cellOf limit w row look f j (x .p) = had 0 (omega (arith, ap length one)) ∙ ap (λ (l : List ℕ). cellOf limit w row look f j (getD l 0 0)) one in
+        let none : first + 0 ≡ first = omega arith in
+        let vs : getD cells first 0 ≡ W a .cell j = ap (λ (i : ℕ). getD cells i 0) (sym none) ∙ cell ∙ sym (cell-variable limit w I f k a c d r e j) in
         let fs = input-free e in
-        sym (labelled-end w (numbers w I k) (truths w marked I k) (store-below limit w f) j cj (cellBeneath limit w row look f a j) a no-store)
-        ∙ (λ i. record { value = vs i; free = fs i })
+        labelled-variable w ns ts cells (stacked limit w f) j cj a (ends .0) (ends .1) first ∙ (λ i. record { value = vs i; free = fs i })
 
-    -- a store, whose operands are below
-    module _ (e : opOf (x .op) ≡ Store) (pb : x .p < a) (qb : x .q < a) (rb : x .r < a) (arr : array (sortAt w (x .p)) ≡ true) where
-      stores : isStore x ≡ true
-      stores = ap (λ (o : Op). writes o) e
+    -- a store
+    module _ (e : opOf (x .op) ≡ Store) where
+      place : (x .p < a) × (x .q < a) × (x .r < a)
+      place = store-placed limit w I f k a c d r e
 
-      -- what the front of the room holds
-      fq : getD (numbers w I k) (x .q) 0 ≡ W (x .q) .num
-      fq = number-below limit w row look f k (x .q) (omega arith)
-
-      fr : getD (numbers w I k) (x .r) 0 ≡ W (x .r) .num
-      fr = number-below limit w row look f k (x .r) (omega arith)
-
-      tq : truthIn (truths w marked I k) (x .q) ≡ K (x .q) .free
-      tq = truth-below k (x .q) (omega arith)
-
-      tr : truthIn (truths w marked I k) (x .r) ≡ K (x .r) .free
-      tr = truth-below k (x .r) (omega arith)
-
-      below : labelledAt w (numbers w I k) (truths w marked I k) (x .p) j cj (cellBeneath limit w row look f a j) ≡ meant (x .p) j cj
-      below =
-          ap (λ (slot : ℕ). labelledAt w (numbers w I k) (truths w marked I k) (x .p) j cj (look slot j (getD row slot 0))) (bottom-on w (store-below limit w f) a x refl stores)
-          ∙ beneath pb arr
-
-      -- the store by the meanings of its operands
-      abbrev runs : Labelled
-      runs =
-          record {
-            value = cond (eqb (W (x .q) .num) j) (W (x .r) .num) (W (x .p) .cell j);
-            free = chosen (K (x .q) .free && cj) (eqb (W (x .q) .num) j) (K (x .r) .free) (K (x .p) .readFree j cj) (eqb (W (x .r) .num) (W (x .p) .cell j));
-          }
-
-      from-code : overlaid (numbers w I k) (truths w marked I k) x j cj (labelledAt w (numbers w I k) (truths w marked I k) (x .p) j cj (cellBeneath limit w row look f a j)) ≡ runs
-      from-code =
-          λ i.
-          record {
-            value = cond (eqb (fq i) j) (fr i) (below i .value);
-            free = chosen (tq i && cj) (eqb (fq i) j) (tr i) (below i .free) (eqb (fr i) (below i .value));
-          }
-
-      vp : v (x .p) ≡ W (x .p)
-      vp = value-below w I a (x .p) pb
-
-      vq : v (x .q) ≡ W (x .q)
-      vq = value-below w I a (x .q) qb
-
-      vr : v (x .r) ≡ W (x .r)
-      vr = value-below w I a (x .r) rb
-
-      cp : co (x .p) ≡ K (x .p)
-      cp = condition-below w marked I a (x .p) pb
-
-      cq : co (x .q) ≡ K (x .q)
-      cq = condition-below w marked I a (x .q) qb
-
-      cr : co (x .r) ≡ K (x .r)
-      cr = condition-below w marked I a (x .r) rb
-
-      cell-is : W a .cell j ≡ runs .value
-      unfolding valueBy
-      cell-is = cell-by Store e ∙ (λ i. cond (eqb (vq i .num) j) (vr i .num) (vp i .cell j))
-
-      free-is : K a .readFree j cj ≡ runs .free
+      store-free-is : K a .readFree j cj ≡ chosen (K (x .q) .free && cj) (eqb (W (x .q) .num) j) (K (x .r) .free) (K (x .p) .readFree j cj) (eqb (W (x .r) .num) (W (x .p) .cell j))
       unfolding conditionBy
-      free-is =
+      store-free-is =
           free-by Store e
-          ∙ (λ i. chosen (cq i .free && cj) (eqb (vq i .num) j) (cr i .free) (cp i .readFree j cj) (eqb (vr i .num) (vp i .cell j)))
+          ∙ (λ i. chosen (con (x .q) (place .1) i .free && cj) (eqb (val (x .q) (place .1) i .num) j) (con (x .r) (place .2) i .free) (con (x .p) (place .0) i .readFree j cj)
+          (eqb (val (x .r) (place .2) i .num) (val (x .p) (place .0) i .cell j)))
 
-      store-here : labelledAt w (numbers w I k) (truths w marked I k) a j cj (cellBeneath limit w row look f a j) ≡ meant a j cj
-      store-here =
-          sym (labelled-store w (numbers w I k) (truths w marked I k) (store-below limit w f) j cj (cellBeneath limit w row look f a j) a stores)
-          ∙ from-code
-          ∙ sym (λ i. record { value = cell-is i; free = free-is i })
+      store-labelled : (first : ℕ) → Had cells j a first → labelledAt w ns ts cells j cj a first ≡ meant a j cj
+      store-labelled first had =
+          let st = is-store limit w I f k a c d r e in
+          let same = leaves-store w (stacked limit w f) a st in
+          let below = later (x .p) (place .0) (store-array limit w I f k a c d r e) first (subst (λ (l : List ℕ). (m : ℕ) → m < length l → getD cells (first + m) 0 ≡ cellOf limit w row look f j (getD l m 0)) same had) in
+          let nq = front (x .q) (place .1) in
+          let nr = front (x .r) (place .2) in
+          let tq = truth (x .q) (place .1) in
+          let tr = truth (x .r) (place .2) in
+          let vs : W a .cell j ≡ cond (eqb (W (x .q) .num) j) (W (x .r) .num) (W (x .p) .cell j) = cell-store limit w I f k a c d r e j ∙ (λ i. cond (eqb (nq i) j) (nr i) (W (x .p) .cell j)) in
+          let fs = store-free-is in
+          labelled-store w ns ts cells (stacked limit w f) j cj a st first
+          ∙ (λ i. record { value = cond (eqb (nq i) j) (nr i) (below i .value); free = chosen (tq i && cj) (eqb (nq i) j) (tr i) (below i .free) (eqb (nr i) (below i .value)) })
+          ∙ sym (λ i. record { value = vs i; free = fs i })
 
-    store-labelled : opOf (x .op) ≡ Store → labelledAt w (numbers w I k) (truths w marked I k) a j cj (cellBeneath limit w row look f a j) ≡ meant a j cj
-    store-labelled e =
-        let place = three-placed a x (placing-as w a (f .sound a d) Store e) in
-        let sorts = four (array (sortAt w a)) (sameSort (sortAt w (x .p)) (sortAt w a)) (vectorOf (sortAt w a .m) (sortAt w (x .q))) (vectorOf (sortAt w a .n) (sortAt w (x .r))) (typing-as w a (f .sound a d) Store e) in
-        store-here e (place .0) (place .1) (place .2) (same-array (sortAt w (x .p)) (sortAt w a) (sorts .1) r)
+    -- a choice
+    module _ (e : opOf (x .op) ≡ Ite) where
+      placed : (x .p < a) × (x .q < a) × (x .r < a)
+      placed = choice-placed limit w I f k a c d r e
 
-    labelled-step : labelledAt w (numbers w I k) (truths w marked I k) a j cj (cellBeneath limit w row look f a j) ≡ meant a j cj
-    labelled-step =
-        ⊎-elim input-labelled store-labelled
-        (array-op (opOf (x .op)) (sortAt w a) (sortAt w (x .p)) (sortAt w (x .q)) (sortAt w (x .r)) (op-at w a (f .sound a d)) (typing w a (f .sound a d)) r)
+      choice-free-is : K a .readFree j cj ≡ chosen (K (x .p) .free) (holds (W (x .p) .num)) (K (x .q) .readFree j cj) (K (x .r) .readFree j cj) (eqb (W (x .q) .cell j) (W (x .r) .cell j))
+      unfolding conditionBy
+      choice-free-is =
+          free-by Ite e
+          ∙ (λ i. chosen (con (x .p) (placed .0) i .free) (holds (val (x .p) (placed .0) i .num)) (con (x .q) (placed .1) i .readFree j cj) (con (x .r) (placed .2) i .readFree j cj)
+          (eqb (val (x .q) (placed .1) i .cell j) (val (x .r) (placed .2) i .cell j)))
 
-  labelled-within : (n k a : ℕ) → a < n → a < k → a < terms w → array (sortAt w a) ≡ true → (j : ℕ) (cj : Bool)
-      → labelledAt w (numbers w I k) (truths w marked I k) a j cj (cellBeneath limit w row look f a j) ≡ meant a j cj
-  labelled-within zero k a b c d r j cj = absurd (not-suc-le-zero b)
-  labelled-within (suc n) k a b c d r j cj = labelled-step k a c d r j cj (λ pb arr. labelled-within n k (termAt w a .p) (omega arith) (omega arith) (omega arith) arr j cj)
+      choice-labelled : (first : ℕ) → Had cells j a first → labelledAt w ns ts cells j cj a first ≡ meant a j cj
+      choice-labelled first had =
+          let ch = is-choice limit w I f k a c d r e in
+          let arrays = choice-arrays limit w I f k a c d r e in
+          let lq = leavesAt w (x .q) in
+          let lr = leavesAt w (x .r) in
+          let all : (m : ℕ) → m < length (lq ++ lr) → getD cells (first + m) 0 ≡ cellOf limit w row look f j (getD (lq ++ lr) m 0) = subst (λ (l : List ℕ). (m : ℕ) → m < length l → getD cells (first + m) 0 ≡ cellOf limit w row look f j (getD l m 0)) (leaves-choice w (stacked limit w f) a ch) had in
+          let long = length-append lq lr in
+          let q = later (x .q) (placed .1) (arrays .0) first (λ m b. all m (omega (arith, long, b)) ∙ ap (cellOf limit w row look f j) (List·getD-append lq lr 0 m b)) in
+          let r′ = later (x .r) (placed .2) (arrays .1) (first + length lq)
+          (λ m b. ap (λ (i : ℕ). getD cells i 0) (add-assoc first (length lq) m) ∙ all (length lq + m) (omega (arith, long, b)) ∙ ap (cellOf limit w row look f j) (getD-append-add lq lr m 0)) in
+          let np = front (x .p) (placed .0) in
+          let tp = truth (x .p) (placed .0) in
+          let vs : W a .cell j ≡ cond (holds (W (x .p) .num)) (W (x .q) .cell j) (W (x .r) .cell j) = cell-choice limit w I f k a c d r e j ∙ (λ i. cond (holds (np i)) (W (x .q) .cell j) (W (x .r) .cell j)) in
+          let fs = choice-free-is in
+          labelled-choice w ns ts cells (stacked limit w f) j cj a ch first
+          ∙ (λ i. record { value = cond (holds (np i)) (q i .value) (r′ i .value); free = chosen (tp i) (holds (np i)) (q i .free) (r′ i .free) (eqb (q i .value) (r′ i .value)) })
+          ∙ sym (λ i. record { value = vs i; free = fs i })
+
+    labelled-step : (first : ℕ) → Had cells j a first → labelledAt w ns ts cells j cj a first ≡ meant a j cj
+    labelled-step = array-by limit w I f k a c d r input-labelled store-labelled choice-labelled
+
+  labelled-within : (n k a : ℕ) → a < n → a < k → a < terms w → array (sortAt w a) ≡ true → (j : ℕ) (cj : Bool) (cells : List ℕ) (first : ℕ) → Had cells j a first
+      → labelledAt w (numbers w I k) (truths w marked I k) cells j cj a first ≡ meant a j cj
+  labelled-within zero k a b c d r j cj cells = absurd (not-suc-le-zero b)
+  labelled-within (suc n) k a b c d r j cj cells = labelled-step k a c d r j cj cells (λ i l arr first had. labelled-within n k i (omega arith) (omega arith) (omega arith) arr j cj cells first had)
 
 -- A term that is no read: its truth by its operator
 
@@ -209,7 +232,7 @@ module _ (w : List ℕ) (marked : Term → Bool) (front ts : List ℕ) (v : ℕ 
   truthBy op =
       cond (immediate op) true
       (cond (slotted op) (not (marked x))
-      (settles op width (getD front (x .p) 0) (getD front (x .q) 0) (getD front (x .r) 0) (truthIn ts (x .p)) (truthIn ts (x .q)) (truthIn ts (x .r))))
+      (not (picks op && array (x .sort)) && settles op width (getD front (x .p) 0) (getD front (x .q) 0) (getD front (x .r) 0) (truthIn ts (x .p)) (truthIn ts (x .q)) (truthIn ts (x .r))))
 
   settles-same : (op : Op)
       → settles op width (getD front (x .p) 0) (getD front (x .q) 0) (getD front (x .r) 0) (truthIn ts (x .p)) (truthIn ts (x .q)) (truthIn ts (x .r))
@@ -221,7 +244,7 @@ module _ (w : List ℕ) (marked : Term → Bool) (front ts : List ℕ) (v : ℕ 
   truth-by Constant h = refl
   truth-by Variable h = refl
   truth-by (Apply f) h = settles-same (Apply f)
-  truth-by Ite h = settles-same Ite
+  truth-by Ite h = ap (λ (b : Bool). not (array (x .sort)) && b) (settles-same Ite)
   truth-by Select h = never (sym h)
   truth-by Store h = refl
   truth-by Unknown h = refl
@@ -241,22 +264,28 @@ module _ (limit : ℕ) (w : List ℕ) (marked : Term → Bool) (row : List ℕ) 
   abbrev here : Term
   here = termAt w k
 
-  -- what is answered to a read, by its index's condition: the variable's cell, or the read's value
-  abbrev pub answerTo : Bool → ℕ
-  answerTo cj = cond cj (asked limit w row look f k b) (valueRead limit w row look f k b)
+  -- the read's index
+  abbrev pub indexOf : ℕ
+  indexOf = getD N (here .q) 0
 
-  -- either way it is the reading along the chain over the variable's cell
-  answered : (cj : Bool) (answer : ℕ) → answer ≡ answerTo cj → labelledBy cj w N T here answer ≡ labelledAt w N T (here .p) (getD N (here .q) 0) cj (asked limit w row look f k b)
-  answered true answer h = ap (labelledAt w N T (here .p) (getD N (here .q) 0) true) h
-  answered false answer h =
-      let vs = h ∙ sym (labelled-value w N T (store-below limit w f) (getD N (here .q) 0) false (asked limit w row look f k b) (here .p)) in
-      let fs = sym (labelled-unfree w N T (here .p) (getD N (here .q) 0) (asked limit w row look f k b)) in
+  -- the cells that answer a read, by its index's condition: those of its variables, or its value alone
+  abbrev pub Answers : Bool → List ℕ → Type 0
+  Answers true cells = Had limit w marked row look f cells indexOf (here .p) 0
+  Answers false cells = getD cells 0 0 ≡ valueRead limit w row look f k b
+
+  -- either way its array is read as it is meant
+  answered : (cells : List ℕ) (pb : here .p < k) → array (sortAt w (here .p)) ≡ true → (cj : Bool) → Answers cj cells
+      → labelledBy cj w N T here cells ≡ record { value = valueAt w In (here .p) .cell indexOf; free = conditionAt w marked In (here .p) .readFree indexOf cj }
+  answered cells pb arr true h = labelled-within limit w marked row look f (suc (here .p)) k (here .p) (omega arith) pb (omega arith) arr indexOf true cells 0 h
+  answered cells pb arr false h =
+      let vs = h ∙ sym (ap (λ (v : Value). v .cell indexOf) (sym (value-below w In k (here .p) pb)) ∙ read-is limit w row look f k (here .p) pb (omega arith) arr indexOf) in
+      let fs = sym (unfree-index w marked In indexOf (here .p)) in
       λ i. record { value = vs i; free = fs i }
 
-  read-here : (answer : ℕ) → answer ≡ answerTo (truthIn T (here .q)) → opOf (here .op) ≡ Select
-      → _≡_ {A = Labelled} (labelledBy (truthIn T (here .q)) w N T here answer) (record { value = valueAt w In k .num; free = conditionAt w marked In k .free })
+  read-here : (cells : List ℕ) → Answers (truthIn T (here .q)) cells → opOf (here .op) ≡ Select
+      → _≡_ {A = Labelled} (labelledBy (truthIn T (here .q)) w N T here cells) (record { value = valueAt w In k .num; free = conditionAt w marked In k .free })
   unfolding valueBy conditionBy
-  read-here answer h e =
+  read-here cells h e =
       let place = two-placed k here (placing-as w k (f .sound k b) Select e) in
       let pb : here .p < k = place .0 in
       let sorts = three (array (sortAt w (here .p))) (vectorOf (sortAt w (here .p) .m) (sortAt w (here .q))) (vectorOf (sortAt w (here .p) .n) (sortAt w k)) (typing-as w k (f .sound k b) Select e) in
@@ -264,22 +293,21 @@ module _ (limit : ℕ) (w : List ℕ) (marked : Term → Bool) (row : List ℕ) 
       let tq = truth-in w marked In k (here .q) in
       let vp = value-below w In k (here .p) pb in
       let cp = condition-below w marked In k (here .p) pb in
-      answered (truthIn T (here .q)) answer h
-      ∙ labelled-within limit w marked row look f (suc (here .p)) k (here .p) (omega arith) pb (omega arith) (sorts .0) (getD N (here .q) 0) (truthIn T (here .q))
+      answered cells pb (sorts .0) (truthIn T (here .q)) h
       ∙ (λ i. record { value = valueAt w In (here .p) .cell (nq i); free = conditionAt w marked In (here .p) .readFree (nq i) (tq i) })
       ∙ sym (λ i. record { value = vp i .cell (valueIn (values w In k) (here .q) .num); free = cp i .readFree (valueIn (values w In k) (here .q) .num) (conditionIn (conditions w marked In k) (here .q) .free) })
       ∙ sym (ap (λ (o : Op). record { value = valueBy In (valueIn (values w In k)) (sortAt w (here .p) .n) here o .num; free = conditionBy marked (valueIn (values w In k)) (conditionIn (conditions w marked In k)) (sortAt w (here .p) .n) here o .free }) e)
 
-  pub labelled-is : (answer : ℕ) → (isRead here ≡ true → answer ≡ answerTo (truthIn T (here .q)))
-      → labelledOf w marked row N T here answer ≡ record { value = valueAt w In k .num; free = conditionAt w marked In k .free }
+  pub labelled-is : (cells : List ℕ) → (isRead here ≡ true → Answers (truthIn T (here .q)) cells)
+      → labelledOf w marked row N T here cells ≡ record { value = valueAt w In k .num; free = conditionAt w marked In k .free }
   unfolding labelledOf
-  labelled-is answer h = go (isRead here) refl
+  labelled-is cells h = go (isRead here) refl
     where
       go : (z : Bool) → isRead here ≡ z
-          → cond z (labelledBy (truthIn T (here .q)) w N T here answer) (record { value = numberOf w row N here answer; free = truthOf w marked N T here })
+          → cond z (labelledBy (truthIn T (here .q)) w N T here cells) (record { value = numberOf w row N here 0; free = truthOf w marked N T here })
           ≡ record { value = valueAt w In k .num; free = conditionAt w marked In k .free }
-      go true e = read-here answer (h e) (reads-select (opOf (here .op)) e)
+      go true e = read-here cells (h e) (reads-select (opOf (here .op)) e)
       go false e =
-          let vs = number-is limit w row look f k b answer (λ r. never (sym e ∙ r)) in
+          let vs = number-is limit w row look f k b 0 (λ r. never (sym e ∙ r)) in
           let fs = truth-by w marked N T (valueIn (values w In k)) (conditionIn (conditions w marked In k)) here (number-in w In k) (truth-in w marked In k) (opOf (here .op)) e in
           λ i. record { value = vs i; free = fs i }

@@ -10,7 +10,7 @@ use Rattle.ops.specs.Condition.{settles}
 use Rattle.table.specs.declared.Acceptance.the-variants.{Accepted}
 use Rattle.table.specs.Bench.{ruleG}
 use Rattle.table.specs.Folds.{fold, anyBelow}
-use Rattle.table.specs.Faults.{typed, clash, chain, faultIf, fault}
+use Rattle.table.specs.Faults.{typed, clash, sizeWithin, faultIf, fault}
 use Rattle.table.specs.Admission.{scan, admissionWithin}
 use Rattle.table.proofs.Admitted.{admission-sound}
 use Rattle.setting.specs.Cells.{lookFrom, look}
@@ -46,15 +46,15 @@ compared x first second same =
 
 -- by computation
 pub compared-pairs : ComparedPairs
-unfolding sheetCheck admissionWithin scan fault faultIf typed anyBelow clash chain steps fold valueBy conditionBy apply settles lookFrom check slotSort arrayEntry afford
+unfolding sheetCheck admissionWithin scan fault faultIf typed anyBelow clash sizeWithin steps fold valueBy conditionBy apply settles lookFrom check slotSort arrayEntry afford
 compared-pairs = (compared otherVector refl refl refl, compared otherListing refl refl refl, compared otherArray refl refl refl, compared otherParty refl refl refl)
 
 pub other-verdict : OtherVerdict
-unfolding sheetCheck admissionWithin scan fault faultIf typed anyBelow clash chain steps fold valueBy conditionBy apply settles lookFrom check slotSort arrayEntry afford
+unfolding sheetCheck admissionWithin scan fault faultIf typed anyBelow clash sizeWithin steps fold valueBy conditionBy apply settles lookFrom check slotSort arrayEntry afford
 other-verdict = refl
 
 pub sure-of-G : SureOfG
-unfolding sheetCheck admissionWithin scan fault faultIf typed anyBelow clash chain steps fold valueBy conditionBy apply settles lookFrom check slotSort arrayEntry afford
+unfolding sheetCheck admissionWithin scan fault faultIf typed anyBelow clash sizeWithin steps fold valueBy conditionBy apply settles lookFrom check slotSort arrayEntry afford
 sure-of-G x b =
     let checked : check ruleG (0 ∷ x ∷ 1 ∷ []) [] ≡ Accepted = rw (lt-ltb x 256 b) in
     let fit = checked-fits 512 ruleG (0 ∷ x ∷ 1 ∷ []) [] (admission-sound 512 ruleG refl) checked in

@@ -10,8 +10,8 @@ use Rattle.ops.specs.Condition.{settles}
 use Rattle.table.specs.Bench.{term, ruleG, ruleH, choosing, markedIndex}
 use Rattle.table.specs.Folds.{every, fold, anyBelow}
 use Rattle.table.specs.Terms.{terms}
-use Rattle.table.specs.Faults.{typed, clash, chain, faultIf, fault}
-use Rattle.table.specs.Admission.{scan, admissionWithin, admission, accepts}
+use Rattle.table.specs.Faults.{typed, clash, sizeWithin, faultIf, fault}
+use Rattle.table.specs.Admission.{scan, admissionWithin, admission, accepts, refused}
 use Rattle.setting.specs.Cells.{lookFrom, look}
 use Rattle.setting.specs.Interpretation.{interpret}
 use Rattle.evaluate.specs.Steps.{steps}
@@ -85,9 +85,44 @@ tension =
     (term 19 0 0 2 3 0
     (term 4 0 0 6 7 0 []))))))))
 
+-- Choices of arrays (paper 02, request 07): a summer and a winter curve (slots 0, 1), a test (slot 2), an index (slot 3); test and
+-- winter marked or not
+abbrev curves : ℕ → ℕ → List ℕ → List ℕ
+curves test winter rest = term 1 8 8 0 0 0 (term 1 8 8 1 winter 0 (term 1 0 0 2 test 0 (term 1 0 8 3 0 0 rest)))
+
+-- the curve that the test picks holds 7 at the index
+abbrev pub curveRule : ℕ → ℕ → List ℕ
+curveRule test winter = curves test winter (term 7 8 8 2 0 1 (term 15 0 8 4 3 0 (term 0 0 8 7 0 0 (term 6 0 0 5 6 0 []))))
+
+-- a store of 7 at the index over the choice; the choice between such a store over summer, and winter
+abbrev storeOverChoice : List ℕ
+storeOverChoice = curves 1 0 (term 7 8 8 2 0 1 (term 0 0 8 7 0 0 (term 16 8 8 4 3 5 (term 15 0 8 6 3 0 (term 6 0 0 7 5 0 [])))))
+
+abbrev choiceOverStores : List ℕ
+choiceOverStores = curves 1 0 (term 0 0 8 7 0 0 (term 16 8 8 0 3 4 (term 7 8 8 2 5 1 (term 15 0 8 6 3 0 (term 6 0 0 7 4 0 [])))))
+
+-- choice(c, a, a), a curve a (slot 0), a marked test c (slot 1), an index (slot 2), holds 7 there
+abbrev pub chosenTwice : List ℕ
+chosenTwice = term 1 8 8 0 0 0 (term 1 0 0 1 1 0 (term 1 0 8 2 0 0 (term 7 8 8 1 0 0 (term 15 0 8 3 2 0 (term 0 0 8 7 0 0 (term 6 0 0 4 5 0 []))))))
+
+-- the same choice over and over: sizes 1, 3, 7, 15, and then a choice of that with array k
+abbrev tower : ℕ → List ℕ
+tower k =
+    term 1 8 8 0 0 0
+    (term 1 0 0 1 1 0
+    (term 1 0 8 2 0 0
+    (term 7 8 8 1 0 0
+    (term 7 8 8 1 3 3
+    (term 7 8 8 1 4 4
+    (term 7 8 8 1 5 5
+    (term 7 8 8 1 6 k
+    (term 15 0 8 7 2 0
+    (term 0 0 8 7 0 0
+    (term 6 0 0 8 9 0 []))))))))))
+
 -- P1 to P4: rule G, values a, x, b. P5, P6: a sum and a product. P7, P8: rule H, values t (all of it), a, c. P9, P10: a shift.
 -- P11: a choice, equal branches and others. P12: in two settings. Then a read of a store at a marked index. Last, a marked 7 beside bounds:
--- nothing is below 0, nothing above all ones; no other bound settles a less. After these the signed operators (request 05).
+-- nothing is below 0, nothing above all ones; no other bound settles a less. After these the signed operators (request 05) and choices of arrays (07).
 pub rows : List Row
 rows =
     -- P1
@@ -154,9 +189,33 @@ rows =
     -- the tension error -3 is above -5: passes whatever the alarm reads; -6 is not, and the alarm decides
     ∷ record { table = tension; values = 97 ∷ 100 ∷ 7 ∷ 0 ∷ []; cells = []; at = 8; value = 1; condition = true; spent = 0 }
     ∷ record { table = tension; values = 94 ∷ 100 ∷ 200 ∷ 0 ∷ []; cells = []; at = 8; value = 1; condition = false; spent = 0 }
+    -- request 07: a marked test between curves that agree, everywhere or at the index, and that do not
+    ∷ record { table = curveRule 1 0; values = 7 ∷ 7 ∷ 1 ∷ 5 ∷ []; cells = []; at = 7; value = 1; condition = true; spent = 1 }
+    ∷ record { table = curveRule 1 0; values = 7 ∷ 9 ∷ 1 ∷ 5 ∷ []; cells = 1 ∷ 5 ∷ 7 ∷ []; at = 7; value = 1; condition = true; spent = 1 }
+    ∷ record { table = curveRule 1 0; values = 7 ∷ 9 ∷ 1 ∷ 5 ∷ []; cells = []; at = 7; value = 1; condition = false; spent = 1 }
+    -- a free test: only the curve that it picks counts; the choice itself has neither number nor condition
+    ∷ record { table = curveRule 0 1; values = 7 ∷ 9 ∷ 1 ∷ 5 ∷ []; cells = []; at = 7; value = 1; condition = true; spent = 1 }
+    ∷ record { table = curveRule 0 1; values = 7 ∷ 9 ∷ 0 ∷ 5 ∷ []; cells = []; at = 7; value = 0; condition = false; spent = 1 }
+    ∷ record { table = curveRule 0 0; values = 7 ∷ 7 ∷ 1 ∷ 5 ∷ []; cells = []; at = 4; value = 0; condition = false; spent = 1 }
+    -- both branches are one curve; a store over a choice, and a choice over stores: steps are of the whole array
+    ∷ record { table = chosenTwice; values = 7 ∷ 0 ∷ 3 ∷ []; cells = []; at = 6; value = 1; condition = true; spent = 1 }
+    ∷ record { table = storeOverChoice; values = 1 ∷ 2 ∷ 1 ∷ 5 ∷ []; cells = []; at = 8; value = 1; condition = true; spent = 2 }
+    ∷ record { table = choiceOverStores; values = 1 ∷ 7 ∷ 0 ∷ 5 ∷ []; cells = []; at = 8; value = 1; condition = true; spent = 2 }
+    ∷ record { table = choiceOverStores; values = 1 ∷ 9 ∷ 0 ∷ 5 ∷ []; cells = []; at = 8; value = 0; condition = false; spent = 2 }
+    -- sizes 15 and 0 make 16
+    ∷ record { table = tower 0; values = 7 ∷ 0 ∷ 3 ∷ []; cells = []; at = 10; value = 1; condition = true; spent = 16 }
     ∷ []
 
 -- by computation
 pub examples : every right rows ≡ true
-unfolding every rows right admissionWithin scan fault faultIf typed anyBelow clash chain steps fold valueBy conditionBy apply settles lookFrom
+unfolding every rows right admissionWithin scan fault faultIf typed anyBelow clash sizeWithin steps fold valueBy conditionBy apply settles lookFrom
 examples = refl
+
+-- sizes 15 and 15 make 31: 9 at the fifth choice; curves of two sorts: 6 at the choice
+pub too-large : admission (tower 6) ≡ refused 9 7
+unfolding admissionWithin scan fault faultIf typed anyBelow clash sizeWithin
+too-large = refl
+
+pub two-sorts : admission (term 1 8 8 0 0 0 (term 1 8 4 1 0 0 (term 1 0 0 2 0 0 (term 7 8 8 2 0 1 [])))) ≡ refused 6 3
+unfolding admissionWithin scan fault faultIf typed anyBelow clash sizeWithin
+two-sorts = refl

@@ -9,11 +9,11 @@ use lib.ListN.{getD}
 use Rattle.ops.specs.declared.Op.{Op}
 use Rattle.ops.specs.declared.Op.the-variants.{Constant, Variable, Apply, Ite, Select, Store, Unknown}
 use Rattle.ops.specs.Numbers.{opOf}
-use Rattle.ops.specs.Meaning.{bit}
+use Rattle.ops.specs.Meaning.{bit, holds}
 use Rattle.ops.specs.Condition.{chosen, settles}
 use Rattle.table.specs.declared.words.Term.{Term}
 use Rattle.table.specs.Folds.{fold}
-use Rattle.table.specs.Terms.{termAt, sortAt}
+use Rattle.table.specs.Terms.{termAt, sortAt, array}
 use Rattle.setting.specs.Interpretation.{Value, Interpretation}
 use Rattle.evaluate.specs.Values.{valueIn, values}
 
@@ -28,19 +28,25 @@ plain b = record { free = b; readFree = λ j cj. b && cj }
 
 -- the condition of term t by its operator, from the values v and conditions c of the terms before it
 module _ (marked : Term → Bool) (v : ℕ → Value) (c : ℕ → Condition) (width : ℕ) (t : Term) where
-  abbrev pub settling : Op → Condition
-  settling op = plain (settles op width (v (t .p) .num) (v (t .q) .num) (v (t .r) .num) (c (t .p) .free) (c (t .q) .free) (c (t .r) .free))
+  abbrev pub settled : Op → Bool
+  settled op = settles op width (v (t .p) .num) (v (t .q) .num) (v (t .r) .num) (c (t .p) .free) (c (t .q) .free) (c (t .r) .free)
 
   -- a store of e at i over an array: or(and(and(C(i), C(j)), choice(i = j, C(e), D below)), and(and(C(e), D below), e = the read))
   abbrev pub storeFree : ℕ → Bool → Bool
   storeFree j cj =
       chosen (c (t .q) .free && cj) (eqb (v (t .q) .num) j) (c (t .r) .free) (c (t .p) .readFree j cj) (eqb (v (t .r) .num) (v (t .p) .cell j))
 
+  -- a choice by c between arrays: or(and(C(c), choice(c, Dq, Dr)), and(and(Dq, Dr), the two reads are equal))
+  abbrev pub choiceFree : ℕ → Bool → Bool
+  choiceFree j cj =
+      chosen (c (t .p) .free) (holds (v (t .p) .num)) (c (t .q) .readFree j cj) (c (t .r) .readFree j cj) (eqb (v (t .q) .cell j) (v (t .r) .cell j))
+
   unfoldable pub conditionBy : Op → Condition
   conditionBy Constant = plain true
   conditionBy Variable = plain (not (marked t))
-  conditionBy (Apply f) = settling (Apply f)
-  conditionBy Ite = settling Ite
+  conditionBy (Apply f) = plain (settled (Apply f))
+  -- a choice of arrays has no C
+  conditionBy Ite = record { free = not (array (t .sort)) && settled Ite; readFree = choiceFree }
   conditionBy Select = plain (c (t .p) .readFree (v (t .q) .num) (c (t .q) .free))
   -- a store has no C
   conditionBy Store = record { free = false; readFree = storeFree }
@@ -60,6 +66,6 @@ conditions w marked I k = fold (λ cs i. conditionFrom w marked (valueIn (values
 abbrev pub conditionAt : List ℕ → (Term → Bool) → Interpretation → ℕ → Condition
 conditionAt w marked I k = conditionFrom w marked (valueIn (values w I k)) (conditionIn (conditions w marked I k)) (termAt w k)
 
--- the truths of the first k terms' conditions: 1 or 0; 0 for stores
+-- the truths of the first k terms' conditions: 1 or 0; 0 for stores and choices of arrays
 abbrev pub truths : List ℕ → (Term → Bool) → Interpretation → ℕ → List ℕ
 truths w marked I k = map (λ c. bit (c .free)) (conditions w marked I k)

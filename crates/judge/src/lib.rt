@@ -1,5 +1,6 @@
 // Judging a setting under a mark sheet (paper 01, "Results"; demand 3; paper 02, request 06).
-mod reads; // a read along its chain: value and truth
+mod leaves; // the variables that a read meets
+mod reads; // a read along its array: value and truth
 mod room; // filling the work room
 mod terms; // one term: value and truth
 mod turns; // what a term asks
@@ -10,6 +11,8 @@ use table::Acceptance;
 use table::Refusal;
 use table::WORDS;
 pub use terms::step;
+pub use turns::Turn;
+pub use turns::first_turn;
 ghost use mathlib.Core.Path.{_≡_};
 ghost use lib.ListN.{length};
 ghost use Rattle.judge.specs.Judgement.{admissionUnder, verdictBy, passes, judgement, roomAfter};

@@ -1,8 +1,12 @@
-// A read along its chain of stores: value and truth.
+// A read along its array, a tree of stores and choices over variables: value and truth.
 ghost use mathlib.Core.Path.{_≡_};
 ghost use mathlib.Core.Bool.{_&&_};
+ghost use Prim.Native.Nat.{_+_, _≤_};
+ghost use lib.ListN.{length};
 ghost use Rattle.table.specs.WellFormed.{WellFormed};
-ghost use Rattle.judge.specs.Code.Labelled.{truthIn, overlaid, pickedBy, storedBy, shutBy, unfreeAt, labelledAt};
+ghost use Rattle.judge.specs.Code.Leaves.{leavesAt};
+ghost use Rattle.judge.specs.Code.Labelled.{truthIn, overlaid, pickedBy, storedBy, eitherOf, labelledAt};
+use crate::leaves::leaf_at;
 use table::Term;
 use table::number_at;
 
@@ -56,52 +60,58 @@ fn stored(front: &[u32], truths: &[u32], x: Term) -> Labelled
     }
 }
 
-// Whether neither a store's test nor what it holds is free: a read of it is not free either.
-fn shut(truths: &[u32], x: Term, cj: bool) -> bool
-    ensures { λ r. ⌜ r ≡ shutBy (now (truths .entry)) x cj ⌝ }
+// A choice between what is read in its two branches.
+fn either(front: &[u32], truths: &[u32], x: Term, q: Labelled, r: Labelled) -> Labelled
+    ensures { λ s. ⌜ s ≡ eitherOf (now (front .entry)) (now (truths .entry)) x q r ⌝ }
 {
-    !(truth_at(truths, x.q) & cj) & !truth_at(truths, x.r)
-}
-
-// A read that is not free: its value alone.
-fn unfree(table: &[u32], front: &[u32], a: u32, j: u32, cell: u32) -> Labelled
-    requires { ⌜ WellFormed 80000 (now table) ⌝ }
-    ensures { λ r. ⌜ r ≡ unfreeAt (now (table .entry)) (now (front .entry)) a j cell ⌝ }
-{
-    let found = evaluate::find(table, front, a, j);
+    let test = number_at(front, x.p) == 1;
+    let first = q.value;
+    let second = r.value;
     Labelled {
-        value: ops::ite(found.stored, found.number, cell),
-        free: false,
+        value: ops::ite(test, first, second),
+        free: ops::chosen(truth_at(truths, x.p), test, q.free, r.free, first == second),
     }
 }
 
-// The read of the array term `a` at index `j`, whose condition is `cj`, the outermost store first; cell is that of the
-// variable beneath the stores. Below a store that is picked nothing counts, below one that is shut values alone.
+// The read of the array term `a` at index `j`, whose condition is `cj`: the outermost store or choice first, and the array's number
+// falls. Cells holds what the variables hold there that it meets, from number `first` on. Below a store that is picked
+// nothing counts; of a choice whose test is free the branch that it picks counts alone.
 pub fn read(
     table: &[u32],
     front: &[u32],
     truths: &[u32],
+    cells: &[u32],
     a: u32,
     j: u32,
     cj: bool,
-    cell: u32,
+    first: u32,
 ) -> Labelled
     requires { ⌜ WellFormed 80000 (now table) ⌝ }
-    ensures { λ r. ⌜ r ≡ labelledAt (now (table .entry)) (now (front .entry)) (now (truths .entry)) a j cj cell ⌝ }
+    requires { ⌜ first + length (leavesAt (now table) a) ≤ 17 ⌝ }
+    ensures { λ r. ⌜ r ≡ labelledAt (now (table .entry)) (now (front .entry)) (now (truths .entry)) (now (cells .entry)) j cj a first ⌝ }
 {
     let x = table::term_at(table, a);
-    if !table::is_store(x) {
+    if table::is_store(x) {
+        if picked(front, truths, x, j, cj) {
+            return stored(front, truths, x);
+        }
+        let below = read(table, front, truths, cells, x.p, j, cj, first);
+        return overlay(front, truths, x, j, cj, below);
+    }
+    if !table::is_choice(x) {
         return Labelled {
-            value: cell,
+            value: number_at(cells, first),
             free: truth_at(truths, a) & cj,
         };
     }
-    if picked(front, truths, x, j, cj) {
-        return stored(front, truths, x);
+    let second = first + leaf_at(table, x.q, 0).count;
+    if truth_at(truths, x.p) {
+        if number_at(front, x.p) == 1 {
+            return read(table, front, truths, cells, x.q, j, cj, first);
+        }
+        return read(table, front, truths, cells, x.r, j, cj, second);
     }
-    if shut(truths, x, cj) {
-        return unfree(table, front, a, j, cell);
-    }
-    let below = read(table, front, truths, x.p, j, cj, cell);
-    overlay(front, truths, x, j, cj, below)
+    let q = read(table, front, truths, cells, x.q, j, cj, first);
+    let r = read(table, front, truths, cells, x.r, j, cj, second);
+    either(front, truths, x, q, r)
 }

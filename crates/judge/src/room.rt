@@ -11,6 +11,7 @@ ghost use Rattle.evaluate.specs.Values.{numbers};
 ghost use Rattle.sheets.specs.Code.Said.{marksBy};
 ghost use Rattle.judge.specs.Conditions.{truths};
 use crate::terms::step;
+use crate::turns::first_turn;
 
 // Said is what the sheet says by slot. The front of work holds the terms' values, and after them the truths of their conditions.
 pub fn fill(table: &[u32], said: &[u32; 256], values: &[u32], cells: &[u32], work: &mut [u32])
@@ -24,7 +25,7 @@ pub fn fill(table: &[u32], said: &[u32; 256], values: &[u32], cells: &[u32], wor
 {
     let terms = table::count(table);
     let count = cells.len() / 3;
-    let mut turn = evaluate::turn_at(table, values, count, terms, &work[..0], 0);
+    let mut turn = first_turn(table, values, count, terms);
     while turn.pending {
         let answer = setting::look(cells, turn.count, turn.slot, turn.index, turn.other);
         turn = step(table, said, values, count, terms, work, turn, answer);

@@ -4,19 +4,19 @@ ghost use Prim.Native.Nat.{_+_, _≤_, _<_};
 ghost use lib.ListN.{length};
 ghost use Rattle.table.specs.Terms as tables;
 ghost use Rattle.table.specs.WellFormed.{WellFormed};
-ghost use Rattle.evaluate.specs.Code.Turns.{nextRead, onward, Next, Behind};
+ghost use Rattle.evaluate.specs.Code.Turns.{nextRead, Next, Behind};
 ghost use Rattle.sheets.specs.Code.Said.{marksBy};
-ghost use Rattle.judge.specs.Code.Labelled.{operatedLabelled, labelledOf, labelledHere, entered, noted};
-ghost use Rattle.judge.specs.Code.Turns.{turnHere};
+ghost use Rattle.judge.specs.Code.Labelled.{operatedLabelled, labelledOf, labelledHere, entered};
+ghost use Rattle.judge.specs.Code.Turns.{turnHere, gathered, noteOn, nextAt, nextMet, nextRoom};
 use crate::reads::Labelled;
 use crate::reads::read;
 use crate::reads::truth_at;
+use crate::turns::Turn;
 use crate::turns::turn_here;
-use evaluate::Turn;
 use table::Term;
 use table::number_at;
 
-// Value and truth of an operator.
+// Value and truth of an operator. A choice of arrays is not free.
 fn operated(table: &[u32], front: &[u32], truths: &[u32], x: Term) -> Labelled
     requires { ⌜ WellFormed 80000 (now table) ⌝ }
     requires { ⌜ (length (now front) < tables.terms (now table)) × Behind (now front) x ⌝ }
@@ -43,11 +43,11 @@ fn operated(table: &[u32], front: &[u32], truths: &[u32], x: Term) -> Labelled
     );
     Labelled {
         value: ops::apply_number(x.op, n, a, b, c),
-        free,
+        free: !table::is_choice(x) & free,
     }
 }
 
-// Value and truth of a term; said is what the sheet says by slot.
+// Value and truth of a term; said is what the sheet says by slot, and cells what a read asked for.
 fn labelled_of(
     table: &[u32],
     said: &[u32; 256],
@@ -55,25 +55,25 @@ fn labelled_of(
     front: &[u32],
     truths: &[u32],
     x: Term,
-    answer: u32,
+    cells: &[u32],
 ) -> Labelled
     requires { ⌜ WellFormed 80000 (now table) ⌝ }
     requires { ⌜ Next (now table) (now front) x ⌝ }
     requires { ⌜ length (now truths) ≡ length (now front) ⌝ }
     ensures { λ r. ⌜ r
         ≡ labelledOf (now (table .entry)) (marksBy (now (said .entry))) (now (values .entry)) (now (front .entry)) (now (truths .entry)) x
-        answer ⌝ }
+        (now (cells .entry)) ⌝ }
 {
     if table::is_read(x) {
         let free = truth_at(truths, x.q);
         if !free {
             return Labelled {
-                value: answer,
+                value: number_at(cells, 0),
                 free: false,
             };
         }
         let index = number_at(front, x.q);
-        let r = read(table, front, truths, x.p, index, free, answer);
+        let r = read(table, front, truths, cells, x.p, index, free, 0);
         return Labelled {
             value: r.value,
             free: r.free,
@@ -102,13 +102,14 @@ fn labelled_here(
     terms: u32,
     room: &[u32],
     at: u32,
-    answer: u32,
+    cells: &[u32],
 ) -> Labelled
     requires { ⌜ WellFormed 80000 (now table) ⌝ }
     requires { ⌜ terms ≡ tables.terms (now table) ⌝ }
     requires { ⌜ (at < terms) × (terms + at ≤ length (now room)) ⌝ }
     ensures { λ r. ⌜ r
-        ≡ labelledHere (now (table .entry)) (marksBy (now (said .entry))) (now (values .entry)) terms (now (room .entry)) at answer ⌝ }
+        ≡ labelledHere (now (table .entry)) (marksBy (now (said .entry))) (now (values .entry)) terms (now (room .entry)) at
+        (now (cells .entry)) ⌝ }
 {
     let end = at as usize;
     let start = terms as usize;
@@ -121,7 +122,7 @@ fn labelled_here(
         &room[..end],
         &room[start..last],
         x,
-        answer,
+        cells,
     )
 }
 
@@ -138,7 +139,37 @@ fn note(work: &mut [u32], terms: u32, at: u32, r: Labelled)
     work[middle] = truth;
 }
 
-// Writes value and truth of a turn's term and of those after it, up to the next read, and answers what that asks.
+// Writes value and truth of a turn's term and of those after it, up to the next read, and answers which that is.
+fn run(
+    table: &[u32],
+    said: &[u32; 256],
+    values: &[u32],
+    terms: u32,
+    work: &mut [u32],
+    at: u32,
+    cells: &[u32],
+) -> u32
+    requires { ⌜ WellFormed 80000 (now table) ⌝ }
+    requires { ⌜ terms ≡ tables.terms (now table) ⌝ }
+    requires { ⌜ (at < terms) × (terms + terms ≤ length (now work)) ⌝ }
+    ensures { λ r. ⌜ r ≡ nextRead (now (table .entry)) terms (at + 1) ⌝ }
+    ensures { λ r. ⌜ now (work .exit) ≡ noteOn (now (table .entry)) (marksBy (now (said .entry)))
+        (now (values .entry)) terms (now (cells .entry)) (now (work .entry)) at ⌝ }
+{
+    let mut i = at;
+    while i < terms {
+        if (i != at) & table::is_read(table::term_at(table, i)) {
+            break;
+        }
+        let r = labelled_here(table, said, values, terms, &work[..], i, cells);
+        note(work, terms, i, r);
+        i += 1;
+    }
+    i
+}
+
+// Takes the answer to a turn. Where the read asks for more cells, asks for the next one; else writes value and truth of the
+// turn's term and of those after it, up to the next read, and answers what that asks.
 pub fn step(
     table: &[u32],
     said: &[u32; 256],
@@ -152,22 +183,27 @@ pub fn step(
     requires { ⌜ WellFormed 80000 (now table) ⌝ }
     requires { ⌜ terms ≡ tables.terms (now table) ⌝ }
     requires { ⌜ (turn .at < terms) × (terms + terms ≤ length (now work)) ⌝ }
+    requires { ⌜ turn .met < 17 ⌝ }
     ensures { λ r. ⌜ r ≡ turnHere (now (table .entry)) (now (values .entry)) count terms (now (work .exit))
-        (nextRead (now (table .entry)) terms (turn .at + 1)) ⌝ }
-    ensures { λ r. ⌜ now (work .exit)
-        ≡ onward (now (table .entry)) (noted (now (table .entry)) (marksBy (now (said .entry))) (now (values .entry)) terms 0) terms
-        (noted (now (table .entry)) (marksBy (now (said .entry))) (now (values .entry)) terms answer (now (work .entry)) (turn .at))
-        (turn .at + 1) ⌝ }
+        (gathered turn answer) (nextAt (now (table .entry)) terms turn) (nextMet turn) ⌝ }
+    ensures { λ r. ⌜ now (work .exit) ≡ nextRoom (now (table .entry)) (marksBy (now (said .entry)))
+        (now (values .entry)) terms (gathered turn answer) turn (now (work .entry)) ⌝ }
 {
-    let at = turn.at;
-    let mut i = at;
-    while i < terms {
-        if (i != at) & table::is_read(table::term_at(table, i)) {
-            break;
-        }
-        let r = labelled_here(table, said, values, terms, &work[..], i, answer);
-        note(work, terms, i, r);
-        i += 1;
+    let mut cells = turn.cells;
+    let k = turn.met as usize;
+    cells[k] = answer;
+    if turn.more {
+        return turn_here(
+            table,
+            values,
+            count,
+            terms,
+            &work[..],
+            cells,
+            turn.at,
+            turn.met + 1,
+        );
     }
-    turn_here(table, values, count, terms, &work[..], i)
+    let next = run(table, said, values, terms, work, turn.at, &cells[..]);
+    turn_here(table, values, count, terms, &work[..], cells, next, 0)
 }

@@ -16,7 +16,7 @@ use Rattle.smtlib.proofs.Operators.{passes, passed}
 use Rattle.table.specs.Folds.{every, anyBelow}
 use Rattle.table.specs.declared.words.Term.{Term}
 use Rattle.table.specs.Terms.{termAt}
-use Rattle.table.specs.Faults.{typed, clash, chain, faultIf, fault}
+use Rattle.table.specs.Faults.{typed, clash, sizeWithin, faultIf, fault}
 use Rattle.table.specs.Admission.{scan, admissionWithin}
 use Rattle.table.specs.Code.Writing.{placed}
 use Rattle.parser.specs.Words.{among, symbol, private, marked, plainOf, wordOf, ahead, wordFrom, tokenAt}
@@ -104,7 +104,7 @@ long-answered = (asserts-over, (slots-many 257 (omega arith) (omega arith), tt))
 short-answered : AllAnswered shortSamples
 unfolding times sameBytes placeIn valueOf every among symbol private marked plainOf wordOf ahead wordFrom tokenAt closing indexFrom placed headOf
     joinedTo termOf closedState operandsBy expressionOf expected widthOf vectorOf arrayOf sortOf newName declarationOf joinedRule assertOf endedRule
-    checkOf commandBy commandOf commandsOf ruleOf anyBelow typed clash chain faultIf fault scan admissionWithin
+    checkOf commandBy commandOf commandsOf ruleOf anyBelow typed clash sizeWithin faultIf fault scan admissionWithin
 short-answered = (refl, (refl, (refl, (refl, (refl, (refl, (refl, (refl, (refl, tt)))))))))
 
 -- All, and no number is left out

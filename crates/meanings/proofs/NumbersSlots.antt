@@ -12,9 +12,10 @@ use lib.ListN.{length, getD}
 use borrow.Author.Tests.{le-leb, lt-leb, ne-eqb, le-ltb}
 use Rattle.table.specs.declared.words.Term.{Term}
 use Rattle.table.specs.Terms.{terms, termAt}
-use Rattle.table.specs.Faults.{isStore, fields, typed, valuedAs, chain, size, refuseUnless, fault}
+use Rattle.table.specs.Faults.{isStore, fields, typed, valuedAs, isChoice, size, refuseUnless, fault}
 use Rattle.table.specs.Admission.{refused, scan, ended, admissionWithin, admission}
 use Rattle.table.proofs.Scans.{Scanned}
+use Rattle.table.proofs.Sizes.{size-none}
 use Rattle.table.proofs.Scans as scans
 use Rattle.parser.specs.Words.{marked}
 use Rattle.parser.specs.Expressions.{constantTerm}
@@ -49,10 +50,6 @@ variables-at ds i (suc n) k (suc j) h =
 -- Their faults
 
 module _ (t : List ℕ) (clean : (k : ℕ) → Clean k (termAt t k)) where
-  no-stores : (k : ℕ) → isStore (termAt t k) ≡ false → size t k ≡ 0
-  unfolding chain
-  no-stores k e = rw e
-
   module _ (k : ℕ) (e : termAt t k ≡ variableTerm 0 0 k false) where
     typed-is : typed t (termAt t k) ≡ true
     unfolding typed
@@ -62,7 +59,7 @@ module _ (t : List ℕ) (clean : (k : ℕ) → Clean k (termAt t k)) where
     valued-is = ap (λ (x : Term). valuedAs (fields x) x) e
 
     variable-fault : fault t k ≡ refuseUnless 7 (leb k 255 && true) 0
-    variable-fault = fault-is t clean k ∙ rw (typed-is, valued-is, no-stores k (ap (λ (x : Term). isStore x) e))
+    variable-fault = fault-is t clean k ∙ rw (typed-is, valued-is, size-none 16 t k (ap (λ (x : Term). isStore x) e) (ap (λ (x : Term). isChoice x) e))
 
     slot-fits : k ≤ 255 → fault t k ≡ 0
     slot-fits h = variable-fault ∙ rw (le-leb k 255 h)

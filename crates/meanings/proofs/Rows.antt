@@ -15,7 +15,7 @@ use Rattle.smtlib.specs.Numerals.{valueOf}
 use Rattle.table.specs.declared.Acceptance.the-variants.{Accepted}
 use Rattle.table.specs.Terms.{terms}
 use Rattle.table.specs.Folds.{every, anyBelow}
-use Rattle.table.specs.Faults.{typed, clash, chain, faultIf, fault}
+use Rattle.table.specs.Faults.{typed, clash, sizeWithin, faultIf, fault}
 use Rattle.table.specs.Admission.{scan, admissionWithin, admission}
 use Rattle.setting.specs.Interpretation.{Interpretation, FitInputs}
 use Rattle.evaluate.specs.Values.{valueAt}
@@ -97,7 +97,7 @@ unfolding sameBytes placeIn every marked size root roots sortIn treeTerms variab
 table = refl
 
 admitted : admission (numbersOf (ruleTerms rule)) ≡ Accepted
-unfolding sameBytes placeIn every marked size root roots sortIn treeTerms variables joins numbersOf anyBelow typed clash chain faultIf fault scan admissionWithin
+unfolding sameBytes placeIn every marked size root roots sortIn treeTerms variables joins numbersOf anyBelow typed clash sizeWithin faultIf fault scan admissionWithin
 admitted = refl
 
 pub parsed : (room : ℕ) → 30 ≤ room → parsing text room ≡ Parsed 30

@@ -16,7 +16,7 @@ use Rattle.table.specs.declared.words.Sort.{Sort}
 use Rattle.table.specs.Bench.{term, ruleG}
 use Rattle.table.specs.Folds.{anyBelow, firstFrom}
 use Rattle.table.specs.Terms.{terms, termAt}
-use Rattle.table.specs.Faults.{isVariable, typed, clash, chain, faultIf, fault}
+use Rattle.table.specs.Faults.{isVariable, typed, clash, sizeWithin, faultIf, fault}
 use Rattle.table.specs.Admission.{scan, admissionWithin}
 use Rattle.table.proofs.Admitted.{admission-sound}
 use Rattle.printer.specs.Scripts.{nameText, operandsText, bodyText, commandText, commandsText, scriptText}
@@ -118,11 +118,11 @@ met t admitted sole = record { whole = admission-sound 80000 t admitted; unmarke
         ap (firstUse t) (sym p) ∙ sole k h v .1
 
 in-order-met : Premises inOrder
-unfolding Sole firstUse firstFrom admissionWithin scan fault faultIf typed clash anyBelow chain
+unfolding Sole firstUse firstFrom admissionWithin scan fault faultIf typed clash anyBelow sizeWithin
 in-order-met = met inOrder refl (below-three (Sole inOrder) (λ v. (refl, refl)) (λ v. (refl, refl)) (λ v. never v))
 
 exchanged-met : Premises exchanged
-unfolding Sole firstUse firstFrom admissionWithin scan fault faultIf typed clash anyBelow chain
+unfolding Sole firstUse firstFrom admissionWithin scan fault faultIf typed clash anyBelow sizeWithin
 exchanged-met = met exchanged refl (below-three (Sole exchanged) (λ v. (refl, refl)) (λ v. (refl, refl)) (λ v. never v))
 
 -- Two tables that differ in a mark

@@ -2,10 +2,10 @@
 -- Assumes nothing.
 use mathlib.Core.Path.{_≡_, refl, sym, ap, _∙_}
 use mathlib.Core.Bool.{Bool, true, false, not, cond}
-use mathlib.Core.List.{List, []}
+use mathlib.Core.List.{List}
 use Prim.Native.Nat.{ℕ, _*_, _≤_, _<_}
 use native.Mathlib.Omega.{arith}
-use lib.Dec.{T}
+use lib.Dec.{T, ltb}
 use lib.ListN.{length}
 use borrow.Author.Tests.{lt-ltb, le-ltb}
 use Rattle.ops.proofs.Booleans.{never}
@@ -15,12 +15,9 @@ use Rattle.table.specs.Admission.{accepts}
 use Rattle.table.specs.WellFormed.{WellFormed}
 use Rattle.setting.specs.declared.cells.Cell.{Cell}
 use Rattle.evaluate.specs.declared.Evaluation.{Evaluation}
-use Rattle.evaluate.specs.declared.turns.Turn.{Turn}
 use Rattle.evaluate.specs.Evaluation.{evaluates}
-use Rattle.evaluate.specs.Code.Turns.{turnOf}
 use Rattle.evaluate.proofs.Answers.{PassedBy, passed-by}
 use Rattle.records.specs.Answers.{check, ready}
-use Rattle.records.specs.Code.Drive.{firstBy, firstTurn}
 
 -- a test's two ways
 pub taken : (b : Bool) → T b → b ≡ true
@@ -36,12 +33,12 @@ not-both true h = refl
 not-both false h = absurd (h refl)
 
 -- a run that is not refused is at some turn, one that is refused is at none
-module _ (e : Evaluation) (begin : List ℕ) (Filling : List ℕ → Turn → Type 0) where
+module _ {Turn : Type 0} (pending : Turn → Bool) (e : Evaluation) (begin : List ℕ) (Filling : List ℕ → Turn → Type 0) where
   pub record Driven (room : List ℕ) (turn : Turn) : Type 0 where
     pub running : evaluates e ≡ true → Filling room turn
-    pub resting : evaluates e ≡ false → (room ≡ begin) × (turn .pending ≡ false)
+    pub resting : evaluates e ≡ false → (room ≡ begin) × (pending turn ≡ false)
 
-  pub not-refused : (room : List ℕ) (turn : Turn) → Driven room turn → turn .pending ≡ true → evaluates e ≡ true
+  pub not-refused : (room : List ℕ) (turn : Turn) → Driven room turn → pending turn ≡ true → evaluates e ≡ true
   not-refused room turn h on = not-both (evaluates e) (λ off. never (sym (h .resting off .1) ∙ on))
 
   pub goes-on : evaluates e ≡ true → (room : List ℕ) (turn : Turn) → Filling room turn → Driven room turn
@@ -72,10 +69,11 @@ module _ (admitted : Acceptance) (w values : List ℕ) (cells : List Cell) (each
     pub counted : 0 < n → evaluates e ≡ true
     counted b = not-both (evaluates e) (λ off. omega (arith, b, none off))
 
-    module _ (Filling : List ℕ → Turn → Type 0) where
-      pub started : (turn : Turn) → turn ≡ firstTurn w values (length cells) n → (turn ≡ turnOf w values (length cells) n [] 0 → Filling begin turn) → Driven e begin Filling begin turn
-      started turn first begun =
+    -- the first turn, by whether there are terms
+    module _ {Turn : Type 0} (pending : Turn → Bool) (Filling : List ℕ → Turn → Type 0) (first : Bool → Turn) (none-pending : pending (first false) ≡ false) where
+      pub started : (turn : Turn) → turn ≡ first (ltb 0 n) → (turn ≡ first true → Filling begin turn) → Driven pending e begin Filling begin turn
+      started turn is-first begun =
           record {
-            running = λ on. begun (first ∙ ap (λ (b : Bool). firstBy b w values (length cells) n) (lt-ltb 0 n (omega (arith, all on, some on))));
-            resting = λ off. (refl, ap (λ (t : Turn). t .pending) (first ∙ ap (λ (b : Bool). firstBy b w values (length cells) n) (le-ltb 0 n (omega (arith, none off)))));
+            running = λ on. begun (is-first ∙ ap first (lt-ltb 0 n (omega (arith, all on, some on))));
+            resting = λ off. (refl, ap pending (is-first ∙ ap first (le-ltb 0 n (omega (arith, none off)))) ∙ none-pending);
           }

@@ -23,7 +23,7 @@ use Rattle.evaluate.proofs.Runs.{count-here, going, ended}
 use Rattle.evaluate.proofs.Fills as fills
 use Rattle.records.specs.Rows.{recordAt}
 use Rattle.records.specs.Answers.{inRecords, evaluation, evaluationRoom}
-use Rattle.records.specs.Code.Drive.{firstTurn}
+use Rattle.records.specs.Code.Drive.{firstBy, firstTurn}
 use Rattle.records.proofs.Readiness.{formed as admitted-formed}
 use Rattle.records.proofs.Driving as driving
 
@@ -50,10 +50,10 @@ module _ (w values : List ℕ) (cells : List Cell) (allowance : ℕ) (begin : Li
     Filling = fills.Filling w values (recordAt cells) (length cells) n begin
 
     abbrev pub Driven : List ℕ → Turn → Type 0
-    Driven = driving.Driven e begin Filling
+    Driven = driving.Driven (λ t. t .pending) e begin Filling
 
     pub started : (turn : Turn) → turn ≡ firstTurn w values (length cells) n → Driven begin turn
-    started turn first = driving.started (admissionWithin 80000 w) w values cells 1 allowance begin (sound w) e is n is-n Filling turn first (fills.started w values (recordAt cells) (length cells) n begin turn)
+    started turn first = driving.started (admissionWithin 80000 w) w values cells 1 allowance begin (sound w) e is n is-n (λ t. t .pending) Filling (λ b. firstBy b w values (length cells) n) refl turn first (fills.started w values (recordAt cells) (length cells) n begin turn)
 
     module _ (on : evaluates e ≡ true) where
       all : n ≡ terms w
@@ -73,7 +73,7 @@ module _ (w values : List ℕ) (cells : List Cell) (allowance : ℕ) (begin : Li
       -- a turn that is on
       module _ (on : turn .pending ≡ true) where
         runs : evaluates e ≡ true
-        runs = driving.not-refused e begin Filling room turn h on
+        runs = driving.not-refused (λ t. t .pending) e begin Filling room turn h on
 
         pub well : WellFormed 80000 w
         well = formed runs
@@ -95,7 +95,7 @@ module _ (w values : List ℕ) (cells : List Cell) (allowance : ℕ) (begin : Li
             → next ≡ onward w (numbered w values 0) n (numbered w values answer room (turn .at)) (turn .at + 1) → Driven next after × (n - after .at < n - turn .at)
         turned answer answered next after t e′ =
             let f = fills.turned w values (recordAt cells) (length cells) n begin 80000 well (all runs) (enough runs) room turn (h .running runs) on answer answered next after e′ t in
-            (driving.goes-on e begin Filling runs next after (f .0), omega (arith, f .1, inside))
+            (driving.goes-on (λ t. t .pending) e begin Filling runs next after (f .0), omega (arith, f .1, inside))
 
       left-by : (b : Bool) → evaluates e ≡ b → turn .pending ≡ false → room ≡ evaluationRoom e w values cells begin
       left-by true on off =

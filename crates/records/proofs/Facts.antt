@@ -1,5 +1,5 @@
 -- What walks need beside the kit: `says` and `needs` (`Denote/Triple/Walked.antt`) for facts side by side, and a large literal.
---     two, three       facts side by side, from nothing.        tells        a goal P ∗ Q, where Q is had from nothing: P is left
+--     two, three, four       facts side by side, from nothing.        tells        a goal P ∗ Q, where Q is had from nothing: P is left
 --     together         two facts side by side are one of both.        needs-both      P ∗ (⌜φ⌝ ∗ ⌜ψ⌝) as a hypothesis: both are learned
 --     big-lit          the operand `intBig`, as `Types/Run.antt`'s `lit`
 -- Assumes nothing.
@@ -21,6 +21,9 @@ two 𝓤 {φ} {ψ} x y = via 𝓤 (sep 𝓤 (emp 𝓤) (emp 𝓤)) (emp∗ 𝓤 
 
 pub three : {M : Type 1} (𝓤 : URA M) {φ ψ χ : Type 0} → φ → ψ → χ → ent 𝓤 (emp 𝓤) (sep 𝓤 (fact 𝓤 φ) (sep 𝓤 (fact 𝓤 ψ) (fact 𝓤 χ)))
 three 𝓤 {φ} x y z = via 𝓤 (sep 𝓤 (emp 𝓤) (emp 𝓤)) (emp∗ 𝓤 (emp 𝓤)) (mono∗ 𝓤 (factI 𝓤 φ (emp 𝓤) x) (two 𝓤 y z))
+
+pub four : {M : Type 1} (𝓤 : URA M) {φ ψ χ ω : Type 0} → φ → ψ → χ → ω → ent 𝓤 (emp 𝓤) (sep 𝓤 (fact 𝓤 φ) (sep 𝓤 (fact 𝓤 ψ) (sep 𝓤 (fact 𝓤 χ) (fact 𝓤 ω))))
+four 𝓤 {φ} x y z v = via 𝓤 (sep 𝓤 (emp 𝓤) (emp 𝓤)) (emp∗ 𝓤 (emp 𝓤)) (mono∗ 𝓤 (factI 𝓤 φ (emp 𝓤) x) (three 𝓤 y z v))
 
 pub tells : {M : Type 1} {𝓤 : URA M} {H : Heap 𝓤} {A : Atoms 𝓤} {K : Type 0} {W : Given 𝓤 H A} {Γ : List (Item 𝓤)} → K → {P Q : SProp 𝓤} → ent 𝓤 (emp 𝓤) Q → Step K W Γ (prop P) Γ (prop (sep 𝓤 P Q))
 tells {𝓤 = 𝓤} t {P} {Q} h = step (λ s. record { prf = via 𝓤 P (s .prf) (via 𝓤 (sep 𝓤 (emp 𝓤) P) (emp∗ 𝓤 P) (via 𝓤 (sep 𝓤 Q P) (monoL 𝓤 P h) (comm∗ 𝓤 Q P))) })

@@ -15,21 +15,18 @@ use Rattle.setting.specs.declared.cells.Cell.{Cell}
 use Rattle.setting.specs.Cells.{lookFrom}
 use Rattle.setting.specs.Interpretation.{Interpretation}
 use Rattle.evaluate.specs.declared.Evaluation.{Evaluation}
-use Rattle.evaluate.specs.declared.turns.Turn.{Turn}
+use Rattle.judge.specs.declared.turns.Turn.{Turn}
 use Rattle.evaluate.specs.Evaluation.{evaluates}
 use Rattle.evaluate.specs.Values.{numbers}
-use Rattle.evaluate.specs.Code.Turns.{nextRead, onward}
-use Rattle.evaluate.proofs.Runs.{count-here, going, ended}
 use Rattle.judge.specs.Conditions.{truths}
 use Rattle.judge.specs.Judgement.{ruleIn, ruleCondition, verdictBy, roomIn}
-use Rattle.judge.specs.Code.Labelled.{noted}
-use Rattle.judge.specs.Code.Turns.{turnHere}
+use Rattle.judge.specs.Code.Turns.{turnHere, gathered, nextAt, nextMet, nextRoom}
 use Rattle.judge.proofs.Fills as fills
 use Rattle.judge.proofs.Rooms.{laid-all}
 use Rattle.judge.proofs.Verdicts.{stands, room-kept, room-filled, rule-read, condition-read}
 use Rattle.records.specs.Rows.{recordAt}
 use Rattle.records.specs.Answers.{inRecords, ready, judgementBy, roomBy}
-use Rattle.records.specs.Code.Drive.{firstTurn, verdictFrom}
+use Rattle.records.specs.Code.Drive.{firstJudgedBy, firstJudged, verdictFrom}
 use Rattle.records.proofs.Driving as driving
 
 module _ (marked : Term → Bool) (admitted : Acceptance) (w values : List ℕ) (cells : List Cell) (allowance : ℕ) (begin : List ℕ) (sound : accepts admitted ≡ true → WellFormed 80000 w) (e : Evaluation)
@@ -45,10 +42,10 @@ module _ (marked : Term → Bool) (admitted : Acceptance) (w values : List ℕ) 
     Filling = fills.Filling w marked values (recordAt cells) (length cells) n begin
 
     abbrev pub Driven : List ℕ → Turn → Type 0
-    Driven = driving.Driven e begin Filling
+    Driven = driving.Driven (λ t. t .pending) e begin Filling
 
-    pub started : (turn : Turn) → turn ≡ firstTurn w values (length cells) n → Driven begin turn
-    started turn first = driving.started admitted w values cells 2 allowance begin sound e is n is-n Filling turn first (fills.started w marked values (recordAt cells) (length cells) n begin turn)
+    pub started : (turn : Turn) → turn ≡ firstJudged w values (length cells) n → Driven begin turn
+    started turn first = driving.started admitted w values cells 2 allowance begin sound e is n is-n (λ t. t .pending) Filling (λ b. firstJudgedBy b w values (length cells) n) refl turn first (fills.started w marked values (recordAt cells) (length cells) n begin turn)
 
     module _ (on : evaluates e ≡ true) where
       all : n ≡ terms w
@@ -68,7 +65,7 @@ module _ (marked : Term → Bool) (admitted : Acceptance) (w values : List ℕ) 
       -- a turn that is on
       module _ (on : turn .pending ≡ true) where
         runs : evaluates e ≡ true
-        runs = driving.not-refused e begin Filling room turn h on
+        runs = driving.not-refused (λ t. t .pending) e begin Filling room turn h on
 
         pub well : WellFormed 80000 w
         well = formed runs
@@ -77,20 +74,23 @@ module _ (marked : Term → Bool) (admitted : Acceptance) (w values : List ℕ) 
         every = all runs
 
         pub most : turn .count ≤ length cells
-        most = count-here n (fills.filled w marked values (recordAt cells) (length cells) n begin) (fills.asking w marked values (recordAt cells) (length cells) n begin) (length cells) (fills.asks w marked values (recordAt cells) (length cells) n begin) room turn (h .running runs)
+        most = fills.count-here w marked values (recordAt cells) (length cells) n begin room turn (h .running runs)
 
         inside : turn .at < n
-        inside = going n (fills.filled w marked values (recordAt cells) (length cells) n begin) (fills.asking w marked values (recordAt cells) (length cells) n begin) (length cells) (fills.asks w marked values (recordAt cells) (length cells) n begin) room turn (h .running runs) on
+        inside = fills.at-going w marked values (recordAt cells) (length cells) n begin room turn (h .running runs) on
 
         pub place : (turn .at < n) × (n + n ≤ length room)
         place = (inside, omega (arith, enough runs, same-length))
 
+        pub room-left : turn .met < 17
+        room-left = fills.room-left w marked values (recordAt cells) (length cells) n begin 80000 well (all runs) (enough runs) room turn (h .running runs) on
+
         pub turned : (answer : ℕ) → answer ≡ lookFrom (recordAt cells) (turn .count) 0 (turn .slot) (turn .index) (turn .other) → (next : List ℕ) (after : Turn)
-            → after ≡ turnHere w values (length cells) n next (nextRead w n (turn .at + 1))
-            → next ≡ onward w (noted w marked values n 0) n (noted w marked values n answer room (turn .at)) (turn .at + 1) → Driven next after × (n - after .at < n - turn .at)
+            → after ≡ turnHere w values (length cells) n next (gathered turn answer) (nextAt w n turn) (nextMet turn)
+            → next ≡ nextRoom w marked values n (gathered turn answer) turn room → Driven next after × ((n - after .at) * 18 - after .met < (n - turn .at) * 18 - turn .met)
         turned answer answered next after t e′ =
             let f = fills.turned w marked values (recordAt cells) (length cells) n begin 80000 well (all runs) (enough runs) room turn (h .running runs) on answer answered next after e′ t in
-            (driving.goes-on e begin Filling runs next after (f .0), omega (arith, f .1, inside))
+            (driving.goes-on (λ t. t .pending) e begin Filling runs next after (f .0), f .1)
 
       -- the loop is left
       abbrev I : Interpretation
@@ -98,7 +98,7 @@ module _ (marked : Term → Bool) (admitted : Acceptance) (w values : List ℕ) 
 
       whole : evaluates e ≡ true → turn .pending ≡ false → room ≡ numbers w I (terms w) ++ truths w marked I (terms w) ++ drop (terms w * 2) begin
       whole on off =
-          ended n (fills.filled w marked values (recordAt cells) (length cells) n begin) (fills.asking w marked values (recordAt cells) (length cells) n begin) (length cells) (fills.asks w marked values (recordAt cells) (length cells) n begin) room turn (h .running on) off
+          fills.ended w marked values (recordAt cells) (length cells) n begin room turn (h .running on) off
           ∙ laid-all (numbers w I n) (truths w marked I n) n begin (enough on)
           ∙ ap (λ (k : ℕ). numbers w I k ++ truths w marked I k ++ drop (k * 2) begin) (all on)
 

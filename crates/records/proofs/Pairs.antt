@@ -5,7 +5,7 @@ use mathlib.Core.List.{[], _∷_}
 use Rattle.ops.specs.Meaning.{apply}
 use Rattle.ops.specs.Condition.{settles}
 use Rattle.table.specs.Folds.{fold, anyBelow}
-use Rattle.table.specs.Faults.{typed, clash, chain, faultIf, fault}
+use Rattle.table.specs.Faults.{typed, clash, sizeWithin, faultIf, fault}
 use Rattle.table.specs.Admission.{scan, admissionWithin}
 use Rattle.setting.specs.Cells.{lookFrom}
 use Rattle.setting.specs.Cells as flat
@@ -28,7 +28,7 @@ use Rattle.records.specs.Pairs.{passed, few, many, short, long, Compared
 use Rattle.records.proofs.Demand.{record-demand3}
 
 pub compared : Compared
-unfolding sheetCheck admissionWithin scan fault faultIf typed anyBelow clash chain steps fold valueBy conditionBy apply settles lookFrom check slotSort arrayEntry afford
+unfolding sheetCheck admissionWithin scan fault faultIf typed anyBelow clash sizeWithin steps fold valueBy conditionBy apply settles lookFrom check slotSort arrayEntry afford
 compared =
     let first : judgement copied [] short few 9 99 ≡ Judged passed = refl in
     let second : judgement copied [] long many 9 99 ≡ Judged passed = refl in

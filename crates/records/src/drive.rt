@@ -6,7 +6,7 @@ ghost use lib.ListN.{length};
 ghost use Rattle.table.specs.Terms.{terms};
 ghost use Rattle.table.specs.WellFormed.{WellFormed};
 ghost use Rattle.evaluate.specs.Evaluation.{evaluates};
-ghost use Rattle.records.specs.Code.Drive.{firstTurn, verdictFrom};
+ghost use Rattle.records.specs.Code.Drive.{firstTurn, firstJudged, verdictFrom};
 use evaluate::Evaluation;
 use evaluate::Turn;
 use judge::Judgement;
@@ -38,6 +38,27 @@ pub fn first_turn(table: &[u32], values: &[u32], count: usize, terms: u32) -> Tu
         slot: 0,
         index: 0,
         other: 0,
+    }
+}
+
+// The same for judging.
+pub fn first_judged(table: &[u32], values: &[u32], count: usize, terms: u32) -> judge::Turn
+    requires { ⌜ (0 < terms → WellFormed 80000 (now table)) ⌝ }
+    ensures { λ r. ⌜ r ≡ firstJudged (now (table .entry)) (now (values .entry)) count terms ⌝ }
+{
+    if 0 < terms {
+        return judge::first_turn(table, values, count, terms);
+    }
+    judge::Turn {
+        pending: false,
+        at: 0,
+        count: 0,
+        slot: 0,
+        index: 0,
+        other: 0,
+        met: 0,
+        more: false,
+        cells: [0u32; 17],
     }
 }
 

@@ -4,6 +4,7 @@ mod drive; // what a run starts with, and what it answers
 mod rows; // the records: one of them, and the lookup
 
 use checks::ready;
+use drive::first_judged;
 use drive::first_turn;
 use drive::terms_when;
 use drive::verdict;
@@ -65,7 +66,7 @@ fn judge_by(
     let answer = ready(table, admitted, values, cells, 2, allowance, work.len());
     let count = cells.len();
     let terms = terms_when(table, answer);
-    let mut turn = first_turn(table, values, count, terms);
+    let mut turn = first_judged(table, values, count, terms);
     while turn.pending {
         let found = look(cells, turn.count, turn.slot, turn.index, turn.other);
         turn = judge::step(table, said, values, count, terms, work, turn, found);

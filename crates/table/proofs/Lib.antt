@@ -1,5 +1,4 @@
 pub mod FoldLaws
-pub mod Chains
 pub mod Searches
 pub mod Pigeonhole
 pub mod Slots
@@ -7,6 +6,7 @@ pub mod Scans
 pub mod TermFaults
 pub mod Admitted
 pub mod Stacks
+pub mod Sizes
 pub mod SoundTerms
 pub mod Places
 pub mod OpNumbers

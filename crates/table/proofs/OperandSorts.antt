@@ -114,15 +114,15 @@ binary-scalars bvBinary x a b c h =
     (same-scalar a x (s .1) (vector-scalar x (s .0)), same-scalar b x (s .2) (vector-scalar x (s .0)))
 binary-scalars bvCompare x a b c h = let s = three (boolean x) (vector a) (sameSort a b) h in (vector-scalar a (s .1), scalar-same a b (s .2) (vector-scalar a (s .1)))
 
--- only variables and stores are arrays
-pub array-op : (op : Op) (x a b c : Sort) → isKnown op ≡ true → typedAs (rankOf op) x a b c ≡ true → array x ≡ true → (op ≡ Variable) ⊎ (op ≡ Store)
+-- only variables, stores and choices are arrays
+pub array-op : (op : Op) (x a b c : Sort) → isKnown op ≡ true → typedAs (rankOf op) x a b c ≡ true → array x ≡ true → (op ≡ Variable) ⊎ (op ≡ Store) ⊎ (op ≡ Ite)
 unfolding isKnown
 array-op Constant x a b c k h r = absurd (not-array x h r)
 array-op Variable x a b c k h r = inl refl
 array-op (Apply f) x a b c k h r = absurd (not-array x (rank-scalar (functionRank f) x a b c h) r)
-array-op Ite x a b c k h r = absurd (not-array x (four (scalar x) (boolean a) (sameSort b x) (sameSort c x) h .0) r)
+array-op Ite x a b c k h r = inr (inr refl)
 array-op Select x a b c k h r = absurd (not-array x (vector-of-scalar (a .n) x (three (array a) (vectorOf (a .m) b) (vectorOf (a .n) x) h .2)) r)
-array-op Store x a b c k h r = inr refl
+array-op Store x a b c k h r = inr (inl refl)
 array-op Unknown x a b c k h r = never k
 
 -- a term of a Boolean or vector sort is no store

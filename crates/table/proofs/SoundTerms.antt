@@ -17,10 +17,11 @@ use Rattle.ops.proofs.Booleans.{never, and-parts, or-parts}
 use Rattle.table.specs.declared.words.Sort.{Sort}
 use Rattle.table.specs.declared.words.Term.{Term}
 use Rattle.table.specs.Terms.{words, terms, wordAt, termAt, sortAt, boolean, array}
-use Rattle.table.specs.Ranks.{rankOf, fieldsOf, writes}
-use Rattle.table.specs.Faults.{rank, isVariable, isStore, fields, width, sorted, placedAs}
+use Rattle.table.specs.Ranks.{rankOf, fieldsOf, picks, writes}
+use Rattle.table.specs.Faults.{rank, isVariable, isStore, isChoice, fields, width, sorted, placedAs}
 use Rattle.table.specs.WellFormed.{Sound, WellFormed}
 use Rattle.table.proofs.TermFaults.{slot-valued}
+use Rattle.table.proofs.Stacks.{Stacked}
 
 -- widths are at most 32, and an array's are at least 1
 pub record Widths (s : Sort) : Type 0 where
@@ -72,6 +73,18 @@ writes-placed Select i x s h = never s
 writes-placed Store i x s h = ltb-true (x .p) i (and-parts (ltb (x .p) i) (ltb (x .q) i) (and-parts (ltb (x .p) i && ltb (x .q) i) (ltb (x .r) i) h .0) .0)
 writes-placed Unknown i x s h = never s
 
+-- a choice's branches are
+picks-placed : (op : Op) (i : ℕ) (x : Term) → picks op ≡ true → placedAs (fieldsOf (rankOf op)) i x ≡ true → (x .q < i) × (x .r < i)
+picks-placed Constant i x s h = never s
+picks-placed Variable i x s h = never s
+picks-placed (Apply f) i x s h = never s
+picks-placed Ite i x s h =
+    let parts = and-parts (ltb (x .p) i && ltb (x .q) i) (ltb (x .r) i) h in
+    (ltb-true (x .q) i (and-parts (ltb (x .p) i) (ltb (x .q) i) (parts .0) .1), ltb-true (x .r) i (parts .1))
+picks-placed Select i x s h = never s
+picks-placed Store i x s h = never s
+picks-placed Unknown i x s h = never s
+
 -- past a table's end every number is 0
 module _ (limit : ℕ) (t : List ℕ) (w : WellFormed limit t) where
   pub past-end : (k j : ℕ) → terms t ≤ k → wordAt t k j ≡ 0
@@ -87,6 +100,17 @@ module _ (limit : ℕ) (t : List ℕ) (w : WellFormed limit t) where
       go (yes b) = widths (sortAt t k) (w .sound k b .is-sorted) .n-most
       go (no b) = omega (arith, past-end k 2 (omega arith))
 
+  -- a choice is one of the table, and its branches are earlier terms
+  choice-below : (k : ℕ) → isChoice (termAt t k) ≡ true → (termAt t k .q < k) × (termAt t k .r < k)
+  choice-below k s = go (decLt k (terms t))
+    where
+      is-picked : picks (opOf (termAt t k .op)) ≡ true
+      is-picked = and-parts (picks (opOf (termAt t k .op))) (array (sortAt t k)) s .0
+
+      go : Dec (k < terms t) → (termAt t k .q < k) × (termAt t k .r < k)
+      go (yes b) = picks-placed (opOf (termAt t k .op)) k (termAt t k) is-picked (w .sound k b .is-placed)
+      go (no b) = never (sym (ap (λ (op : ℕ). picks (opOf op)) (past-end k 0 (omega arith))) ∙ is-picked)
+
   -- and a store stands on an earlier term
   pub store-below : (k : ℕ) → isStore (termAt t k) ≡ true → termAt t k .p < k
   store-below k s = go (decLt k (terms t))
@@ -94,3 +118,7 @@ module _ (limit : ℕ) (t : List ℕ) (w : WellFormed limit t) where
       go : Dec (k < terms t) → termAt t k .p < k
       go (yes b) = writes-placed (opOf (termAt t k .op)) k (termAt t k) s (w .sound k b .is-placed)
       go (no b) = never (sym (ap (λ (op : ℕ). writes (opOf op)) (past-end k 0 (omega arith))) ∙ s)
+
+  -- so arrays are stacked
+  pub stacked : Stacked t
+  stacked = record { stored = store-below; first = λ k c. choice-below k c .0; second = λ k c. choice-below k c .1 }

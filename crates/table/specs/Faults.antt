@@ -2,7 +2,7 @@
 -- Assumes nothing.
 use mathlib.Core.Bool.{Bool, true, false, cond, not, _&&_, _||_}
 use mathlib.Core.List.{List}
-use Prim.Native.Nat.{ℕ, zero, suc}
+use Prim.Native.Nat.{ℕ, zero, suc, _+_}
 use lib.Dec.{eqb, ltb, leb}
 use Rattle.ops.specs.Numbers.{opOf, lastOp}
 use Rattle.ops.specs.Fits.{fits}
@@ -14,7 +14,7 @@ use Rattle.table.specs.declared.words.Sort.{Sort}
 use Rattle.table.specs.declared.words.Term.{Term}
 use Rattle.table.specs.Terms.{sortAt, termAt, boolean, vector, scalar, array, vectorOf, sameSort}
 use Rattle.table.specs.Folds.{anyBelow}
-use Rattle.table.specs.Ranks.{rankOf, fieldsOf, slotted, immediate, reads, writes}
+use Rattle.table.specs.Ranks.{rankOf, fieldsOf, slotted, immediate, picks, reads, writes}
 
 abbrev pub rank : Term → Rank
 rank x = rankOf (opOf (x .op))
@@ -33,6 +33,10 @@ isRead x = reads (opOf (x .op))
 
 abbrev pub isStore : Term → Bool
 isStore x = writes (opOf (x .op))
+
+-- a choice between two arrays
+abbrev pub isChoice : Term → Bool
+isChoice x = picks (opOf (x .op)) && array (x .sort)
 
 -- 3 op over 16
 abbrev pub known : Term → Bool
@@ -60,7 +64,7 @@ typedAs Input x a b c = true
 typedAs BoolUnary x a b c = boolean x && boolean a
 typedAs BoolBinary x a b c = boolean x && boolean a && boolean b
 typedAs Equality x a b c = boolean x && scalar a && sameSort a b
-typedAs Choice x a b c = scalar x && boolean a && sameSort b x && sameSort c x
+typedAs Choice x a b c = boolean a && sameSort b x && sameSort c x
 typedAs BvUnary x a b c = vector x && sameSort a x
 typedAs BvBinary x a b c = vector x && sameSort a x && sameSort b x
 typedAs BvCompare x a b c = boolean x && vector a && sameSort a b
@@ -86,14 +90,21 @@ conflicts a x = eqb (a .p) (x .p) && not (sameSort (a .sort) (x .sort) && eqb (a
 unfoldable pub clash : List ℕ → ℕ → Bool
 clash t i = isVariable (termAt t i) && anyBelow i (λ k. isVariable (termAt t k) && conflicts (termAt t k) (termAt t i))
 
--- 9 a 17th store in a chain: the stores from term k inward, counted up to a limit
-unfoldable pub chain : ℕ → List ℕ → ℕ → ℕ
-chain zero t k = 0
-chain (suc left) t k = cond (isStore (termAt t k)) (suc (chain left t (termAt t k .p))) 0
+-- 9 the size of an array term is over 16: of a store 1 more than its operand's, of a choice 1 more than both operands' together,
+-- else 0; from the sizes of the terms that it stands on
+abbrev pub sizeFrom : (ℕ → ℕ) → Term → Bool → Bool → ℕ
+sizeFrom sizes x true choice = suc (sizes (x .p))
+sizeFrom sizes x false true = suc (sizes (x .q) + sizes (x .r))
+sizeFrom sizes x false false = 0
 
--- the size of an array term: its stores, which in an admitted table are at most 16
+-- counted through at most so many terms in a row
+unfoldable pub sizeWithin : ℕ → List ℕ → ℕ → ℕ
+sizeWithin zero t k = 0
+sizeWithin (suc left) t k = let x = termAt t k in sizeFrom (sizeWithin left t) x (isStore x) (isChoice x)
+
+-- 17 terms in a row are enough: where a term's operands have sizes up to 16, there are no more
 abbrev pub size : List ℕ → ℕ → ℕ
-size t k = chain 17 t k
+size t k = sizeWithin 17 t k
 
 -- a number unless a test is true; then the rest
 abbrev pub refuseUnless : ℕ → Bool → ℕ → ℕ

@@ -63,12 +63,15 @@ byOp c v f i r s u Select = r
 byOp c v f i r s u Store = s
 byOp c v f i r s u Unknown = u
 
--- a constant, a variable, a read, a store
+-- a constant, a variable, a choice, a read, a store
 abbrev pub immediate : Op → Bool
 immediate op = byOp true false false false false false false op
 
 abbrev pub slotted : Op → Bool
 slotted op = byOp false true false false false false false op
+
+abbrev pub picks : Op → Bool
+picks op = byOp false false false true false false false op
 
 abbrev pub reads : Op → Bool
 reads op = byOp false false false false true false false op

@@ -3,15 +3,15 @@
 use mathlib.Core.Path.{_≡_}
 use mathlib.Core.Bool.{true, false}
 use mathlib.Core.List.{List}
-use Prim.Native.Nat.{ℕ, zero, suc, pred, _*_, _≤_, _<_}
+use Prim.Native.Nat.{ℕ, zero, suc, pred, _+_, _*_, _≤_, _<_}
 use lib.ListN.{length}
 use Rattle.table.specs.declared.Acceptance.the-variants.{Accepted}
 use Rattle.table.specs.Terms.{words, terms, termAt, sortAt, boolean, array}
-use Rattle.table.specs.Faults.{fields, isVariable, isStore, known, sorted, placedAs, typed, valuedAs, clash, chain, size}
+use Rattle.table.specs.Faults.{fields, isVariable, isStore, isChoice, known, sorted, placedAs, typed, valuedAs, clash, size}
 use Rattle.table.specs.Admission.{admissionWithin}
 
 -- Of term k: an op up to 16; one of the three sorts; operands below and unused fields 0; sorts as the op's line asks;
--- a constant that fits, a slot up to 255 and a mark up to 1; no clash; at most 16 stores in a chain.
+-- a constant that fits, a slot up to 255 and a mark up to 1; no clash; a size of at most 16.
 pub record Sound (t : List ℕ) (k : ℕ) : Type 0 where
   pub is-known : known (termAt t k) ≡ true
   pub is-sorted : sorted (sortAt t k) ≡ true
@@ -45,15 +45,17 @@ AdmissionComplete = (limit : ℕ) (t : List ℕ) → WellFormed limit t → admi
 abbrev pub SlotsHaveOneUse : Type 0
 SlotsHaveOneUse = (limit : ℕ) (t : List ℕ) → WellFormed limit t → OneUse t
 
--- An array term is a variable under 0 to 16 stores, each over an earlier term of its sort.
-pub data Under (t : List ℕ) : ℕ → ℕ → Type 0 where
-  base : {k : ℕ} → isVariable (termAt t k) ≡ true → Under t zero k
-  store : {stores k : ℕ} → isStore (termAt t k) ≡ true → termAt t k .p < k → sortAt t (termAt t k .p) ≡ sortAt t k → Under t stores (termAt t k .p) → Under t (suc stores) k
+-- An array term is a tree of stores and choices over variables, each of its sort and over earlier terms; its size counts the stores and the choices.
+pub data Tree (t : List ℕ) : ℕ → ℕ → Type 0 where
+  variable : {k : ℕ} → isVariable (termAt t k) ≡ true → Tree t k zero
+  store : {k n : ℕ} → isStore (termAt t k) ≡ true → termAt t k .p < k → sortAt t (termAt t k .p) ≡ sortAt t k → Tree t (termAt t k .p) n → Tree t k (suc n)
+  choice : {k m n : ℕ} → isChoice (termAt t k) ≡ true → termAt t k .q < k → termAt t k .r < k → sortAt t (termAt t k .q) ≡ sortAt t k → sortAt t (termAt t k .r) ≡ sortAt t k
+      → Tree t (termAt t k .q) m → Tree t (termAt t k .r) n → Tree t k (suc (m + n))
 
-pub record FewStores (t : List ℕ) (k : ℕ) : Type 0 where
-  pub stores : ℕ
-  pub few : stores ≤ 16
-  pub under : Under t stores k
+-- Of an array term, its size: the tree's, at most 16.
+pub record SmallTree (t : List ℕ) (k : ℕ) : Type 0 where
+  pub tree : Tree t k (size t k)
+  pub small : size t k ≤ 16
 
 abbrev pub ArrayTerms : Type 0
-ArrayTerms = (limit : ℕ) (t : List ℕ) → WellFormed limit t → (k : ℕ) → k < terms t → array (sortAt t k) ≡ true → FewStores t k
+ArrayTerms = (limit : ℕ) (t : List ℕ) → WellFormed limit t → (k : ℕ) → k < terms t → array (sortAt t k) ≡ true → SmallTree t k

@@ -10,6 +10,7 @@ pub use operands::refuse_unless;
 pub use ranks::Fields;
 pub use ranks::Rank;
 pub use ranks::fields_of;
+pub use ranks::is_choice;
 pub use ranks::is_constant;
 pub use ranks::is_read;
 pub use ranks::is_store;

@@ -107,11 +107,7 @@ fn choice_fault(table: &[u32], i: u32, x: Term) -> u32
     let a = sort_in(table, x.p);
     let b = sort_in(table, x.q);
     let c = sort_in(table, x.r);
-    refuse_unless(
-        6,
-        scalar(s) & boolean(a) & same_sort(b, s) & same_sort(c, s),
-        0,
-    )
+    refuse_unless(6, boolean(a) & same_sort(b, s) & same_sort(c, s), 0)
 }
 
 fn bv_unary_fault(table: &[u32], i: u32, x: Term) -> u32

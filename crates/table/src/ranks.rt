@@ -2,7 +2,8 @@
 ghost use mathlib.Core.Path.{_≡_};
 ghost use Rattle.ops.specs.Numbers.{opOf};
 ghost use Rattle.table.specs.Ranks.{rankOf, fieldsOf};
-ghost use Rattle.table.specs.Faults.{isVariable, isConstant, isRead, isStore};
+ghost use Rattle.table.specs.Faults.{isVariable, isConstant, isRead, isStore, isChoice};
+use crate::sorts::array;
 use crate::words::Term;
 
 // The lines of paper 01's table of operators, by the sorts that they ask (SMT-LIB: ranks).
@@ -85,6 +86,8 @@ const OP_CONSTANT: u32 = 0;
 
 const OP_VARIABLE: u32 = 1;
 
+const OP_ITE: u32 = 7;
+
 const OP_SELECT: u32 = 15;
 
 const OP_STORE: u32 = 16;
@@ -115,4 +118,11 @@ pub fn is_store(x: Term) -> bool
     ensures { λ r. ⌜ r ≡ isStore x ⌝ }
 {
     x.op == OP_STORE
+}
+
+// Whether a term is a choice between two arrays.
+pub fn is_choice(x: Term) -> bool
+    ensures { λ r. ⌜ r ≡ isChoice x ⌝ }
+{
+    (x.op == OP_ITE) & array(x.sort)
 }

@@ -1,5 +1,5 @@
 -- `records::judge_by` meets its contract: a walk of its MIR, by hand: three calls, then a loop whose turn calls `look` on the row and `step` on the work, which is lent again for the call, then `verdict` on the work.
--- The loop's variant is the work, the turn, and what is known of them (`Driven`): each turn is of a later term.
+-- The loop's variant is the work, the turn, and what is known of them (`Driven`): each turn is of a later term, or of a later cell of its term.
 -- Assumes nothing.
 use mathlib.Core.Path.{_≡_, refl, sym, ap, subst, _∙_}
 use Prim.Native.Nat.{ℕ, _<_, _≤_, _+_, _-_, _*_, _^_}
@@ -59,16 +59,14 @@ use Rattle.setting.specs.declared.cells.Cell.{Cell}
 use Rattle.setting.specs.Cells.{lookFrom}
 use Rattle.setting.proofs.cells.Cell as T
 use Rattle.evaluate.specs.declared.Evaluation.{Evaluation}
-use Rattle.evaluate.specs.declared.turns.Turn.{Turn}
 use Rattle.evaluate.specs.Evaluation.{evaluates}
-use Rattle.evaluate.specs.Code.Turns.{nextRead, onward}
-use Rattle.judge.specs.Code.Turns.{turnHere}
+use Rattle.judge.specs.declared.turns.Turn.{Turn}
+use Rattle.judge.specs.Code.Turns.{turnHere, gathered, nextAt, nextMet, nextRoom}
 use Rattle.judge.specs.declared.Judgement.{Judgement}
-use Rattle.judge.specs.Code.Labelled.{noted}
 use Rattle.evaluate.proofs.Evaluation as Ev
 use Rattle.evaluate.proofs.Evaluation.Laws as Ev′
-use Rattle.evaluate.proofs.turns.Turn as U
-use Rattle.evaluate.proofs.turns.Turn.Laws as U′
+use Rattle.judge.proofs.turns.Turn as U
+use Rattle.judge.proofs.turns.Turn.Laws as U′
 use Rattle.judge.proofs.Judgement as J
 use Rattle.judge.proofs.Judgement.Laws as J′
 use Rattle.judge.proofs.step as step
@@ -78,9 +76,9 @@ use Rattle.judge.proofs.step.Met as step-thm
 use Rattle.records.specs.Rows.{recordAt}
 use Rattle.records.specs.Answers as answers
 use Rattle.records.specs.Answers.{judgementBy, roomBy}
-use Rattle.records.specs.Code.Drive.{firstTurn, verdictFrom}
+use Rattle.records.specs.Code.Drive.{firstJudged, verdictFrom}
 use Rattle.records.proofs.Again.{LentAgain, lends-again, comes-back}
-use Rattle.records.proofs.Facts.{two, three, tells, together}
+use Rattle.records.proofs.Facts.{two, four, tells, together}
 use Rattle.records.proofs.Driving.{taken, passed-over}
 use Rattle.records.proofs.Judging as drive
 use Rattle.records.proofs.rows.look as looking
@@ -95,10 +93,10 @@ use Rattle.records.proofs.drive.terms_when as terms-when
 use Rattle.records.proofs.drive.terms_when.Symbol as terms-when-def
 use Rattle.records.proofs.drive.terms_when.Symbol.{name as #terms-when}
 use Rattle.records.proofs.drive.terms_when.Met as terms-when-thm
-use Rattle.records.proofs.drive.first_turn as first-turn
-use Rattle.records.proofs.drive.first_turn.Symbol as first-turn-def
-use Rattle.records.proofs.drive.first_turn.Symbol.{name as #first-turn}
-use Rattle.records.proofs.drive.first_turn.Met as first-turn-thm
+use Rattle.records.proofs.drive.first_judged as first-turn
+use Rattle.records.proofs.drive.first_judged.Symbol as first-turn-def
+use Rattle.records.proofs.drive.first_judged.Symbol.{name as #first-turn}
+use Rattle.records.proofs.drive.first_judged.Met as first-turn-thm
 use Rattle.records.proofs.drive.verdict as verdict
 use Rattle.records.proofs.drive.verdict.Symbol as verdict-def
 use Rattle.records.proofs.drive.verdict.Symbol.{name as #verdict}
@@ -276,8 +274,8 @@ module _ {M : Type 1} (𝓤 : URA M) (H : Heap 𝓤) (A : Atoms 𝓤) (W : Given
       qed W ((‵ (flft κ₀ q₀) ⊛ ‵ (flft κ₂ q₂)) ∷ (‵ Own₀ ⊛ ‵ Own₂) ∷ []) ∵ says ! f $ split ! $ move ! (1 ∷ []) $ nothing ! $ move ! (1 ∷ 0 ∷ []) $ join ! $ move ! (1 ∷ 0 ∷ []) $ join ! $ frame ! $
       split ! $ move ! (1 ∷ []) $ nothing ! $ owned ! u32 (Is u32) (uint-makes 𝓤 H A W w32) n _ (refl, fits) $ fjoin ! $ owned ! usize (Is usize) (uint-makes 𝓤 H A W w64) (length cells) _ (refl, room₃ .0) $ fjoin ! $ move ! (1 ∷ 0 ∷ []) $ fjoin ! $ move ! (1 ∷ 0 ∷ []) $ fjoin ! $ done !
 
-  said-first : (n : ℕ) (r : Turn) → ent 𝓤 (ensured 𝓤 H A first-turn.ended (first-turn.clauses 𝓤 H A mem run) (κ₀, (κ₂, tt)) (first-of n) tt r) (fact 𝓤 (r ≡ firstTurn w values (length cells) n))
-  said-first n r = exE 𝓤 _ (λ zs. snd∗ 𝓤 (sem 𝓤 H A (lasts first-turn.ended (κ₀, (κ₂, tt)) (first-of n) zs)) (fact 𝓤 (r ≡ firstTurn w values (length cells) n)))
+  said-first : (n : ℕ) (r : Turn) → ent 𝓤 (ensured 𝓤 H A first-turn.ended (first-turn.clauses 𝓤 H A mem run) (κ₀, (κ₂, tt)) (first-of n) tt r) (fact 𝓤 (r ≡ firstJudged w values (length cells) n))
+  said-first n r = exE 𝓤 _ (λ zs. snd∗ 𝓤 (sem 𝓤 H A (lasts first-turn.ended (κ₀, (κ₂, tt)) (first-of n) zs)) (fact 𝓤 (r ≡ firstJudged w values (length cells) n)))
 
   abbrev look-of : Turn → RefT (List Cell) × (ℕ × (ℕ × (ℕ × (ℕ × Unit {0}))))
   look-of t = (x₃, (t .count, (t .slot, (t .index, (t .other, tt)))))
@@ -308,10 +306,10 @@ module _ {M : Type 1} (𝓤 : URA M) (H : Heap 𝓤) (A : Atoms 𝓤) (W : Given
   abbrev Lent : ℕ → GName → List ℕ → Fml
   Lent ν δ l = MutSlice (named 3) (ν ∷ []) u32 .own (x δ l) (s (length l) ∷ [])
 
-  goes-step : (n ν : ℕ) (δ : GName) (l : List ℕ) (t : Turn) (v : ℕ) → n < 2 ^ 32 → Is U.the-row t (U′.lowered t ∷ []) → v < 2 ^ 32 → WellFormed 80000 w → n ≡ terms w → (t .at < n) × (n + n ≤ length l)
+  goes-step : (n ν : ℕ) (δ : GName) (l : List ℕ) (t : Turn) (v : ℕ) → n < 2 ^ 32 → Is U.the-row t (U′.lowered t ∷ []) → v < 2 ^ 32 → WellFormed 80000 w → n ≡ terms w → (t .at < n) × (n + n ≤ length l) → t .met < 17
       → ent 𝓤 (⋆ 𝓤 H A ((‵ (flft κ₀ q₀) ⊛ (‵ (flft κ₁ q₁) ⊛ (‵ (flft κ₂ q₂) ⊛ ‵ (flft (ν ∷ []) fullShare)))) ∷ (‵ Own₀ ⊛ (‵ Own₁ ⊛ (‵ Own₂ ⊛ ‵ (Lent ν δ l)))) ∷ [])) (StepC 𝓤 H A mem run .pre (to-step n ν δ l t v))
-  goes-step n ν δ l t v fits low fv well every inside =
-      qed W ((‵ (flft κ₀ q₀) ⊛ (‵ (flft κ₁ q₁) ⊛ (‵ (flft κ₂ q₂) ⊛ ‵ (flft (ν ∷ []) fullShare)))) ∷ (‵ Own₀ ⊛ (‵ Own₁ ⊛ (‵ Own₂ ⊛ ‵ (Lent ν δ l)))) ∷ []) ∵ tells ! (three 𝓤 well every inside) $
+  goes-step n ν δ l t v fits low fv well every inside room-left =
+      qed W ((‵ (flft κ₀ q₀) ⊛ (‵ (flft κ₁ q₁) ⊛ (‵ (flft κ₂ q₂) ⊛ ‵ (flft (ν ∷ []) fullShare)))) ∷ (‵ Own₀ ⊛ (‵ Own₁ ⊛ (‵ Own₂ ⊛ ‵ (Lent ν δ l)))) ∷ []) ∵ tells ! (four 𝓤 well every inside room-left) $
       split ! $ move ! (1 ∷ []) $ split ! $ move ! (1 ∷ []) $ split ! $ move ! (1 ∷ []) $ nothing ! $ move ! (1 ∷ 0 ∷ []) $ join ! $ move ! (1 ∷ 0 ∷ []) $ join ! $ move ! (1 ∷ 0 ∷ []) $ join ! $ move ! (1 ∷ 0 ∷ []) $ join ! $ frame ! $
       split ! $ move ! (1 ∷ []) $ split ! $ move ! (1 ∷ []) $ split ! $ move ! (1 ∷ []) $ nothing ! $ owned ! u32 (Is u32) (uint-makes 𝓤 H A W w32) v _ (refl, fv) $ fjoin ! $ owned ! U.the-row (Is U.the-row) (LL.makes U.the-type U′.the-plain 𝓤 H A) t _ low $ fjoin ! $ move ! (1 ∷ 0 ∷ []) $ fjoin ! $
       owned ! u32 (Is u32) (uint-makes 𝓤 H A W w32) n _ (refl, fits) $ fjoin ! $ owned ! usize (Is usize) (uint-makes 𝓤 H A W w64) (length cells) _ (refl, room₃ .0) $ fjoin ! $ move ! (1 ∷ 0 ∷ []) $ fjoin ! $ move ! (1 ∷ 0 ∷ []) $ fjoin ! $ move ! (1 ∷ 0 ∷ []) $ fjoin ! $ done !
@@ -329,11 +327,11 @@ module _ {M : Type 1} (𝓤 : URA M) (H : Heap 𝓤) (A : Atoms 𝓤) (W : Given
       owned ! Ev.the-row (Is Ev.the-row) (LE.makes Ev.the-type Ev′.the-plain 𝓤 H A) e _ low $ fjoin ! $ done !
 
   -- the two clauses of `step`
-  abbrev next-turn : ℕ → Turn → Turn → List ℕ → Type 0
-  next-turn n t r z = r ≡ turnHere w values (length cells) n z (nextRead w n (t .at + 1))
+  abbrev next-turn : ℕ → Turn → ℕ → Turn → List ℕ → Type 0
+  next-turn n t v r z = r ≡ turnHere w values (length cells) n z (gathered t v) (nextAt w n t) (nextMet t)
 
   abbrev next-work : ℕ → List ℕ → Turn → ℕ → List ℕ → Type 0
-  next-work n l t v z = z ≡ onward w (noted w marked values n 0) n (noted w marked values n v l (t .at)) (t .at + 1)
+  next-work n l t v z = z ≡ nextRoom w marked values n (gathered t v) t l
 
   abbrev sl₀ : Ty
   sl₀ = sliceTy (tyRef (named 0) imm (tyInt w32))
@@ -362,13 +360,13 @@ module _ {M : Type 1} (𝓤 : URA M) (H : Heap 𝓤) (A : Atoms 𝓤) (W : Given
     Left = (l : List ℕ) × ((t : Turn) × (drive.Driven marked a w values cells allowance ws formed e is-e n is-n l t × Is U.the-row t (U′.lowered t ∷ [])))
 
     abbrev Nearer : Left → Left → Type 0
-    Nearer j k = n - j .1 .0 .at < n - k .1 .0 .at
+    Nearer j k = (n - j .1 .0 .at) * 18 - j .1 .0 .met < (n - k .1 .0 .at) * 18 - k .1 .0 .met
 
     Nearer-wf : WellFounded Nearer
-    Nearer-wf = InvImage·wf (λ (k : Left). n - k .1 .0 .at) (Nat·lt-wfRel .wf)
+    Nearer-wf = InvImage·wf (λ (k : Left). (n - k .1 .0 .at) * 18 - k .1 .0 .met) (Nat·lt-wfRel .wf)
 
-    next-driven : (k : Left) → Holds (k .1 .0 .pending) → (v : ℕ) → v ≡ found-by (k .1 .0) → (z : List ℕ) (r : Turn) → next-turn n (k .1 .0) r z × next-work n (k .0) (k .1 .0) v z
-        → drive.Driven marked a w values cells allowance ws formed e is-e n is-n z r × (n - r .at < n - k .1 .0 .at)
+    next-driven : (k : Left) → Holds (k .1 .0 .pending) → (v : ℕ) → v ≡ found-by (k .1 .0) → (z : List ℕ) (r : Turn) → next-turn n (k .1 .0) v r z × next-work n (k .0) (k .1 .0) v z
+        → drive.Driven marked a w values cells allowance ws formed e is-e n is-n z r × ((n - r .at) * 18 - r .met < (n - k .1 .0 .at) * 18 - k .1 .0 .met)
     next-driven k on v found z r said = drive.turned marked a w values cells allowance ws formed e is-e n is-n (k .0) (k .1 .0) (k .1 .1 .0) (taken (k .1 .0 .pending) on) v found z r (said .0) (said .1)
 
     -- the loop is left: the verdict, and the work
@@ -396,7 +394,7 @@ module _ {M : Type 1} (𝓤 : URA M) (H : Heap 𝓤) (A : Atoms 𝓤) (W : Given
           ∷ ‵ (fat fullShare sl₄ l₇ 0 (s (length ws))) ∷ ‵ (fdies sl₄ l₇) ∷ ‵ (fat fullShare (tyInt w64) l₆ 0 (vint w64 allowance)) ∷ ‵ (fdies (tyInt w64) l₆) ∷ ‵ (fat fullShare sl₃ l₅ 0 v₃) ∷ ‵ (fdies sl₃ l₅) ∷ ‵ (fat fullShare sl₂ l₄ 0 v₂) ∷ ‵ (fdies sl₂ l₄)
           ∷ ‵ (fat fullShare E′.mir l₃ 0 (E′.lowered a)) ∷ ‵ (fdies E′.mir l₃) ∷ ‵ (fat fullShare ref₁ l₂ 0 v₁) ∷ ‵ (fdies ref₁ l₂) ∷ ‵ (fat fullShare sl₀ l₁ 0 v₀) ∷ ‵ (fdies sl₀ l₁) ∷ ‵ (froom J′.mir l₀ 0) ∷ ‵ (fdies J′.mir l₀) ∷ []
 
-      -- a turn's postcondition: the next is of a later term, or the loop is left and the rest of the body runs
+      -- a turn's postcondition: the next is nearer to the end, or the loop is left and the rest of the body runs
       abbrev Turned : Left → Out → SProp 𝓤
       Turned k = afterTurn 𝓤 H (Below 𝓤 H A Nearer At k) (afterBlock 𝓤 H (afterSeq 𝓤 H (Wp 𝓤 H C Λ En mirs.t-7 (atReturn 𝓤 H En Post)) (atReturn 𝓤 H En Post)))
 
@@ -431,25 +429,25 @@ module _ {M : Type 1} (𝓤 : URA M) (H : Heap 𝓤) (A : Atoms 𝓤) (W : Given
           move ! (8 ∷ []) $ use1 W (‵ Own₀ ⊛ ‵ Own₀) (shr-slice-copy 𝓤 H A W (named 0) κ₀ u32 .twice x₀ (v₀ ∷ [])) $ split ! $ move ! (10 ∷ []) $ use1 W (‵ Own₁ ⊛ ‵ Own₁) (shr-copy 𝓤 H A W (named 1) κ₁ (Array u32 256) .twice x₁ (v₁ ∷ [])) $ split ! $
           move ! (12 ∷ []) $ use1 W (‵ Own₂ ⊛ ‵ Own₂) (shr-slice-copy 𝓤 H A W (named 2) κ₂ u32 .twice x₂ (v₂ ∷ [])) $ split ! $
           move ! (0 ∷ 6 ∷ []) $ join ! $ move ! (2 ∷ 0 ∷ []) $ join ! $ move ! (3 ∷ 0 ∷ []) $ join ! $ move ! (10 ∷ 5 ∷ []) $ join ! $ move ! (9 ∷ 0 ∷ []) $ join ! $ move ! (8 ∷ 0 ∷ []) $ join ! $
-          use2 W (raw (StepC 𝓤 H A mem run .pre (to-step n ν δ l t v))) (goes-step n ν δ l t v fits low (is-v .1) (drive.well marked a w values cells allowance ws formed e is-e n is-n l t driven (taken (t .pending) on)) (drive.every marked a w values cells allowance ws formed e is-e n is-n l t driven (taken (t .pending) on)) (drive.place marked a w values cells allowance ws formed e is-e n is-n l t driven (taken (t .pending) on))) $
+          use2 W (raw (StepC 𝓤 H A mem run .pre (to-step n ν δ l t v))) (goes-step n ν δ l t v fits low (is-v .1) (drive.well marked a w values cells allowance ws formed e is-e n is-n l t driven (taken (t .pending) on)) (drive.every marked a w values cells allowance ws formed e is-e n is-n l t driven (taken (t .pending) on)) (drive.place marked a w values cells allowance ws formed e is-e n is-n l t driven (taken (t .pending) on)) (drive.room-left marked a w values cells allowance ws formed e is-e n is-n l t driven (taken (t .pending) on))) $
           calls-at-last ! (fmOf 𝓤 H (W .laws) 𝓣) (StepC 𝓤 H A mem run) (known .step) (to-step n ν δ l t v)
           (and-then ! (load ! (from ! (stop !)) (look ! 41 refl)) (and-then ! (load ! (from ! (stop !)) (look ! 39 refl)) (and-then ! (load ! (from ! (stop !)) (look ! 35 refl)) (and-then ! (load ! (from ! (stop !)) (look ! 25 refl)) (and-then ! (load ! (from ! (stop !)) (look ! 23 refl))
           (and-then ! (load ! (from ! (stop !)) (look ! 11 refl)) (and-then ! (load ! (from ! (stop !)) (look ! 21 refl)) (and-then ! (load ! (from ! (stop !)) (look ! 19 refl)) (no-more !))))))))) (λ u′.
           use1 W (later (some (λ (r : Turn). ((‵ (flft κ₀ q₀) ⊛ (‵ (flft κ₁ q₁) ⊛ (‵ (flft κ₂ q₂) ⊛ (‵ (flft (ν ∷ []) fullShare) ⊛ ‵ ftrue)))) ⊛ ‵ (U.the-row .own r (u′ ∷ []))) ⊛ raw (ensured 𝓤 H A step.ended (step.clauses 𝓤 H A mem run) (κ₀, (κ₁, (κ₂, (ν ∷ [], tt)))) (step-of n δ l t v) tt r)))) (id⊢ 𝓤 _) $ await ! tt $ pick ! (λ r.
           -- what `step` ensures, at some last list
-          split ! $ move ! (1 ∷ []) $ use1 W (some (λ (zs : Unit {0} × (Unit {0} × (Unit {0} × (Unit {0} × (Unit {0} × (List ℕ × (Unit {0} × (Unit {0} × Unit {0})))))))). ‵ (lasts step.ended (κ₀, (κ₁, (κ₂, (ν ∷ [], tt)))) (step-of n δ l t v) zs) ⊛ raw (sep 𝓤 (fact 𝓤 (next-turn n t r (zs .1 .1 .1 .1 .1 .0))) (fact 𝓤 (next-work n l t v (zs .1 .1 .1 .1 .1 .0)))))) (id⊢ 𝓤 _) $ pick ! (λ zs.
+          split ! $ move ! (1 ∷ []) $ use1 W (some (λ (zs : Unit {0} × (Unit {0} × (Unit {0} × (Unit {0} × (Unit {0} × (List ℕ × (Unit {0} × (Unit {0} × Unit {0})))))))). ‵ (lasts step.ended (κ₀, (κ₁, (κ₂, (ν ∷ [], tt)))) (step-of n δ l t v) zs) ⊛ raw (sep 𝓤 (fact 𝓤 (next-turn n t v r (zs .1 .1 .1 .1 .1 .0))) (fact 𝓤 (next-work n l t v (zs .1 .1 .1 .1 .1 .0)))))) (id⊢ 𝓤 _) $ pick ! (λ zs.
           let z = zs .1 .1 .1 .1 .1 .0 in
-          split ! $ move ! (1 ∷ []) $ use1 W (raw (fact 𝓤 (next-turn n t r z × next-work n l t v z))) (together 𝓤 (next-turn n t r z) (next-work n l t v z)) $ heard ! (next-turn n t r z × next-work n l t v z) (λ said.
+          split ! $ move ! (1 ∷ []) $ use1 W (raw (fact 𝓤 (next-turn n t v r z × next-work n l t v z))) (together 𝓤 (next-turn n t v r z) (next-work n l t v z)) $ heard ! (next-turn n t v r z × next-work n l t v z) (λ said.
           fsplit ! $ drop ! $ fsplit ! $ drop ! $ fsplit ! $ drop ! $ fsplit ! $ drop ! $ fsplit ! $ drop ! $ fsplit ! $ fsplit ! $ move ! (1 ∷ []) $ feqL ! (λ same.
           -- [the last list, said; …; the tokens and the turn; what values, marks and table own; the lender's part; the row's token; what the row owns; _18; …]: ν is ended, and the work comes back at that list
           move ! (2 ∷ []) $ split ! $ split ! $ move ! (1 ∷ []) $ split ! $ move ! (1 ∷ []) $ split ! $ move ! (1 ∷ []) $ split ! $ lft-end ! tt $ move ! (0 ∷ 11 ∷ 6 ∷ []) $
           use3 W (later (‵ (Own₄ z (length l)) ⊛ ‵ (flft κ₄ q₄))) (comes-back u32 κ₄ (ν ∷ []) q₄ γ b o 𝓤 H A W (named 4) (named 3) l δ z (subst (Room u32) (sym long) room) same) $ await ! tt $ split ! $ move ! (6 ∷ []) $
           -- [the next turn; what the work owns; its token; true; the tokens of values, marks and table; …; what values, marks and table own; the row's token; what the row owns; _18; …]
           peeks ! U.the-row (Is U.the-row) (shows 𝓤 H A U.the-row) r (u′ ∷ []) (λ is-r. land-last ! (from ! (stop !)) (store ! 27 refl (LL.lawful U.the-type U′.the-laws 𝓤 H A W .typed r _ is-r .0)) $
-          rewrite ! 27 (λ (y : Val). ‵ (fat fullShare U′.mir l₁₁ 0 y)) (ap only (LL.tells U.the-type U′.the-laws r (u′ ∷ []) is-r)) refl $ rewrite ! 1 (λ (m : ℕ). ‵ (Own₄ z m)) long refl $
+          rewrite ! 27 (λ (y : Val). ‵ (fat fullShare U′.mir l₁₁ 0 y)) (ap only (U′.lowers .val-is r (u′ ∷ []) is-r)) refl $ rewrite ! 1 (λ (m : ℕ). ‵ (Own₄ z m)) long refl $
           forget ! 17 refl $ forget ! 19 refl $ forget ! 21 refl $ forget ! 25 refl $
           keep ! (6 ∷ 5 ∷ 4 ∷ 11 ∷ 2 ∷ 10 ∷ 9 ∷ 8 ∷ 12 ∷ 1 ∷ 13 ∷ 14 ∷ 15 ∷ 16 ∷ 17 ∷ 18 ∷ 19 ∷ 20 ∷ 21 ∷ 22 ∷ 23 ∷ 24 ∷ 25 ∷ 26 ∷ 27 ∷ 28 ∷ 29 ∷ 30 ∷ 31 ∷ 32 ∷ 33 ∷ 34 ∷ 35 ∷ 36 ∷ 37 ∷ 38 ∷ 39 ∷ 40 ∷ 41 ∷ 42 ∷ 43 ∷ 44 ∷ 45 ∷ 46 ∷ 47 ∷ 48 ∷ 49 ∷ 50 ∷ []) $
-          again ! Nearer At k (z, (r, (next-driven k on v found z r said .0, subst (Is U.the-row r) (LL.tells U.the-type U′.the-laws r (u′ ∷ []) is-r) is-r))) (next-driven k on v found z r said .1))))))))))))))
+          again ! Nearer At k (z, (r, (next-driven k on v found z r said .0, subst (Is U.the-row r) (U′.lowers .val-is r (u′ ∷ []) is-r) is-r))) (next-driven k on v found z r said .1))))))))))))))
           (λ off. jumps ! $ exec ! C Λ En mirs.t-7 (atRet En Post) $
           -- the work is lent again for a lifetime ν: `verdict`
           assigns ! (addr ! (from ! (fld ! refl (hop ! (look-in ! 32 (sub ! 0 refl (whole !))) (stop !))))) (from ! (stop !)) (init ! 12 refl (tt, tt)) $
@@ -474,7 +472,7 @@ module _ {M : Type 1} (𝓤 : URA M) (H : Heap 𝓤) (A : Atoms 𝓤) (W : Given
           keep ! (4 ∷ 5 ∷ 6 ∷ 7 ∷ 1 ∷ 8 ∷ 9 ∷ 10 ∷ 11 ∷ 0 ∷ []) $
           by ! (exits j (answer-is k off j (said .0)) (subst (Is J.the-row j) (J′.lowers .val-is j (u ∷ []) is-j) is-j) z (same ∙ long) (room-is k off j (said .0) z (said .1))))))))))))
 
-      starts : (t : Turn) (is-t : t ≡ firstTurn w values (length cells) n) (low : Is U.the-row t (U′.lowered t ∷ [])) → Sq W (At (ws, (t, (drive.started marked a w values cells allowance ws formed e is-e n is-n t is-t, low)))) (runs C Λ En mirs.t-6 (atRet En Post))
+      starts : (t : Turn) (is-t : t ≡ firstJudged w values (length cells) n) (low : Is U.the-row t (U′.lowered t ∷ [])) → Sq W (At (ws, (t, (drive.started marked a w values cells allowance ws formed e is-e n is-n t is-t, low)))) (runs C Λ En mirs.t-6 (atRet En Post))
       starts t is-t low = first ! $ blocks ! $ loops ! 𝓣 Nearer Nearer-wf At turns (ws, (t, (drive.started marked a w values cells allowance ws formed e is-e n is-n t is-t, low)))
 
   -- ---- up to the loop
@@ -514,11 +512,11 @@ module _ {M : Type 1} (𝓤 : URA M) (H : Heap 𝓤) (A : Atoms 𝓤) (W : Given
         calls-at ! (fmOf 𝓤 H (W .laws) 𝓣) (FirstTurn 𝓤 H A mem run) (known .first-turn) (to-first n)
         (and-then ! (load ! (from ! (stop !)) (look ! 43 refl)) (and-then ! (load ! (from ! (stop !)) (look ! 37 refl)) (and-then ! (load ! (from ! (stop !)) (look ! 27 refl)) (and-then ! (load ! (from ! (stop !)) (look ! 25 refl)) (no-more !))))) (λ u-t.
         use1 W (later (some (λ (t : Turn). ((‵ (flft κ₀ q₀) ⊛ (‵ (flft κ₂ q₂) ⊛ ‵ ftrue)) ⊛ ‵ (U.the-row .own t (u-t ∷ []))) ⊛ raw (ensured 𝓤 H A first-turn.ended (first-turn.clauses 𝓤 H A mem run) (κ₀, (κ₂, tt)) (first-of n) tt t)))) (id⊢ 𝓤 _) $ await ! tt $ pick ! (λ t.
-        split ! $ move ! (1 ∷ []) $ use1 W (raw (fact 𝓤 (t ≡ firstTurn w values (length cells) n))) (said-first n t) $ heard ! (t ≡ firstTurn w values (length cells) n) (λ is-t. split ! $ move ! (1 ∷ []) $
+        split ! $ move ! (1 ∷ []) $ use1 W (raw (fact 𝓤 (t ≡ firstJudged w values (length cells) n))) (said-first n t) $ heard ! (t ≡ firstJudged w values (length cells) n) (λ is-t. split ! $ move ! (1 ∷ []) $
         peeks ! U.the-row (Is U.the-row) (shows 𝓤 H A U.the-row) t (u-t ∷ []) (λ was-t. land ! (from ! (stop !)) (init ! 24 refl (LL.lawful U.the-type U′.the-laws 𝓤 H A W .typed t _ was-t .0)) $
-        rewrite ! 24 (λ (z : Val). ‵ (fat fullShare U′.mir l₁₁ 0 z)) (ap only (LL.tells U.the-type U′.the-laws t (u-t ∷ []) was-t)) refl $ drop ! $ split ! $ move ! (1 ∷ []) $ split ! $
+        rewrite ! 24 (λ (z : Val). ‵ (fat fullShare U′.mir l₁₁ 0 z)) (ap only (U′.lowers .val-is t (u-t ∷ []) was-t)) refl $ drop ! $ split ! $ move ! (1 ∷ []) $ split ! $
         keep ! (2 ∷ 5 ∷ 0 ∷ 6 ∷ 7 ∷ 4 ∷ 8 ∷ 3 ∷ 9 ∷ 10 ∷ 11 ∷ 12 ∷ 13 ∷ 14 ∷ 15 ∷ 16 ∷ 17 ∷ 18 ∷ 19 ∷ 20 ∷ 21 ∷ 22 ∷ 23 ∷ 24 ∷ 25 ∷ 26 ∷ 27 ∷ 28 ∷ 29 ∷ 30 ∷ 31 ∷ 32 ∷ 33 ∷ 34 ∷ 35 ∷ 36 ∷ 37 ∷ 38 ∷ 39 ∷ 40 ∷ 41 ∷ 42 ∷ 43 ∷ 44 ∷ 45 ∷ 46 ∷ 47 ∷ 48 ∷ []) $
-        starts e is-e (lowers e u-e was-e) n is-n (was-n .1) 𝓣 known l₀ l₁ l₂ l₃ l₄ l₅ l₆ l₇ l₈ l₉ l₁₀ l₁₁ l₁₂ l₁₃ l₁₄ l₁₅ l₁₆ l₁₇ l₁₈ t is-t (subst (Is U.the-row t) (LL.tells U.the-type U′.the-laws t (u-t ∷ []) was-t) was-t)))))))))))))
+        starts e is-e (lowers e u-e was-e) n is-n (was-n .1) 𝓣 known l₀ l₁ l₂ l₃ l₄ l₅ l₆ l₇ l₈ l₉ l₁₀ l₁₁ l₁₂ l₁₃ l₁₄ l₁₅ l₁₆ l₁₇ l₁₈ t is-t (subst (Is U.the-row t) (U′.lowers .val-is t (u-t ∷ []) was-t) was-t)))))))))))))
 
   walk : (𝓣 : Tables 𝓤 H) → Known 𝓤 H A mem run 𝓣
       → ent 𝓤 (onEntry 𝓤 H A judging.signature (κ₀, (κ₁, (κ₂, (κ₃, (κ₄, tt))))) (q₀, (q₁, (q₂, (q₃, (q₄, tt))))) args at) (WpFn 𝓤 H (𝓣 .C) (𝓣 .Λ) code.function (v₀ ∷ v₁ ∷ E′.lowered a ∷ v₂ ∷ v₃ ∷ vint w64 allowance ∷ s (length ws) ∷ []) Post)
@@ -566,7 +564,7 @@ judge-by-spec 𝓤 H 𝓜 𝓖 𝓡 =
     (meets 𝓤 H (𝓖 .A) (givenOf 𝓤 H 𝓜 𝓖) (𝓜 .mem) (𝓡 .run) (tablesOf 𝓤 H 𝓜 (tables 𝓤 H 𝓜 𝓡 code.env)) (record {
       ready = cited 𝓤 H (Ready 𝓤 H (𝓖 .A) (𝓜 .mem) (𝓡 .run)) 𝓜 𝓡 code.env #ready ready-def.routine code.calls-records·checks·ready (ready-thm.met 𝓤 H 𝓜 𝓖 𝓡);
       terms-when = cited 𝓤 H (TermsWhen 𝓤 H (𝓖 .A) (𝓜 .mem) (𝓡 .run)) 𝓜 𝓡 code.env #terms-when terms-when-def.routine code.calls-records·drive·terms-when (terms-when-thm.met 𝓤 H 𝓜 𝓖 𝓡);
-      first-turn = cited 𝓤 H (FirstTurn 𝓤 H (𝓖 .A) (𝓜 .mem) (𝓡 .run)) 𝓜 𝓡 code.env #first-turn first-turn-def.routine code.calls-records·drive·first-turn (first-turn-thm.met 𝓤 H 𝓜 𝓖 𝓡);
+      first-turn = cited 𝓤 H (FirstTurn 𝓤 H (𝓖 .A) (𝓜 .mem) (𝓡 .run)) 𝓜 𝓡 code.env #first-turn first-turn-def.routine code.calls-records·drive·first-judged (first-turn-thm.met 𝓤 H 𝓜 𝓖 𝓡);
       looks = cited 𝓤 H (Look 𝓤 H (𝓖 .A) (𝓜 .mem) (𝓡 .run)) 𝓜 𝓡 code.env #look look-def.routine code.calls-records·rows·look (look-thm.met 𝓤 H 𝓜 𝓖 𝓡);
       step = cited 𝓤 H (StepC 𝓤 H (𝓖 .A) (𝓜 .mem) (𝓡 .run)) 𝓜 𝓡 code.env #step step-def.routine code.calls-judge·step (step-thm.met 𝓤 H 𝓜 𝓖 𝓡);
       verdict = cited 𝓤 H (VerdictC 𝓤 H (𝓖 .A) (𝓜 .mem) (𝓡 .run)) 𝓜 𝓡 code.env #verdict verdict-def.routine code.calls-records·drive·verdict (verdict-thm.met 𝓤 H 𝓜 𝓖 𝓡);

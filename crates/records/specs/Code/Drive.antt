@@ -4,11 +4,13 @@ use mathlib.Core.Bool.{Bool, true, false}
 use mathlib.Core.List.{List, []}
 use Prim.Native.Nat.{ℕ, _+_, _-_}
 use lib.Dec.{ltb}
-use lib.ListN.{getD}
+use lib.ListN.{getD, replicate}
 use Rattle.ops.specs.Meaning.{holds}
 use Rattle.evaluate.specs.declared.turns.Turn.{Turn}
 use Rattle.evaluate.specs.declared.Evaluation.{Evaluation}
 use Rattle.evaluate.specs.Code.Turns.{turnOf}
+use Rattle.judge.specs.declared.turns.Turn.{Turn as Judging}
+use Rattle.judge.specs.Code.Turns as judging
 use Rattle.judge.specs.declared.Judgement.{Judgement}
 use Rattle.judge.specs.Judgement.{verdictBy}
 
@@ -19,6 +21,15 @@ firstBy false w values count terms = record { pending = false; at = 0; count = 0
 
 abbrev pub firstTurn : List ℕ → List ℕ → ℕ → ℕ → Turn
 firstTurn w values count terms = firstBy (ltb 0 terms) w values count terms
+
+-- the same for judging
+abbrev pub firstJudgedBy : Bool → List ℕ → List ℕ → ℕ → ℕ → Judging
+firstJudgedBy true w values count terms = judging.firstTurn w values count terms
+firstJudgedBy false w values count terms =
+    record { pending = false; at = 0; count = 0; slot = 0; index = 0; other = 0; met = 0; more = false; cells = replicate 17 0 }
+
+abbrev pub firstJudged : List ℕ → List ℕ → ℕ → ℕ → Judging
+firstJudged w values count terms = firstJudgedBy (ltb 0 terms) w values count terms
 
 -- the verdict from the last of so many terms: its value stands in the room at the end of the values, its truth at the end of the truths
 abbrev pub verdictFrom : Evaluation → ℕ → List ℕ → Judgement

@@ -27,8 +27,8 @@ term-in-requires c κs = omega (arith, c .loop-test .taken, c .before .before .c
 added : (c : tie.After-steps-of Inv-loop μ-loop) → c .steps-of .result ≡ stepsOf (c .before .before .before .before .before .before .args .table .now) (termAt (c .before .before .before .before .before .before .args .table .now) (c .before .before .before .loop .i))
 added c = c .steps-of .ensures ∙ ap (stepsOf (c .before .before .before .before .before .before .args .table .now)) (c .before .term-in .ensures)
 
--- what is added is at most 17
-small : (c : tie.After-steps-of Inv-loop μ-loop) → c .steps-of .result ≤ 17
+-- what is added is at most 131072
+small : (c : tie.After-steps-of Inv-loop μ-loop) → c .steps-of .result ≤ 131072
 small c =
     let w = c .before .before .before .before .before .before .args .table .now in
     omega (arith, added c, steps-of-most w (termAt w (c .before .before .before .loop .i)))

@@ -12,11 +12,11 @@ use Rattle.judge.proofs.terms.labelled_here.Statement.{statement}
 use Rattle.judge.proofs.terms.labelled_here.Tie as tie
 
 slice-aggregate-labelled-of : tie.Need-slice-aggregate-labelled-of
-slice-aggregate-labelled-of c = sym (length-take-le (c .before .before .before .before .before .args .at) (c .before .before .before .before .before .args .room .now) (omega (arith, c .before .before .before .before .before .pre .1 .1)))
+slice-aggregate-labelled-of c = sym (length-take-le (c .before .before .before .before .before .before .args .at) (c .before .before .before .before .before .before .args .room .now) (omega (arith, c .before .before .before .before .before .before .pre .1 .1)))
 
 labelled-of-requires : tie.Need-labelled-of-requires
 labelled-of-requires c κs =
-    let s = c .before .before .before .before .before .before in
+    let s = c .before .before .before .before .before .before .before in
     let a = s .args in
     let front : length (take (a .at) (a .room .now)) ≡ a .at = length-take-le (a .at) (a .room .now) (omega (arith, s .pre .1 .1)) in
     let e : a .terms + a .at - a .terms ≡ a .at = omega arith in
@@ -25,11 +25,11 @@ labelled-of-requires c κs =
 
 returns : tie.Need-returns
 returns c =
-    let a = c .before .before .before .before .before .before .before .args in
+    let a = c .before .before .before .before .before .before .before .before .args in
     let e : a .terms + a .at - a .terms ≡ a .at = omega arith in
     c .labelled-of .ensures
-    ∙ ap (λ (n : ℕ). labelledOf (a .table .now) (marksBy (a .said .now)) (a .values .now) (take (a .at) (a .room .now)) (take n (drop (a .terms) (a .room .now))) (c .before .before .before .term-at .result) (a .answer)) e
-    ∙ ap (λ (x : Term). labelledOf (a .table .now) (marksBy (a .said .now)) (a .values .now) (take (a .at) (a .room .now)) (take (a .at) (drop (a .terms) (a .room .now))) x (a .answer)) (c .before .before .before .term-at .ensures)
+    ∙ ap (λ (n : ℕ). labelledOf (a .table .now) (marksBy (a .said .now)) (a .values .now) (take (a .at) (a .room .now)) (take n (drop (a .terms) (a .room .now))) (c .before .before .before .term-at .result) (a .cells .now)) e
+    ∙ ap (λ (x : Term). labelledOf (a .table .now) (marksBy (a .said .now)) (a .values .now) (take (a .at) (a .room .now)) (take (a .at) (drop (a .terms) (a .room .now))) x (a .cells .now)) (c .before .before .before .term-at .ensures)
 
 pub labelled-here-spec : {M : Type 1} → statement M
 labelled-here-spec =

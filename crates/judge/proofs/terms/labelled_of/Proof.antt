@@ -1,19 +1,28 @@
-use mathlib.Core.Path.{sym, _∙_}
+use Prim.Native.Nat.{_≤_}
+use mathlib.Core.Path.{_≡_, sym, _∙_}
+use native.Mathlib.Omega.{arith}
+use lib.ListN.{length}
 use borrow.Author.Needs.{needs}
 use borrow.Author.Tests.{not-true, not-false}
 use Rattle.evaluate.specs.Code.Turns.{numberOf}
 use Rattle.evaluate.proofs.Operands.{behind}
 use Rattle.judge.specs.Code.Labelled.{labelledOf}
+use Rattle.judge.proofs.LeafLaws.{few-leaves}
 use Rattle.judge.proofs.terms.labelled_of.Statement.{statement}
 use Rattle.judge.proofs.terms.labelled_of.Tie as tie
 
 returns : tie.Need-returns
 unfolding labelledOf
-returns c = rw (sym (c .before .before .before .is-read .ensures) ∙ c .before .before .if1 .taken, sym (c .before .truth-at .ensures) ∙ not-true _ (c .if2 .taken))
+returns c = rw (c .number-at .ensures, sym (c .before .before .before .before .is-read .ensures) ∙ c .before .before .before .if1 .taken, sym (c .before .before .truth-at .ensures) ∙ not-true _ (c .before .if2 .taken))
+
+read-requires : tie.Need-read-requires
+read-requires c κs =
+    let s = c .before .before .before .before .before .before .before .before .before .before in
+    (s .pre .0, omega (arith, few-leaves 80000 (s .args .table .now) (s .pre .0) (s .args .x .p)))
 
 returns-2 : tie.Need-returns-2
 unfolding labelledOf
-returns-2 c = c .read .ensures ∙ rw (c .before .number-at .ensures, c .before .before .before .truth-at .ensures, sym (c .before .before .before .before .before .is-read .ensures) ∙ c .before .before .before .before .if1 .taken, sym (c .before .before .before .truth-at .ensures) ∙ not-false _ (c .before .before .if2 .left))
+returns-2 c = c .read .ensures ∙ rw (c .before .number-at2 .ensures, c .before .before .before .truth-at .ensures, sym (c .before .before .before .before .before .is-read .ensures) ∙ c .before .before .before .before .if1 .taken, sym (c .before .before .before .truth-at .ensures) ∙ not-false _ (c .before .before .if2 .left))
 
 returns-3 : tie.Need-returns-3
 unfolding labelledOf numberOf
@@ -25,7 +34,7 @@ returns-4 c = rw (c .marked .ensures, c .before .variable-number .ensures, sym (
 
 operated-requires : tie.Need-operated-requires
 operated-requires c κs =
-    let s = c .before .before .before .before .before .before .before .before .before .before in
+    let s = c .before .before .before .before .before .before .before .before .before .before .before in
     let below = behind 80000 (s .args .table .now) (s .args .front .now) (s .args .x) (s .pre .0) (s .pre .1 .0) (sym (c .before .before .before .is-constant .ensures) ∙ c .before .before .if3 .left) (sym (c .before .is-variable .ensures) ∙ c .if4 .left) in
     (s .pre .0, ((s .pre .1 .0 .inside, below), s .pre .1 .1))
 
@@ -39,9 +48,10 @@ labelled-of-spec =
     (tie.spec
     (λ c κs. search needs)
     (λ c κs. search needs)
+    (λ c κs. search needs)
     returns
     (λ c κs. search needs)
-    (λ c κs. search needs)
+    read-requires
     returns-2
     (λ c κs. search needs)
     returns-3

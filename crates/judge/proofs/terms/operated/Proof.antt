@@ -11,7 +11,7 @@ apply-number-requires c κs =
     rw (c .before .before .before .before .before .before .before .before .before .before .before .sort-in .ensures) (n-most-at 80000 (s .args .table .now) (s .pre .0) (s .args .x .p))
 
 returns : tie.Need-returns
-returns c = rw (c .before .settles .ensures, c .apply-number .ensures, c .before .before .before .before .before .before .before .before .before .before .before .op-of .ensures, c .before .before .before .before .before .before .before .before .before .before .before .before .sort-in .ensures)
+returns c = rw (c .is-choice .ensures, c .before .before .settles .ensures, c .before .apply-number .ensures, c .before .before .before .before .before .before .before .before .before .before .before .before .op-of .ensures, c .before .before .before .before .before .before .before .before .before .before .before .before .before .sort-in .ensures)
 
 pub operated-spec : {M : Type 1} → statement M
 operated-spec =
@@ -36,4 +36,5 @@ operated-spec =
     (λ c. search needs)
     (λ c κs. search needs)
     apply-number-requires
+    (λ c κs. search needs)
     returns)

@@ -1,107 +1,54 @@
 use Prim.Native.Nat.{ℕ, _+_, _-_, _≤_}
-use mathlib.Core.Path.{_≡_, refl, sym, ap, subst, _∙_}
-use mathlib.Core.Bool.{Bool, false, not, _&&_}
-use mathlib.Core.Logic.{⊎-elim}
-use mathlib.Core.List.{List}
+use mathlib.Core.Path.{_≡_, sym, ap, _∙_}
+use mathlib.Core.Bool.{Bool, cond}
 use native.Mathlib.Omega.{arith}
-use lib.Dec.{eqb}
 use lib.ListN.{length}
 use borrow.Author.Needs.{needs}
-use Rattle.table.specs.Faults.{isRead}
-use Rattle.table.specs.Folds.{firstFrom}
-use Rattle.evaluate.specs.Code.Turns.{onFrom}
-use Rattle.evaluate.proofs.Onward.{Going, set-out, go-on, stopped, passed}
-use Rattle.judge.specs.declared.reads.Labelled.{Labelled}
-use Rattle.sheets.specs.Code.Said.{marksBy}
-use Rattle.judge.specs.Code.Labelled.{entered, noted}
-use Rattle.judge.specs.Code.Turns.{turnHere}
-use Rattle.judge.proofs.Steps.{stopsAfter, step-next, step-room}
+use Rattle.table.proofs.Searches.{from}
+use Rattle.evaluate.specs.Code.Turns.{isReadAt, nextRead}
+use Rattle.judge.specs.Code.Turns.{turnHere, gathered}
 use Rattle.judge.proofs.terms.step.Statement.{statement}
 use Rattle.judge.proofs.terms.step.Tie as tie
 
-abbrev Inv-loop : tie.InvT-loop
-Inv-loop table said values count terms work₀ answer at i₀ work i = Going (stopsAfter table values terms at answer) (noted table (marksBy said) values terms answer) terms at work₀ i work × (length work ≡ length work₀)
-
-abbrev μ-loop : tie.MeasureT-loop
-μ-loop table said values count terms work₀ answer at i₀ work i = terms - i
-
-loop-holds : tie.Need-loop-holds Inv-loop μ-loop
-loop-holds c =
-    let s = c .before .before .before in
-    let a = s .args in
-    (set-out (stopsAfter (a .table .now) (a .values .now) (a .terms) (a .turn .at) (a .answer)) (noted (a .table .now) (marksBy (a .said .now)) (a .values .now) (a .terms) (a .answer)) (a .terms) (a .turn .at) (a .work .now) (omega (arith, s .pre .1 .1 .0)), refl)
-
--- the room is long enough
-enough : (c : tie.In-loop Inv-loop μ-loop) → c .before .before .before .before .before .args .terms + c .before .before .before .before .before .args .terms ≤ length (c .before .loop .work)
-enough c = omega (arith, c .before .loop .inv .1, c .before .before .before .before .before .pre .1 .1 .1)
-
-labelled-here-requires : tie.Need-labelled-here-requires Inv-loop μ-loop
-labelled-here-requires c κs =
-    let s = c .before .before .before .before .before .before .before .before .before in
-    let inside = c .before .before .before .before .loop-test .taken in
-    (s .pre .0, (s .pre .1 .0, (inside, omega (arith, enough (c .before .before .before .before), inside))))
-
-note-requires : tie.Need-note-requires Inv-loop μ-loop
-note-requires c κs = (c .before .before .before .before .before .before .loop-test .taken, enough (c .before .before .before .before .before .before))
-
-loop-less : tie.Need-loop-less Inv-loop μ-loop
-loop-less c = omega (arith, c .before .before .before .before .before .before .before .before .before .loop-test .taken)
-
-loop-again : tie.Need-loop-again Inv-loop μ-loop
-loop-again c =
-    let a = c .before .before .before .before .before .before .before .before .before .before .before .before .before .before .args in
-    let l = c .before .before .before .before .before .before .before .before .before .before .loop in
-    let plain : stopsAfter (a .table .now) (a .values .now) (a .terms) (a .turn .at) (a .answer) (l .i) ≡ false = sym (ap (λ (b : Bool). not (eqb (l .i) (a .turn .at)) && b) (c .before .before .before .before .before .before .before .is-read .ensures ∙ ap isRead (c .before .before .before .before .before .before .before .before .term-at .ensures))) ∙ c .before .before .before .before .before .before .if1 .left in
-    let wrote = c .before .before .note .ensures ∙ ap (λ (r : Labelled). entered r (a .terms) (l .work) (l .i)) (c .before .before .before .before .labelled-here .ensures) in (
-      subst (Going (stopsAfter (a .table .now) (a .values .now) (a .terms) (a .turn .at) (a .answer)) (noted (a .table .now) (marksBy (a .said .now)) (a .values .now) (a .terms) (a .answer)) (a .terms) (a .turn .at) (a .work .now) _) (sym wrote) (go-on (stopsAfter (a .table .now) (a .values .now) (a .terms) (a .turn .at) (a .answer)) (noted (a .table .now) (marksBy (a .said .now)) (a .values .now) (a .terms) (a .answer)) (a .terms) (a .turn .at) (a .work .now) (l .i) (l .work) (l .inv .0) (c .before .before .before .before .before .before .before .before .before .loop-test .taken) plain),
-      c .before .before .note .kept .0 ∙ l .inv .1,
-    )
-
--- where the loop was left: at a read, or past the last term
-arrives : (c : tie.Left-loop Inv-loop μ-loop) →
-    let a = c .before .before .before .before .before .args in
-    let l = c .before .loop in
-    (l .i ≡ firstFrom (stopsAfter (a .table .now) (a .values .now) (a .terms) (a .turn .at) (a .answer)) (a .terms - a .turn .at) (a .turn .at)) × (l .work ≡ onFrom (stopsAfter (a .table .now) (a .values .now) (a .terms) (a .turn .at) (a .answer)) (noted (a .table .now) (marksBy (a .said .now)) (a .values .now) (a .terms) (a .answer)) (a .terms - a .turn .at) (a .work .now) (a .turn .at))
-arrives c =
-    let a = c .before .before .before .before .before .args in
-    let l = c .before .loop in
-    ⊎-elim
-    (λ e. passed (stopsAfter (a .table .now) (a .values .now) (a .terms) (a .turn .at) (a .answer)) (noted (a .table .now) (marksBy (a .said .now)) (a .values .now) (a .terms) (a .answer)) (a .terms) (a .turn .at) (a .work .now) (l .i) (l .work) (l .inv .0) (e .left))
-    (λ e. stopped (stopsAfter (a .table .now) (a .values .now) (a .terms) (a .turn .at) (a .answer)) (noted (a .table .now) (marksBy (a .said .now)) (a .values .now) (a .terms) (a .answer)) (a .terms) (a .turn .at) (a .work .now) (l .i) (l .work) (l .inv .0) (e .0 .taken) (sym (ap (λ (b : Bool). not (eqb (l .i) (a .turn .at)) && b) (e .2 .ensures ∙ ap isRead (e .1 .ensures))) ∙ e .3 .taken))
-    (c .loop-test .came)
-
-turn-here-requires : tie.Need-turn-here-requires Inv-loop μ-loop
+turn-here-requires : tie.Need-turn-here-requires
 turn-here-requires c κs =
-    let s = c .before .before .before .before .before .before in
-    let l = c .before .before .loop in
-    (s .pre .0, (l .inv .0 .within, omega (arith, l .inv .1, l .inv .0 .within, s .pre .1 .1 .1)))
+    let s = c .before .before .before .before .before .before .before .before in
+    (s .pre .0, ((omega (arith, s .pre .1 .1 .0 .0), omega (arith, s .pre .1 .1 .0)), omega (arith, s .pre .1 .1 .1)))
 
-same-length : tie.Need-same-length Inv-loop μ-loop
-same-length c = c .before .before .before .loop .inv .1
+returns : tie.Need-returns
+returns c = let more = c .before .before .before .if1 .taken in (c .turn-here .ensures ∙ rw more, rw more)
 
-returns : tie.Need-returns Inv-loop μ-loop
-returns c =
-    let s = c .before .before .before .before .before .before .before in
+-- the next read is one of the terms, or past the last
+turn-here-requires-2 : tie.Need-turn-here-requires-2
+turn-here-requires-2 c κs =
+    let s = c .before .before .before .before .before .before .before .before .before .before .before .before in
     let a = s .args in
-    let there = arrives (c .before .before) in (
-      c .turn-here .ensures ∙ ap (turnHere (a .table .now) (a .values .now) (a .count) (a .terms) (c .before .before .before .loop .work)) (there .0 ∙ step-next (a .table .now) (a .values .now) (a .terms) (a .turn .at) (a .answer) (s .pre .1 .1 .0)),
-      there .1 ∙ step-room (a .table .now) (a .values .now) (a .terms) (a .turn .at) (a .answer) (marksBy (a .said .now)) (a .work .now) (s .pre .1 .1 .0),
-    )
+    let next = c .before .before .before .run .ensures .0 in
+    let kept : length (c .before .before .before .run .last .1 .1 .1 .1 .0) ≡ length (a .work .now) = c .before .before .before .run .kept .1 .1 .1 .1 .0 in
+    let high = from (isReadAt (a .table .now)) (a .terms - (a .turn .at + 1)) (a .turn .at + 1) .high in
+    (s .pre .0, ((omega (arith, next, high, s .pre .1 .1 .0 .0), omega (arith, next, high, s .pre .1 .1 .0, kept)), omega arith))
+
+returns-2 : tie.Need-returns-2
+returns-2 c =
+    let s = c .before .before .before .before .before .before .before .before .before .before .before .before .before in
+    let a = s .args in
+    let none = c .before .before .before .before .before .before .before .if1 .left in
+    let run = c .before .before .before .before .run in
+    (c .turn-here2 .ensures ∙ ap (λ (i : ℕ). turnHere (a .table .now) (a .values .now) (a .count) (a .terms) (run .last .1 .1 .1 .1 .0) (gathered (a .turn) (a .answer)) i 0) (run .ensures .0) ∙ rw none, run .ensures .1 ∙ rw none)
 
 pub step-spec : {M : Type 1} → statement M
 step-spec =
     tie.close
     (tie.spec
-    Inv-loop
-    μ-loop
-    loop-holds
-    (λ c κs. search needs)
-    (λ c κs. search needs)
-    labelled-here-requires
-    note-requires
     (λ c. search needs)
-    loop-less
-    loop-again
+    (λ c. search needs)
+    (λ c. search needs)
+    (λ c. search needs)
     turn-here-requires
-    same-length
-    returns)
+    (λ c. search needs)
+    returns
+    (λ c. search needs)
+    (λ c κs. search needs)
+    turn-here-requires-2
+    (λ c. search needs)
+    returns-2)

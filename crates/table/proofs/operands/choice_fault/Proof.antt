@@ -30,7 +30,7 @@ sort-in-requires-3 : tie.Need-sort-in-requires-3
 sort-in-requires-3 c κs = in-table (c .before .before .before) .2
 
 returns-2 : tie.Need-returns-2
-returns-2 c = rw (c .refuse-unless .ensures, c .before .same-sort2 .ensures, c .before .before .same-sort .ensures, c .before .before .before .boolean .ensures, c .before .before .before .before .scalar .ensures, c .before .before .before .before .before .sort-in3 .ensures, c .before .before .before .before .before .before .sort-in2 .ensures, c .before .before .before .before .before .before .before .sort-in .ensures, in-place (c .before .before .before .before .before .before .before .before .before))
+returns-2 c = rw (c .refuse-unless .ensures, c .before .same-sort2 .ensures, c .before .before .same-sort .ensures, c .before .before .before .boolean .ensures, c .before .before .before .before .sort-in3 .ensures, c .before .before .before .before .before .sort-in2 .ensures, c .before .before .before .before .before .before .sort-in .ensures, in-place (c .before .before .before .before .before .before .before .before))
 
 pub choice-fault-spec : {M : Type 1} → statement M
 choice-fault-spec =
@@ -41,7 +41,6 @@ choice-fault-spec =
     sort-in-requires
     sort-in-requires-2
     sort-in-requires-3
-    (λ c κs. search needs)
     (λ c κs. search needs)
     (λ c κs. search needs)
     (λ c κs. search needs)

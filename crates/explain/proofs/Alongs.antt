@@ -1,21 +1,24 @@
--- What a read comes from along its chain, and one of it, as each way of the code has found it.
+-- What a read comes from along its array, and one of it, as each way of the code has found it.
 -- Assumes nothing.
 use mathlib.Core.Path.{_≡_, refl, sym, ap, ap₂, _∙_}
-use mathlib.Core.Bool.{Bool, true, false, cond, not, _&&_}
+use mathlib.Core.Bool.{Bool, true, false, cond, not, _&&_, _||_}
+use mathlib.Core.Logic.{⊎-elim}
 use mathlib.Core.List.{List, [], _∷_}
 use Prim.Native.Nat.{ℕ, zero, suc, _-_, _<_}
 use native.Mathlib.Omega.{arith}
 use lib.Dec.{eqb, ltb}
 use lib.ListN.{getD}
 use borrow.Author.Tests.{ltb-true, eqb-true, lt-ltb}
-use Rattle.ops.proofs.Booleans.{never, and-parts}
+use Rattle.ops.specs.Meaning.{holds}
+use Rattle.ops.proofs.Booleans.{never, and-parts, or-parts, or-open}
 use Rattle.table.specs.declared.words.Term.{Term}
 use Rattle.table.specs.Terms.{termAt}
-use Rattle.table.specs.Faults.{rank, isStore}
+use Rattle.table.specs.Faults.{rank, isStore, isChoice}
+use Rattle.table.proofs.Stacks.{choice-no-store}
 use Rattle.explain.specs.declared.answers.Shape.{Shape}
 use Rattle.explain.specs.declared.answers.Source.{Source}
-use Rattle.explain.specs.declared.answers.Source.the-variants.{Nothing, Index, Stored, Array}
-use Rattle.explain.specs.Sources.{stacked, past, here, alongWithin, along, shapeOf, supportBy, support}
+use Rattle.explain.specs.declared.answers.Source.the-variants.{Nothing, Array}
+use Rattle.explain.specs.Sources.{stacked, branched, past, picked, goes, next, index, stored, test, here, passing, alongWithin, along, shapeOf, supportBy, support}
 use Rattle.explain.proofs.Walks.{walk-stopped, walk-on}
 
 -- Number i of a list
@@ -38,106 +41,156 @@ pub supported : (w values : List ℕ) (x : Term) (h : Shape) (i : ℕ) → shape
 unfolding support
 supported w values x h i e = sym (ap (λ (y : Shape). getD (supportBy w values x y) i Nothing) e)
 
--- At one term of the chain
+-- At one term of the array
 module _ (w values : List ℕ) (a j i : ℕ) (x : Term) (is : x ≡ termAt w a) where
   abbrev hit : Term → Bool
   hit y = eqb (getD values (y .q) 0) j
 
-  abbrev list : Bool → Bool → Term → List Source
-  list s h y =
-      cond s (Index (record { store = a; term = y .q }) ∷ cond h (Stored (record { store = a; term = y .r }) ∷ []) [])
-      (Array a ∷ [])
+  abbrev list : Bool → Bool → Bool → Term → List Source
+  list s h b y = cond s (index y a ∷ cond h (stored y a ∷ []) []) (cond b (test y a ∷ []) (Array a ∷ []))
 
-  at-term : (s h : Bool) → stacked x a ≡ s → hit x ≡ h → getD (list s h x) i Nothing ≡ getD (here w values a j) i Nothing
-  at-term s h e g =
-      sym (λ k. getD (list (e k) (g k) x) i Nothing)
-      ∙ ap (λ (y : Term). getD (list (stacked y a) (hit y) y) i Nothing) is
+  at-term : (s h b : Bool) → stacked x a ≡ s → hit x ≡ h → branched x a ≡ b → getD (list s h b x) i Nothing ≡ getD (here w values a j) i Nothing
+  at-term s h b e g k =
+      sym (λ z. getD (list (e z) (g z) (k z) x) i Nothing)
+      ∙ ap (λ (y : Term). getD (list (stacked y a) (hit y) (branched y a) y) i Nothing) is
 
-  pub here-index : stacked x a ≡ true → i ≡ 0 → Index (record { store = a; term = x .q }) ≡ getD (here w values a j) i Nothing
-  here-index e z = nth-first (Index (record { store = a; term = x .q })) (cond (hit x) (Stored (record { store = a; term = x .r }) ∷ []) []) Nothing i z ∙ at-term true (hit x) e refl
+  pub here-stored : (stacked x a && (eqb i 1 && hit x)) ≡ true → stored x a ≡ getD (here w values a j) i Nothing
+  here-stored g =
+      let parts = and-parts (stacked x a) (eqb i 1 && hit x) g in
+      let more = and-parts (eqb i 1) (hit x) (parts .1) in
+      let one : i ≡ 1 = eqb-true i 1 (more .0) in
+      sym (ap (λ (k : ℕ). getD (list true true (branched x a) x) k Nothing) one)
+      ∙ at-term true true (branched x a) (parts .0) (more .1) refl
 
-  pub here-stored : stacked x a ≡ true → (eqb i 1 && hit x) ≡ true → Stored (record { store = a; term = x .r }) ≡ getD (here w values a j) i Nothing
-  here-stored e g =
-      let parts = and-parts (eqb i 1) (hit x) g in
-      let one : i ≡ 1 = eqb-true i 1 (parts .0) in
-      sym (ap (λ (k : ℕ). getD (list true true x) k Nothing) one)
-      ∙ at-term true true e (parts .1)
-
-  pub here-no-more : stacked x a ≡ true → (i ≡ 0 → ⊥) → (eqb i 1 && hit x) ≡ false → Nothing ≡ getD (here w values a j) i Nothing
-  here-no-more e z g = go i z (hit x) refl g ∙ at-term true (hit x) e refl
+  pub here-no-more : (stacked x a && (eqb i 1 && hit x)) ≡ false → (i ≡ 0 → ⊥) → Nothing ≡ getD (here w values a j) i Nothing
+  here-no-more g z = go i z (stacked x a) (hit x) (branched x a) g ∙ at-term (stacked x a) (hit x) (branched x a) refl refl refl
     where
-      go : (k : ℕ) → (k ≡ 0 → ⊥) → (h : Bool) → hit x ≡ h → (eqb k 1 && hit x) ≡ false → Nothing ≡ getD (list true (hit x) x) k Nothing
-      go zero n h eh f = absurd (n refl)
-      go (suc zero) n h eh f = ap (λ (b : Bool). getD (cond b (Stored (record { store = a; term = x .r }) ∷ []) []) 0 Nothing) (sym f)
-      go (suc (suc k)) n true eh f = ap (λ (b : Bool). getD (cond b (Stored (record { store = a; term = x .r }) ∷ []) []) (suc k) Nothing) (sym eh)
-      go (suc (suc k)) n false eh f = ap (λ (b : Bool). getD (cond b (Stored (record { store = a; term = x .r }) ∷ []) []) (suc k) Nothing) (sym eh)
+      go : (k : ℕ) → (k ≡ 0 → ⊥) → (s h b : Bool) → (s && (eqb k 1 && h)) ≡ false → Nothing ≡ getD (list s h b x) k Nothing
+      go zero n s h b f = absurd (n refl)
+      go (suc zero) n true true b f = never (sym f)
+      go (suc (suc k)) n true true b f = refl
+      go (suc k) n true false b f = refl
+      go (suc k) n false h true f = refl
+      go (suc k) n false h false f = refl
 
-  pub here-array : stacked x a ≡ false → i ≡ 0 → Array a ≡ getD (here w values a j) i Nothing
-  here-array e z = nth-first (Array a) [] Nothing i z ∙ at-term false (hit x) e refl
+  -- the first
+  module _ (z : i ≡ 0) where
+    first-of : (s h b : Bool) → stacked x a ≡ s → hit x ≡ h → branched x a ≡ b → getD (list s h b x) 0 Nothing ≡ getD (here w values a j) i Nothing
+    first-of s h b e g k = sym (ap (λ (n : ℕ). getD (list s h b x) n Nothing) z) ∙ at-term s h b e g k
 
-  pub here-alone : stacked x a ≡ false → (i ≡ 0 → ⊥) → Nothing ≡ getD (here w values a j) i Nothing
-  here-alone e z = nth-none (Array a) Nothing i z ∙ at-term false (hit x) e refl
+    pub here-index : stacked x a ≡ true → index x a ≡ getD (here w values a j) i Nothing
+    here-index e = first-of true (hit x) (branched x a) e refl refl
 
--- Along the chain
+    pub here-test : stacked x a ≡ false → branched x a ≡ true → test x a ≡ getD (here w values a j) i Nothing
+    here-test e g = first-of false (hit x) true e refl g
+
+    pub here-array : stacked x a ≡ false → branched x a ≡ false → Array a ≡ getD (here w values a j) i Nothing
+    here-array e g = first-of false (hit x) false e refl g
+
+-- Of the branch that is picked holds what holds of both, and what is made of both is made of it
+pub of-picked : (P : ℕ → Type 0) (z : Bool) {q r : ℕ} → P q → P r → P (cond z q r)
+of-picked P true hq hr = hq
+of-picked P false hq hr = hr
+
+pub picked-as : {A : Type 0} (f : ℕ → A) (z : Bool) (q r : ℕ) → cond z (f q) (f r) ≡ f (cond z q r)
+picked-as f true q r = refl
+picked-as f false q r = refl
+
+-- A store stands on an earlier term; a choice between arrays is no store, and stands on two
+pub stacked-parts : (x : Term) (a : ℕ) → stacked x a ≡ true → (isStore x ≡ true) × (x .p < a)
+stacked-parts x a e = let parts = and-parts (isStore x) (ltb (x .p) a) e in (parts .0, ltb-true (x .p) a (parts .1))
+
+pub branched-parts : (x : Term) (a : ℕ) → branched x a ≡ true → (isStore x ≡ false) × (x .q < a) × (x .r < a)
+branched-parts x a e =
+    let parts = and-parts (isChoice x && ltb (x .q) a) (ltb (x .r) a) e in
+    let more = and-parts (isChoice x) (ltb (x .q) a) (parts .0) in
+    (choice-no-store x (more .0), ltb-true (x .q) a (more .1), ltb-true (x .r) a (parts .1))
+
+pub store-unbranched : (x : Term) (a : ℕ) → isStore x ≡ true → branched x a ≡ false
+store-unbranched x a e = go (isChoice x) refl
+  where
+    go : (c : Bool) → isChoice x ≡ c → (c && ltb (x .q) a && ltb (x .r) a) ≡ false
+    go true h = never (sym (choice-no-store x h) ∙ e)
+    go false h = refl
+
+-- Along the array
 module _ (w values : List ℕ) (j : ℕ) where
-  abbrev index : ℕ → Source
-  index a = Index (record { store = a; term = termAt w a .q })
+  -- where to, at a store and at a choice
+  pub next-store : (a : ℕ) → isStore (termAt w a) ≡ true → next w values a ≡ termAt w a .p
+  next-store a e = rw e
 
-  within : (left a : ℕ) → alongWithin (suc left) w values a j ≡ cond (past w values a j) (index a ∷ alongWithin left w values (termAt w a .p) j) (here w values a j)
+  pub next-choice : (a : ℕ) → isStore (termAt w a) ≡ false → next w values a ≡ picked values (termAt w a)
+  next-choice a e = rw e
+
+  -- an earlier term
+  pub store-earlier : (a : ℕ) → stacked (termAt w a) a ≡ true → next w values a < a
+  store-earlier a e = let s = stacked-parts (termAt w a) a e in let n = next-store a (s .0) in let b = s .1 in omega arith
+
+  pub choice-earlier : (a : ℕ) → branched (termAt w a) a ≡ true → next w values a < a
+  choice-earlier a e =
+      let s = branched-parts (termAt w a) a e in
+      let n = next-choice a (s .0) in
+      let b = of-picked (λ i. i < a) (holds (getD values (termAt w a .p) 0)) (s .1) (s .2) in
+      omega arith
+
+  past-stacked : (a : ℕ) → past w values a j ≡ true → stacked (termAt w a) a ≡ true
+  past-stacked a e = and-parts (stacked (termAt w a) a) (not (eqb (getD values (termAt w a .q) 0) j)) e .0
+
+  goes-below : (a : ℕ) → goes w values a j ≡ true → next w values a < a
+  goes-below a e = ⊎-elim (λ p. store-earlier a (past-stacked a p)) (choice-earlier a) (or-parts (past w values a j) (branched (termAt w a) a) e)
+
+  within : (left a : ℕ) → alongWithin (suc left) w values a j ≡ cond (goes w values a j) (passing (termAt w a) a ∷ alongWithin left w values (next w values a) j) (here w values a j)
   unfolding alongWithin
   within left a = refl
 
-  pub past-stacked : (a : ℕ) → past w values a j ≡ true → stacked (termAt w a) a ≡ true
-  past-stacked a e = and-parts (stacked (termAt w a) a) (not (eqb (getD values (termAt w a .q) 0) j)) e .0
+  along-stopped : (a : ℕ) → goes w values a j ≡ false → here w values a j ≡ along w values a j
+  along-stopped =
+      walk-stopped (λ a. goes w values a j) (next w values) goes-below (λ left a. alongWithin left w values a j) (λ a l. passing (termAt w a) a ∷ l) (λ a. here w values a j) within
 
-  pub stacked-below : (a : ℕ) → stacked (termAt w a) a ≡ true → termAt w a .p < a
-  stacked-below a e = let x = termAt w a in ltb-true (x .p) a (and-parts (isStore x) (ltb (x .p) a) e .1)
+  along-on : (a : ℕ) → goes w values a j ≡ true → passing (termAt w a) a ∷ along w values (next w values a) j ≡ along w values a j
+  along-on = walk-on (λ a. goes w values a j) (next w values) goes-below (λ left a. alongWithin left w values a j) (λ a l. passing (termAt w a) a ∷ l) (λ a. here w values a j) within
 
-  past-below : (a : ℕ) → past w values a j ≡ true → termAt w a .p < a
-  past-below a e = stacked-below a (past-stacked a e)
-
-  pub along-stopped : (a : ℕ) → past w values a j ≡ false → here w values a j ≡ along w values a j
-  along-stopped = walk-stopped w (λ a. past w values a j) past-below (λ left a. alongWithin left w values a j) (λ a l. index a ∷ l) (λ a. here w values a j) within
-
-  pub along-past : (a : ℕ) → past w values a j ≡ true → index a ∷ along w values (termAt w a .p) j ≡ along w values a j
-  along-past = walk-on w (λ a. past w values a j) past-below (λ left a. alongWithin left w values a j) (λ a l. index a ∷ l) (λ a. here w values a j) within
-
-  -- at a term that is no store; at a store, whose index is the read's or another
+  -- at a variable; at a store, whose index is the read's or another; at a choice
   module _ (a : ℕ) where
     abbrev x : Term
     x = termAt w a
 
-    abbrev at-end : Bool → Bool → List Source
-    at-end s h = cond s (index a ∷ cond h (Stored (record { store = a; term = x .r }) ∷ []) []) (Array a ∷ [])
+    pub along-end : isStore x ≡ false → isChoice x ≡ false → along w values a j ≡ Array a ∷ []
+    along-end e g = sym (along-stopped a (rw (e, g))) ∙ rw (e, g)
 
-    pub along-end : isStore x ≡ false → along w values a j ≡ Array a ∷ []
-    along-end e =
-        sym (along-stopped a (ap (λ (s : Bool). (s && ltb (x .p) a) && not (eqb (getD values (x .q) 0) j)) e))
-        ∙ ap (λ (s : Bool). at-end (s && ltb (x .p) a) (eqb (getD values (x .q) 0) j)) e
+    pub along-hit : stacked x a ≡ true → eqb (getD values (x .q) 0) j ≡ true → along w values a j ≡ index x a ∷ stored x a ∷ []
+    along-hit e h = sym (along-stopped a (rw (e, h, store-unbranched x a (stacked-parts x a e .0)))) ∙ rw (e, h)
 
-    pub along-hit : stacked x a ≡ true → eqb (getD values (x .q) 0) j ≡ true → along w values a j ≡ index a ∷ Stored (record { store = a; term = x .r }) ∷ []
-    along-hit e h = sym (along-stopped a (ap₂ (λ s b. s && not b) e h)) ∙ ap₂ at-end e h
+    pub along-miss : stacked x a ≡ true → eqb (getD values (x .q) 0) j ≡ false → along w values a j ≡ index x a ∷ along w values (x .p) j
+    along-miss e h =
+        let s = stacked-parts x a e .0 in
+        sym (along-on a (rw (e, h))) ∙ rw s
 
-    pub along-miss : stacked x a ≡ true → eqb (getD values (x .q) 0) j ≡ false → along w values a j ≡ index a ∷ along w values (x .p) j
-    along-miss e h = sym (along-past a (ap₂ (λ s b. s && not b) e h))
+    pub along-branch : branched x a ≡ true → along w values a j ≡ test x a ∷ along w values (picked values x) j
+    along-branch e =
+        let s = branched-parts x a e .0 in
+        sym (along-on a (ap (λ (b : Bool). past w values a j || b) e ∙ or-open (past w values a j))) ∙ rw s
 
   -- number left of it, as the walk goes on and where it stops
-  pub onward : (a left : ℕ) → (ltb 0 left && past w values a j) ≡ true → getD (along w values (termAt w a .p) j) (left - 1) Nothing ≡ getD (along w values a j) left Nothing
+  pub onward : (a left : ℕ) → (ltb 0 left && goes w values a j) ≡ true → getD (along w values (next w values a) j) (left - 1) Nothing ≡ getD (along w values a j) left Nothing
   onward a left e =
-      let parts = and-parts (ltb 0 left) (past w values a j) e in
+      let parts = and-parts (ltb 0 left) (goes w values a j) e in
       let some : 0 < left = ltb-true 0 left (parts .0) in
-      nth-rest (index a) (along w values (termAt w a .p) j) Nothing left (λ z. omega arith)
-      ∙ ap (λ (l : List Source). getD l left Nothing) (along-past a (parts .1))
+      nth-rest (passing (termAt w a) a) (along w values (next w values a) j) Nothing left (λ z. omega arith)
+      ∙ ap (λ (l : List Source). getD l left Nothing) (along-on a (parts .1))
 
-  pub stopped : (a left : ℕ) → (ltb 0 left && past w values a j) ≡ false → getD (here w values a j) left Nothing ≡ getD (along w values a j) left Nothing
-  stopped a left = go left (past w values a j) refl
+  pub stopped : (a left : ℕ) → (ltb 0 left && goes w values a j) ≡ false → getD (here w values a j) left Nothing ≡ getD (along w values a j) left Nothing
+  stopped a left = go left (goes w values a j) refl
     where
-      first : (s : Bool) → stacked (termAt w a) a ≡ s → s ≡ true → getD (here w values a j) 0 Nothing ≡ index a
-      first true e t = ap (λ (b : Bool). getD (cond b (index a ∷ cond (eqb (getD values (termAt w a .q) 0) j) (Stored (record { store = a; term = termAt w a .r }) ∷ []) []) (Array a ∷ [])) 0 Nothing) e
-      first false e t = never t
+      -- where it goes on, what it comes from here begins with that which it passes
+      first : goes w values a j ≡ true → getD (here w values a j) 0 Nothing ≡ passing (termAt w a) a
+      first e =
+          ⊎-elim
+          (λ p. let s = past-stacked a p in rw (s, stacked-parts (termAt w a) a s .0))
+          (λ b. rw (branched-parts (termAt w a) a b .0, b))
+          (or-parts (past w values a j) (branched (termAt w a) a) e)
 
-      go : (left : ℕ) (p : Bool) → past w values a j ≡ p → (ltb 0 left && past w values a j) ≡ false → getD (here w values a j) left Nothing ≡ getD (along w values a j) left Nothing
+      go : (left : ℕ) (p : Bool) → goes w values a j ≡ p → (ltb 0 left && goes w values a j) ≡ false → getD (here w values a j) left Nothing ≡ getD (along w values a j) left Nothing
       go left false e h = ap (λ (l : List Source). getD l left Nothing) (along-stopped a e)
-      go zero true e h =
-          first (stacked (termAt w a) a) refl (past-stacked a e) ∙ ap (λ (l : List Source). getD l 0 Nothing) (along-past a e)
+      go zero true e h = first e ∙ ap (λ (l : List Source). getD l 0 Nothing) (along-on a e)
       go (suc left) true e h = never (sym h ∙ ap₂ _&&_ (lt-ltb 0 (suc left) (omega arith)) e)

@@ -1,5 +1,5 @@
--- Of a well-formed table, by the values and truths of an interpretation: a term that is not free, and no store, is a
--- marked variable or blames a term beneath it. So the way is whole, and ends at marked variables.
+-- Of a well-formed table, by the values and truths of an interpretation: a term that is not free, no store and no choice
+-- between arrays, is a marked variable or blames a term beneath it. So the way is whole, and ends at marked variables.
 -- Assumes nothing.
 use mathlib.Core.Path.{_≡_, refl, sym, ap, ap₂, _∙_}
 use mathlib.Core.Bool.{Bool, true, false, not, _&&_}
@@ -15,7 +15,7 @@ use Rattle.ops.proofs.Booleans.{never, and-parts}
 use Rattle.table.specs.declared.words.Term.{Term}
 use Rattle.table.specs.Terms.{terms, termAt, sortAt}
 use Rattle.table.specs.Ranks.{slotted}
-use Rattle.table.specs.Faults.{isVariable, isStore}
+use Rattle.table.specs.Faults.{isVariable, isStore, isChoice}
 use Rattle.table.specs.WellFormed.{WellFormed}
 use Rattle.table.proofs.OperandSorts.{boolean-scalar}
 use Rattle.setting.specs.Interpretation.{Interpretation}
@@ -28,7 +28,7 @@ use Rattle.explain.specs.Sources.{support, names, blames}
 use Rattle.explain.specs.Ways.{onWay, wayOf}
 use Rattle.explain.specs.Laws.{GoesOn, WayGoesOn, WayIsWhole}
 use Rattle.explain.proofs.Names.{Each, every-or-one}
-use Rattle.explain.proofs.Supports.{plain-at, Made, literal, input, function, choice, read, store, made, lower-support, input-free, support-suffices}
+use Rattle.explain.proofs.Supports.{scalar-flat, plain-at, unpicked-at, Made, literal, input, function, choice, read, store, fork, made, lower-support, input-free, support-suffices}
 use Rattle.explain.proofs.Descents.{all-way, whole}
 
 module _ (limit : ℕ) (w : List ℕ) (marked : Term → Bool) (I : Interpretation) (f : WellFormed limit w) where
@@ -41,22 +41,23 @@ module _ (limit : ℕ) (w : List ℕ) (marked : Term → Bool) (I : Interpretati
   pub truth-at : (i : ℕ) → i < terms w → truthIn ts i ≡ conditionAt w marked I i .free
   truth-at i b = truth-in w marked I (terms w) i ∙ ap (λ (c : Condition). c .free) (condition-below w marked I (terms w) i b)
 
-  -- a term that is not free, and no store
+  -- a term that is not free, no store and no choice between arrays
   pub record Way (k : ℕ) : Type 0 where
     pub inside : k < terms w
     pub plain : isStore (termAt w k) ≡ false
+    pub unpicked : isChoice (termAt w k) ≡ false
     pub unfree : truthIn ts k ≡ false
 
   pub onto : (k i : ℕ) → Way k → blames w vs ts k i ≡ true → Way i
   onto k i y h =
       let parts = and-parts (names (support w vs (termAt w k)) i) (not (truthIn ts i)) h in
-      let low = lower-support limit w I f k (y .inside) i (parts .0) in
+      let low = lower-support limit w I f k (y .inside) (y .unpicked) i (parts .0) in
       let b = low .below in
       let c = y .inside in
-      record { inside = omega arith; plain = low .no-store; unfree = not-true (truthIn ts i) (parts .1) }
+      record { inside = omega arith; plain = low .no-store; unpicked = low .no-choice; unfree = not-true (truthIn ts i) (parts .1) }
 
   pub down : (k i : ℕ) → Way k → blames w vs ts k i ≡ true → i < k
-  down k i y h = lower-support limit w I f k (y .inside) i (and-parts (names (support w vs (termAt w k)) i) (not (truthIn ts i)) h .0) .below
+  down k i y h = lower-support limit w I f k (y .inside) (y .unpicked) i (and-parts (names (support w vs (termAt w k)) i) (not (truthIn ts i)) h .0) .below
 
   module _ (k : ℕ) (y : Way k) where
     abbrev All : Type 0
@@ -66,8 +67,8 @@ module _ (limit : ℕ) (w : List ℕ) (marked : Term → Bool) (I : Interpretati
     never-free unmarked all =
         never (sym (y .unfree)
         ∙ truth-at k (y .inside)
-        ∙ support-suffices limit w marked I f k (y .inside) (y .plain) unmarked
-        (λ i h. let b = lower-support limit w I f k (y .inside) i h .below in let c = y .inside in sym (truth-at i (omega arith)) ∙ all i h))
+        ∙ support-suffices limit w marked I f k (y .inside) (y .plain) (y .unpicked) unmarked
+        (λ i h. let b = lower-support limit w I f k (y .inside) (y .unpicked) i h .below in let c = y .inside in sym (truth-at i (omega arith)) ∙ all i h))
 
     -- where its support is all free, it is a marked variable
     caught : All → (v m : Bool) → isVariable (termAt w k) ≡ v → marked (termAt w k) ≡ m → (isVariable (termAt w k) ≡ true) × (marked (termAt w k) ≡ true)
@@ -81,7 +82,7 @@ module _ (limit : ℕ) (w : List ℕ) (marked : Term → Bool) (I : Interpretati
           on =
               ⊎-elim (λ all. inl (caught all (isVariable (termAt w k)) (marked (termAt w k)) refl refl)) (λ u. inr (record { term = u .term; is = ap₂ _&&_ (u .named) (ap not (u .fails)) }))
               (every-or-one (truthIn ts) (support w vs (termAt w k)));
-          beneath = λ i h. let z = onto k i y h in record { below = down k i y h; no-store = z .plain; unfree = z .unfree };
+          beneath = λ i h. let z = onto k i y h in record { below = down k i y h; no-store = z .plain; no-choice = z .unpicked; unfree = z .unfree };
         }
 
   -- a variable among them is marked
@@ -95,14 +96,21 @@ module _ (limit : ℕ) (w : List ℕ) (marked : Term → Bool) (I : Interpretati
       go (literal e) = other Constant e refl
       go (input e) = not-false (marked (termAt w k)) (sym (input-free limit w I f marked k (y .inside) e) ∙ sym (truth-at k (y .inside)) ∙ y .unfree)
       go (function g e o) = other (Apply g) e refl
-      go (choice e l p q r) = other Ite e refl
+      go (choice e flat l p q r) = other Ite e refl
       go (read e l pb ps q) = other Select e refl
       go (store s) = other Store (s .is) refl
+      go (fork c) = other Ite (c .is) refl
 
   pub rule-way : 0 < terms w → truthIn ts (pred (terms w)) ≡ false → Way (pred (terms w))
   rule-way b u =
       let last : pred (terms w) < terms w = omega arith in
-      record { inside = last; plain = plain-at limit w I f (pred (terms w)) last (boolean-scalar (sortAt w (pred (terms w))) (f .rule)); unfree = u }
+      let flat = boolean-scalar (sortAt w (pred (terms w))) (f .rule) in
+      record {
+        inside = last;
+        plain = plain-at limit w I f (pred (terms w)) last flat;
+        unpicked = unpicked-at limit w I f (pred (terms w)) (scalar-flat (sortAt w (pred (terms w))) flat);
+        unfree = u;
+      }
 
   pub on-way : (k : ℕ) → onWay (wayOf w vs ts (terms w)) k ≡ true → Way k
   on-way = all-way w vs ts Way onto (terms w) rule-way

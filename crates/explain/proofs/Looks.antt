@@ -14,13 +14,13 @@ use lib.Seq.{drop-cons}
 use Rattle.ops.proofs.Booleans.{never}
 use Rattle.table.specs.declared.words.Term.{Term}
 use Rattle.table.specs.Terms.{termAt}
-use Rattle.table.specs.Faults.{rank}
+use Rattle.table.specs.Faults.{rank, isStore}
 use Rattle.judge.specs.Code.Labelled.{truthIn}
 use Rattle.explain.specs.declared.answers.Shape.{Shape}
 use Rattle.explain.specs.declared.answers.Shape.the-variants.{Leaf, Unary, Binary, Branches, Cell}
 use Rattle.explain.specs.declared.answers.Source.{Source}
-use Rattle.explain.specs.declared.answers.Source.the-variants.{Nothing, Operand, Index, Stored, Array}
-use Rattle.explain.specs.Sources.{termOf, there, stacked, past, here, alongWithin, shapeOf, supportBy, support}
+use Rattle.explain.specs.declared.answers.Source.the-variants.{Nothing, Operand, Array}
+use Rattle.explain.specs.Sources.{termOf, there, stacked, branched, goes, next, index, stored, test, here, passing, alongWithin, shapeOf, supportBy, support}
 use Rattle.explain.specs.Ways.{marked, onWay, blamed, lookedAt}
 use Rattle.explain.proofs.Rows.{length-marked}
 
@@ -45,21 +45,26 @@ short-more n m l b h = record { all = h .all; few = let few = h .few in omega ar
 
 module _ (w values : List ℕ) (j : ℕ) where
   short-here : (a : ℕ) → Short 2 (here w values a j)
-  short-here a = go (stacked (termAt w a) a) (eqb (getD values (termAt w a .q) 0) j)
+  short-here a = go (stacked (termAt w a) a) (eqb (getD values (termAt w a .q) 0) j) (branched (termAt w a) a)
     where
-      go : (s h : Bool) → Short 2 (cond s (Index (record { store = a; term = termAt w a .q }) ∷ cond h (Stored (record { store = a; term = termAt w a .r }) ∷ []) []) (Array a ∷ []))
-      go true true = short-cons 1 (Index (record { store = a; term = termAt w a .q })) _ refl (short-cons 0 (Stored (record { store = a; term = termAt w a .r })) [] refl short-none)
-      go true false = short-more 1 2 _ (omega arith) (short-cons 0 (Index (record { store = a; term = termAt w a .q })) [] refl short-none)
-      go false h = short-more 1 2 _ (omega arith) (short-cons 0 (Array a) [] refl short-none)
+      go : (s h b : Bool) → let x = termAt w a in Short 2 (cond s (index x a ∷ cond h (stored x a ∷ []) []) (cond b (test x a ∷ []) (Array a ∷ [])))
+      go true true b = short-cons 1 (index (termAt w a) a) _ refl (short-cons 0 (stored (termAt w a) a) [] refl short-none)
+      go true false b = short-more 1 2 _ (omega arith) (short-cons 0 (index (termAt w a) a) [] refl short-none)
+      go false h true = short-more 1 2 _ (omega arith) (short-cons 0 (test (termAt w a) a) [] refl short-none)
+      go false h false = short-more 1 2 _ (omega arith) (short-cons 0 (Array a) [] refl short-none)
 
   short-along : (left a : ℕ) → Short (left + 2) (alongWithin left w values a j)
   unfolding alongWithin
   short-along zero a = short-here a
-  short-along (suc left) a = go (past w values a j) (short-along left (termAt w a .p))
+  short-along (suc left) a = go (goes w values a j) (short-along left (next w values a))
     where
-      go : (z : Bool) → Short (left + 2) (alongWithin left w values (termAt w a .p) j)
-          → Short (suc left + 2) (cond z (Index (record { store = a; term = termAt w a .q }) ∷ alongWithin left w values (termAt w a .p) j) (here w values a j))
-      go true h = short-more (suc (left + 2)) (suc left + 2) _ (omega arith) (short-cons (left + 2) (Index (record { store = a; term = termAt w a .q })) _ refl h)
+      is-there : (s : Bool) → there (cond s (index (termAt w a) a) (test (termAt w a) a)) ≡ true
+      is-there true = refl
+      is-there false = refl
+
+      go : (z : Bool) → Short (left + 2) (alongWithin left w values (next w values a) j)
+          → Short (suc left + 2) (cond z (passing (termAt w a) a ∷ alongWithin left w values (next w values a) j) (here w values a j))
+      go true h = short-more (suc (left + 2)) (suc left + 2) _ (omega arith) (short-cons (left + 2) (passing (termAt w a) a) _ (is-there (isStore (termAt w a))) h)
       go false h = short-more 2 (suc left + 2) _ (omega arith) (short-here a)
 
 short-support : (w values : List ℕ) (x : Term) → Short (x .p + 4) (support w values x)

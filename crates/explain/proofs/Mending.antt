@@ -74,9 +74,9 @@ module _ (w : List ℕ) (marked : Term → Bool) (I : Interpretation) (f : WellF
   mended (suc m) k n o =
       let y = on-way 512 w marked I f k o in
       let b = y .inside in
-      support-suffices 512 w left I f k b (y .plain) (unmarked k b o)
+      support-suffices 512 w left I f k b (y .plain) (y .unpicked) (unmarked k b o)
       (λ i h.
-      let low = lower-support 512 w I f k b i h .below in
+      let low = lower-support 512 w I f k b (y .unpicked) i h .below in
       source i h (omega arith) (truthIn (ts 512 w marked I f) i) refl (λ on. mended m i (omega arith) on))
     where
       source : (i : ℕ) → names (support w (vs 512 w marked I f) (termAt w k)) i ≡ true → i < terms w → (t : Bool) → truthIn (ts 512 w marked I f) i ≡ t

@@ -31,20 +31,23 @@ use Rattle.table.proofs.OperandSorts.{placing-as, rank-below}
 use Rattle.setting.specs.Interpretation.{Value, Interpretation}
 use Rattle.evaluate.specs.Values.{valueBy, valueIn, values, valueAt, numbers}
 use Rattle.evaluate.proofs.Folds.{value-below, number-in}
+use Rattle.evaluate.proofs.Meaning.{cell-store, cell-choice}
 use Rattle.judge.specs.Conditions.{Condition, conditionBy, conditionIn, conditions, conditionAt, truths}
 use Rattle.judge.specs.Code.Labelled.{truthIn}
 use Rattle.judge.proofs.Alike.{condition-below}
 use Rattle.explain.specs.declared.answers.Settled.{Settled}
-use Rattle.explain.specs.declared.answers.Settled.the-variants.{Untold, Alone, Picked, Equal, AtIndex, EqualBeneath, Unmarked}
+use Rattle.explain.specs.declared.answers.Settled.the-variants.{Untold, Alone, Picked, Equal, AtIndex, EqualBeneath, EqualBranches, Unmarked}
 use Rattle.explain.specs.declared.answers.Shape.{Shape}
 use Rattle.explain.specs.declared.answers.Shape.the-variants.{Binary, Branches, Cell}
 use Rattle.explain.specs.declared.answers.Source.the-variants.{Nothing, Operand}
-use Rattle.explain.specs.Sources.{there, stacked, picked, shapeOf}
-use Rattle.explain.specs.Settlers.{stopAt, unfreeBy, unfreeAt, someUnfree, settlesAlone, freelyPast, settledHere, settledBy, settlerOf}
-use Rattle.explain.specs.SettlerLaws.{Reaches, arrived, onward, SaysAtIndex, SaysEqualBeneath, SaysUnmarked, Says, told, SettlerTrue, SettlerTold}
-use Rattle.explain.proofs.Supports.{and-open, num-of, StoreAt, array-at, Lower, Made, literal, input, function, choice, read, store, made, free-of, variable-read, store-read, condition-as}
+use Rattle.explain.specs.Sources.{there, stacked, branched, picked, shapeOf}
+use Rattle.explain.specs.Settlers.{unfreeBy, unfreeAt, someUnfree, settlesAlone, freelyPast, freelyPicked, freely, stopAt, settledHere, settledBy, settlerOf}
+use Rattle.explain.specs.SettlerLaws.{Reaches, arrived, onward, inward, SaysAtIndex, SaysEqualBeneath, SaysEqualBranches, SaysUnmarked, Says, told, SettlerTrue, SettlerTold}
+use Rattle.explain.proofs.Alongs.{of-picked, picked-as, store-unbranched, next-store, next-choice}
+use Rattle.explain.proofs.Supports.{and-open, num-of, StoreAt, ChoiceAt, array-at, variable-plain, choice-is, Lower}
+use Rattle.explain.proofs.Supports.{Made, literal, input, function, choice, read, store, fork, made, free-of, variable-read, store-read, choice-read, condition-as, fork-unfree}
 use Rattle.explain.proofs.Causes.{truth-at}
-use Rattle.explain.proofs.Stops.{stop-here, stop-on, freely-below, told-as}
+use Rattle.explain.proofs.Stops.{stop-here, stop-on, settled-as, told-as}
 
 -- Choices
 
@@ -64,6 +67,11 @@ chosen-equal test d e same h =
     let both = and-parts d e (parts .0) in
     (both .0, both .1, parts .1)
 
+-- the number of the value that is picked
+picked-num : (z : Bool) (u v : Value) → cond z u v .num ≡ cond z (u .num) (v .num)
+picked-num true u v = refl
+picked-num false u v = refl
+
 -- of two that are equal either is the first
 either : (b : Bool) (y z : ℕ) → y ≡ z → cond b y z ≡ y
 either true y z e = refl
@@ -71,6 +79,14 @@ either false y z e = sym e
 
 chosen-shut : (c test d e same : Bool) → e ≡ false → chosen (c && false) test d e same ≡ false
 chosen-shut c test d e same h = rw (h, and-shut c, and-shut d)
+
+both-shut : (c test d e same : Bool) → d ≡ false → e ≡ false → chosen c test d e same ≡ false
+both-shut c test d e same hd he = (λ i. chosen c test (hd i) (he i) same) ∙ go c test
+  where
+    go : (c test : Bool) → chosen c test false false same ≡ false
+    go true true = refl
+    go true false = refl
+    go false test = refl
 
 -- an operation that is free though not both operands are: one that is free settles it
 alone-by : (o : Operation) (n x y : ℕ) (c d : Bool) → operationCondition o n x y c d ≡ true → (c && d) ≡ false
@@ -118,21 +134,22 @@ module _ (limit : ℕ) (w : List ℕ) (marked : Term → Bool) (I : Interpretati
   -- A read at index j
 
   module _ (j : ℕ) where
-    abbrev goes : ℕ → Bool
-    goes = freelyPast w vs ts j
-
-    below : (a : ℕ) → goes a ≡ true → termAt w a .p < a
-    below = freely-below w vs ts j
-
     -- at an index that is not free no read is free
     read-shut : (m a : ℕ) → a < m → a < terms w → array (sortAt w a) ≡ true → K a .readFree j false ≡ false
     read-shut zero a n c r = absurd (not-suc-le-zero n)
     read-shut (suc m) a n c r =
-        ⊎-elim (λ e. variable-read limit w I f marked a c j false e ∙ and-shut (K a .free))
-        (λ s. let pb = s .pb in
+        array-at limit w I f a c r
+        (λ e. variable-read limit w I f marked a c j false e ∙ and-shut (K a .free))
+        (λ s.
+        let pb = s .pb in
         store-read limit w I f marked a c j false s
         ∙ chosen-shut (K (termAt w a .q) .free) (eqb (getD vs (termAt w a .q) 0) j) (K (termAt w a .r) .free) (K (termAt w a .p) .readFree j false) _ (read-shut m (termAt w a .p) (omega arith) (omega arith) (s .ps)))
-        (array-at limit w I f a c r)
+        (λ s.
+        let x = termAt w a in
+        let qb = s .qb in
+        let rb = s .rb in
+        choice-read limit w I f marked a c j false s
+        ∙ both-shut (K (x .p) .free) (holds (getD vs (x .p) 0)) (K (x .q) .readFree j false) (K (x .r) .readFree j false) _ (read-shut m (x .q) (omega arith) (omega arith) (s .qs)) (read-shut m (x .r) (omega arith) (omega arith) (s .rs)))
 
     -- what is said of a read of array term a, which gives number
     abbrev ReadSays : ℕ → ℕ → Settled → Type 0
@@ -142,9 +159,10 @@ module _ (limit : ℕ) (w : List ℕ) (marked : Term → Bool) (I : Interpretati
     ReadSays a number (Equal pair) = ⊥
     ReadSays a number (AtIndex held) = SaysAtIndex w marked I j a number held
     ReadSays a number (EqualBeneath held) = SaysEqualBeneath w marked I j a number held
+    ReadSays a number (EqualBranches b) = SaysEqualBranches w marked I j a number b
     ReadSays a number (Unmarked b) = SaysUnmarked w marked I j a number b
 
-    -- past a store, and by another name of the number, nothing changes
+    -- past a store, into a branch, and by another name of the number, nothing changes
     moved : (a a′ number number′ : ℕ) → ((b : ℕ) → Reaches w vs ts j a b → Reaches w vs ts j a′ b) → number′ ≡ number → (x : Settled) → ReadSays a number x → ReadSays a′ number′ x
     moved a a′ number number′ on e Untold h = h
     moved a a′ number number′ on e (Alone i) h = h
@@ -154,40 +172,45 @@ module _ (limit : ℕ) (w : List ℕ) (marked : Term → Bool) (I : Interpretati
         record { reached = on (held .store) (h .reached); store = h .store; its = h .its; index-free = h .index-free; index = h .index; is-free = h .is-free; same = e ∙ h .same }
     moved a a′ number number′ on e (EqualBeneath held) h =
         record { reached = on (held .store) (h .reached); store = h .store; its = h .its; index-unfree = h .index-unfree; is-free = h .is-free; beneath-free = h .beneath-free; equal = h .equal; same = e ∙ h .same }
+    moved a a′ number number′ on e (EqualBranches b) h =
+        record { reached = on b (h .reached); choice = h .choice; test-unfree = h .test-unfree; first-free = h .first-free; second-free = h .second-free; equal = h .equal; same = e ∙ h .same }
     moved a a′ number number′ on e (Unmarked b) h = record { reached = on b (h .reached); input = h .input; unmarked = h .unmarked; same = e ∙ h .same }
 
-    module _ (a : ℕ) (b : a < terms w) where
+    module _ (a : ℕ) (b : a < terms w) (r : array (sortAt w a) ≡ true) where
       abbrev x : Term
       x = termAt w a
 
-      abbrev va : ℕ → Value
-      va = valueIn (values w I a)
+      abbrev stop : ℕ → Settled
+      stop i = settledHere w ts (stopAt w vs ts j i)
 
-      abbrev found : Bool → Bool → Settled
-      found s f = cond s (cond f (AtIndex (record { store = a; term = x .r })) (EqualBeneath (record { store = a; term = x .r }))) (Unmarked a)
+      -- whether the read goes on from term a, by four tests
+      freely-as : (s h b c d : Bool) → stacked x a ≡ s → eqb (getD vs (x .q) 0) j ≡ h → truthIn ts (x .q) ≡ c → branched x a ≡ b → truthIn ts (x .p) ≡ d → freely w vs ts j a ≡ (((s && not h) && c) || (b && d))
+      freely-as s h b c d es eh ec eb ed = λ i. ((es i && not (eh i)) && ec i) || (eb i && ed i)
 
-      stops : (s c h : Bool) → stacked x a ≡ s → truthIn ts (x .q) ≡ c → eqb (getD vs (x .q) 0) j ≡ h → ((s && not h) && c) ≡ false → found s c ≡ settledHere w ts (stopAt w goes a)
-      stops s c h es ec eh e =
-          sym (λ i. found (es i) (ec i)) ∙ ap (settledHere w ts) (stop-here w goes below a ((λ i. (es i && not (eh i)) && ec i) ∙ e))
+      -- where it does not, this settles it
+      abbrev found : Bool → Bool → Bool → Settled
+      found b s c = cond b (EqualBranches a) (cond s (cond c (AtIndex (record { store = a; term = x .r })) (EqualBeneath (record { store = a; term = x .r }))) (Unmarked a))
 
-      at-variable : opOf (x .op) ≡ Variable → K a .readFree j true ≡ true → ReadSays a (W a .cell j) (settledHere w ts (stopAt w goes a))
+      stops : (s h b c d : Bool) → stacked x a ≡ s → eqb (getD vs (x .q) 0) j ≡ h → truthIn ts (x .q) ≡ c → branched x a ≡ b → truthIn ts (x .p) ≡ d → (((s && not h) && c) || (b && d)) ≡ false → found b s c ≡ stop a
+      stops s h b c d es eh ec eb ed e = settled-as w ts a x refl b s c eb es ec ∙ ap (settledHere w ts) (stop-here w vs ts j a (freely-as s h b c d es eh ec eb ed ∙ e))
+
+      at-variable : opOf (x .op) ≡ Variable → K a .readFree j true ≡ true → ReadSays a (W a .cell j) (stop a)
       unfolding conditionBy
       at-variable e h =
-          let no-store : isStore x ≡ false = ap (λ (o : Op). writes o) e in
-          let flat : stacked x a ≡ false = ap (λ (s : Bool). s && ltb (x .p) a) no-store in
+          let no = variable-plain limit w I f a e in
+          let flat : stacked x a ≡ false = ap (λ (s : Bool). s && ltb (x .p) a) (no .0) in
+          let plain : branched x a ≡ false = ap (λ (s : Bool). s && ltb (x .q) a && ltb (x .r) a) (no .1) in
           let is-free : K a .free ≡ true = sym (and-open (K a .free)) ∙ sym (variable-read limit w I f marked a b j true e) ∙ h in
           let unmarked : not (marked x) ≡ true = sym (condition-as limit w I f marked a b Variable e) ∙ is-free in
-          subst (ReadSays a (W a .cell j)) (stops false (truthIn ts (x .q)) (eqb (getD vs (x .q) 0) j) flat refl refl refl)
+          subst (ReadSays a (W a .cell j)) (stops false (eqb (getD vs (x .q) 0) j) false (truthIn ts (x .q)) (truthIn ts (x .p)) flat refl refl plain refl refl)
           (record { reached = arrived; input = ap (λ (o : Op). slotted o) e; unmarked = not-true (marked x) unmarked; same = refl })
 
       module _ (s : StoreAt limit w I f a) where
-        store-cell : W a .cell j ≡ cond (eqb (getD vs (x .q) 0) j) (getD vs (x .r) 0) (W (x .p) .cell j)
-        unfolding valueBy
-        store-cell =
-            let nq = num-of limit w I f a (x .q) b (s .qb) in
-            let nr = num-of limit w I f a (x .r) b (s .rb) in
-            let vp = value-below w I a (x .p) (s .pb) in
-            ap (λ (o : Op). valueBy I va (sortAt w (x .p) .n) x o .cell j) (s .is) ∙ (λ i. cond (eqb (nq i) j) (nr i) (vp i .cell j))
+        alone-store : branched x a ≡ false
+        alone-store = store-unbranched x a (ap (λ (o : Op). writes o) (s .is))
+
+        its-cell : W a .cell j ≡ cond (eqb (getD vs (x .q) 0) j) (getD vs (x .r) 0) (W (x .p) .cell j)
+        its-cell = cell-store limit w I f (terms w) a b b r (s .is) j
 
         by-store : K a .readFree j true ≡ chosen (truthIn ts (x .q)) (eqb (getD vs (x .q) 0) j) (truthIn ts (x .r)) (K (x .p) .readFree j true) (eqb (getD vs (x .r) 0) (W (x .p) .cell j))
         by-store =
@@ -202,10 +225,10 @@ module _ (limit : ℕ) (w : List ℕ) (marked : Term → Bool) (I : Interpretati
 
         at-store : (c h : Bool) → truthIn ts (x .q) ≡ c → eqb (getD vs (x .q) 0) j ≡ h
             → chosen c h (truthIn ts (x .r)) (K (x .p) .readFree j true) (eqb (getD vs (x .r) 0) (W (x .p) .cell j)) ≡ true
-            → (K (x .p) .readFree j true ≡ true → ReadSays (x .p) (W (x .p) .cell j) (settledHere w ts (stopAt w goes (x .p))))
-            → ReadSays a (W a .cell j) (settledHere w ts (stopAt w goes a))
+            → (K (x .p) .readFree j true ≡ true → ReadSays (x .p) (W (x .p) .cell j) (stop (x .p)))
+            → ReadSays a (W a .cell j) (stop a)
         at-store true true ec eh e rest =
-            subst (ReadSays a (W a .cell j)) (stops true true true (s .stacks) ec eh refl)
+            subst (ReadSays a (W a .cell j)) (stops true true false true (truthIn ts (x .p)) (s .stacks) eh ec alone-store refl refl)
             (record {
               reached = arrived;
               store = ap (λ (o : Op). writes o) (s .is);
@@ -213,17 +236,18 @@ module _ (limit : ℕ) (w : List ℕ) (marked : Term → Bool) (I : Interpretati
               index-free = ec;
               index = eqb-true (getD vs (x .q) 0) j eh;
               is-free = chosen-branch true (truthIn ts (x .r)) (K (x .p) .readFree j true) _ e;
-              same = store-cell ∙ ap (λ (z : Bool). cond z (getD vs (x .r) 0) (W (x .p) .cell j)) eh;
+              same = its-cell ∙ ap (λ (z : Bool). cond z (getD vs (x .r) 0) (W (x .p) .cell j)) eh;
             })
         at-store true false ec eh e rest =
-            let g : goes a ≡ true = λ i. (s .stacks i && not (eh i)) && ec i in
-            subst (λ (i : ℕ). ReadSays a (W a .cell j) (settledHere w ts i)) (stop-on w goes below a g)
-            (moved (x .p) a (W (x .p) .cell j) (W a .cell j) (λ i r. onward g r) (store-cell ∙ ap (λ (z : Bool). cond z (getD vs (x .r) 0) (W (x .p) .cell j)) eh) (settledHere w ts (stopAt w goes (x .p)))
+            let g : freelyPast w vs ts j a ≡ true = λ i. (s .stacks i && not (eh i)) && ec i in
+            let on = freely-as true false false true (truthIn ts (x .p)) (s .stacks) eh ec alone-store refl in
+            subst (λ (i : ℕ). ReadSays a (W a .cell j) (settledHere w ts i)) (ap (stopAt w vs ts j) (sym (next-store w vs j a (ap (λ (o : Op). writes o) (s .is)))) ∙ stop-on w vs ts j a on)
+            (moved (x .p) a (W (x .p) .cell j) (W a .cell j) (λ i r. onward g r) (its-cell ∙ ap (λ (z : Bool). cond z (getD vs (x .r) 0) (W (x .p) .cell j)) eh) (stop (x .p))
             (rest (chosen-branch false (truthIn ts (x .r)) (K (x .p) .readFree j true) _ e)))
         at-store false h ec eh e rest =
             let parts = chosen-equal h (truthIn ts (x .r)) (K (x .p) .readFree j true) (eqb (getD vs (x .r) 0) (W (x .p) .cell j)) e in
             let same : getD vs (x .r) 0 ≡ W (x .p) .cell j = eqb-true (getD vs (x .r) 0) (W (x .p) .cell j) (parts .2) in
-            subst (ReadSays a (W a .cell j)) (stops true false h (s .stacks) ec eh (and-shut (not h)))
+            subst (ReadSays a (W a .cell j)) (stops true h false false (truthIn ts (x .p)) (s .stacks) eh ec alone-store refl (ap (λ (z : Bool). z || false) (and-shut (not h))))
             (record {
               reached = arrived;
               store = ap (λ (o : Op). writes o) (s .is);
@@ -232,16 +256,71 @@ module _ (limit : ℕ) (w : List ℕ) (marked : Term → Bool) (I : Interpretati
               is-free = parts .0;
               beneath-free = parts .1;
               equal = sym same;
-              same = store-cell ∙ either (eqb (getD vs (x .q) 0) j) (getD vs (x .r) 0) (W (x .p) .cell j) same;
+              same = its-cell ∙ either (eqb (getD vs (x .q) 0) j) (getD vs (x .r) 0) (W (x .p) .cell j) same;
             })
 
-    read-says : (m a : ℕ) → a < m → a < terms w → array (sortAt w a) ≡ true → K a .readFree j true ≡ true → ReadSays a (W a .cell j) (settledHere w ts (stopAt w goes a))
+      module _ (s : ChoiceAt limit w I f a) where
+        abbrev tested : Bool
+        tested = holds (getD vs (x .p) 0)
+
+        no-store : isStore x ≡ false
+        no-store = ap (λ (o : Op). writes o) (s .is)
+
+        alone-choice : stacked x a ≡ false
+        alone-choice = ap (λ (z : Bool). z && ltb (x .p) a) no-store
+
+        picked-cell : W a .cell j ≡ cond tested (W (x .q) .cell j) (W (x .r) .cell j)
+        picked-cell = cell-choice limit w I f (terms w) a b b r (s .is) j
+
+        by-choice : K a .readFree j true ≡ chosen (truthIn ts (x .p)) tested (K (x .q) .readFree j true) (K (x .r) .readFree j true) (eqb (W (x .q) .cell j) (W (x .r) .cell j))
+        by-choice =
+            let pb = s .pb in
+            let fp = sym (free-at (x .p) (omega arith)) in
+            let vq = value-below w I a (x .q) (s .qb) in
+            let vr = value-below w I a (x .r) (s .rb) in
+            choice-read limit w I f marked a b j true s
+            ∙ (λ i. chosen (fp i) tested (K (x .q) .readFree j true) (K (x .r) .readFree j true) (eqb (vq i .cell j) (vr i .cell j)))
+
+        at-choice : (c : Bool) → truthIn ts (x .p) ≡ c
+            → chosen c tested (K (x .q) .readFree j true) (K (x .r) .readFree j true) (eqb (W (x .q) .cell j) (W (x .r) .cell j)) ≡ true
+            → (K (picked vs x) .readFree j true ≡ true → ReadSays (picked vs x) (W (picked vs x) .cell j) (stop (picked vs x)))
+            → ReadSays a (W a .cell j) (stop a)
+        at-choice true ec e rest =
+            let y = picked vs x in
+            let g : freelyPicked w ts a ≡ true = λ i. s .branches i && ec i in
+            let on = freely-as false (eqb (getD vs (x .q) 0) j) true (truthIn ts (x .q)) true alone-choice refl refl (s .branches) ec in
+            subst (λ (i : ℕ). ReadSays a (W a .cell j) (settledHere w ts i)) (ap (stopAt w vs ts j) (sym (next-choice w vs j a no-store)) ∙ stop-on w vs ts j a on)
+            (moved y a (W y .cell j) (W a .cell j) (λ i r. inward g r) (picked-cell ∙ picked-as (λ i. W i .cell j) tested (x .q) (x .r)) (stop y)
+            (rest (sym (picked-as (λ i. K i .readFree j true) tested (x .q) (x .r)) ∙ chosen-branch tested (K (x .q) .readFree j true) (K (x .r) .readFree j true) _ e)))
+        at-choice false ec e rest =
+            let parts = chosen-equal tested (K (x .q) .readFree j true) (K (x .r) .readFree j true) (eqb (W (x .q) .cell j) (W (x .r) .cell j)) e in
+            let same : W (x .q) .cell j ≡ W (x .r) .cell j = eqb-true (W (x .q) .cell j) (W (x .r) .cell j) (parts .2) in
+            subst (ReadSays a (W a .cell j)) (stops false (eqb (getD vs (x .q) 0) j) true (truthIn ts (x .q)) false alone-choice refl refl (s .branches) ec refl)
+            (record {
+              reached = arrived;
+              choice = choice-is limit w I f a s;
+              test-unfree = ec;
+              first-free = parts .0;
+              second-free = parts .1;
+              equal = same;
+              same = picked-cell ∙ either tested (W (x .q) .cell j) (W (x .r) .cell j) same;
+            })
+
+    read-says : (m a : ℕ) → a < m → a < terms w → array (sortAt w a) ≡ true → K a .readFree j true ≡ true → ReadSays a (W a .cell j) (settledHere w ts (stopAt w vs ts j a))
     read-says zero a n b r h = absurd (not-suc-le-zero n)
     read-says (suc m) a n b r h =
-        ⊎-elim (λ e. at-variable a b e h)
-        (λ s. let pb = s .pb in
-        at-store a b s (truthIn ts (termAt w a .q)) (eqb (getD vs (termAt w a .q) 0) j) refl refl (sym (by-store a b s) ∙ h) (λ g. read-says m (termAt w a .p) (omega arith) (omega arith) (s .ps) g))
-        (array-at limit w I f a b r)
+        array-at limit w I f a b r
+        (λ e. at-variable a b r e h)
+        (λ s.
+        let pb = s .pb in
+        at-store a b r s (truthIn ts (termAt w a .q)) (eqb (getD vs (termAt w a .q) 0) j) refl refl (sym (by-store a b r s) ∙ h) (read-says m (termAt w a .p) (omega arith) (omega arith) (s .ps)))
+        (λ s.
+        let x = termAt w a in
+        let qb = s .qb in
+        let rb = s .rb in
+        at-choice a b r s (truthIn ts (x .p)) refl (sym (by-choice a b r s) ∙ h)
+        (of-picked (λ i. K i .readFree j true ≡ true → ReadSays i (W i .cell j) (settledHere w ts (stopAt w vs ts j i))) (holds (getD vs (x .p) 0))
+        (read-says m (x .q) (omega arith) (omega arith) (s .qs)) (read-says m (x .r) (omega arith) (omega arith) (s .rs))))
 
   -- One term
 
@@ -286,9 +365,9 @@ module _ (limit : ℕ) (w : List ℕ) (marked : Term → Bool) (I : Interpretati
     function-says bvCompare = alone (settlesAlone w vs ts t false) (settlesAlone w vs ts t true) refl refl
 
     -- a choice
-    choice-says : opOf (t .op) ≡ Ite → Lower limit w I f k (t .p) → Lower limit w I f k (t .q) → Lower limit w I f k (t .r) → K k .free ≡ true → Claim (by Branches)
+    choice-says : opOf (t .op) ≡ Ite → array (sortAt w k) ≡ false → Lower limit w I f k (t .p) → Lower limit w I f k (t .q) → Lower limit w I f k (t .r) → K k .free ≡ true → Claim (by Branches)
     unfolding conditionBy settles valueBy apply
-    choice-says e p q r h =
+    choice-says e flat p q r h =
         let tp = taken (t .p) (p .below) in
         let tq = taken (t .q) (q .below) in
         let tr = taken (t .r) (r .below) in
@@ -296,8 +375,8 @@ module _ (limit : ℕ) (w : List ℕ) (marked : Term → Bool) (I : Interpretati
         let nq = num-of limit w I f k (t .q) b (q .below) in
         let nr = num-of limit w I f k (t .r) b (r .below) in
         go (truthIn ts (t .p)) refl
-        (sym (λ i. chosen (tp i) (holds (np i)) (tq i) (tr i) (eqb (nq i) (nr i))) ∙ sym (condition-as limit w I f marked k b Ite e) ∙ h)
-        (number-at k b ∙ ap (λ (o : Op). valueBy I vk (sortAt w (t .p) .n) t o .num) e ∙ (λ i. cond (holds (np i)) (nq i) (nr i)))
+        (sym (λ i. not (flat i) && chosen (tp i) (holds (np i)) (tq i) (tr i) (eqb (nq i) (nr i))) ∙ sym (condition-as limit w I f marked k b Ite e) ∙ h)
+        (number-at k b ∙ ap (λ (o : Op). valueBy I vk (sortAt w (t .p) .n) t o .num) e ∙ picked-num (holds (vk (t .p) .num)) (vk (t .q)) (vk (t .r)) ∙ (λ i. cond (holds (np i)) (nq i) (nr i)))
       where
         branch : (z : Bool) → cond z (getD vs (t .q) 0) (getD vs (t .r) 0) ≡ getD vs (cond z (t .q) (t .r)) 0
         branch true = refl
@@ -339,6 +418,7 @@ module _ (limit : ℕ) (w : List ℕ) (marked : Term → Bool) (I : Interpretati
     of-read (Equal pair) h = absurd h
     of-read (AtIndex held) h = h
     of-read (EqualBeneath held) h = h
+    of-read (EqualBranches c) h = h
     of-read (Unmarked c) h = h
 
     cell-says : opOf (t .op) ≡ Select → t .p < k → array (sortAt w (t .p)) ≡ true → Lower limit w I f k (t .q) → K k .free ≡ true → Claim (by Cell)
@@ -362,9 +442,10 @@ module _ (limit : ℕ) (w : List ℕ) (marked : Term → Bool) (I : Interpretati
     says-by (literal e) h = subst (λ (z : Shape). Claim (by z)) (shape-as Constant e) tt
     says-by (input e) h = subst (λ (z : Shape). Claim (by z)) (shape-as Variable e) tt
     says-by (function g e o) h = subst (λ (z : Shape). Claim (by z)) (shape-as (Apply g) e) (function-says (functionRank g))
-    says-by (choice e l p q r) h = subst (λ (z : Shape). Claim (by z)) (shape-as Ite e) (choice-says e p q r h)
+    says-by (choice e flat l p q r) h = subst (λ (z : Shape). Claim (by z)) (shape-as Ite e) (choice-says e flat p q r h)
     says-by (read e l pb ps q) h = subst (λ (z : Shape). Claim (by z)) (shape-as Select e) (cell-says e pb ps q h)
     says-by (store s) h = subst (λ (z : Shape). Claim (by z)) (shape-as Store (s .is)) tt
+    says-by (fork c) h = never (sym (fork-unfree limit w I f marked k b c) ∙ h)
 
     settler-says : (z : Bool) → (truthIn ts k && someUnfree w ts t) ≡ z → Claim (cond z (by (shapeOf (rank t))) Untold)
     settler-says true e = says-by (made limit w I f k b) (sym (free-at k b) ∙ and-parts (truthIn ts k) (someUnfree w ts t) e .0)
@@ -453,12 +534,13 @@ module _ (limit : ℕ) (w : List ℕ) (marked : Term → Bool) (I : Interpretati
     told-choice false = refl
 
     told-here : (a : ℕ) → told (settledHere w ts a) ≡ true
-    told-here a = go (stacked (termAt w a) a) (truthIn ts (termAt w a .q))
+    told-here a = go (branched (termAt w a) a) (stacked (termAt w a) a) (truthIn ts (termAt w a .q))
       where
-        go : (s f : Bool) → told (cond s (cond f (AtIndex (record { store = a; term = termAt w a .r })) (EqualBeneath (record { store = a; term = termAt w a .r }))) (Unmarked a)) ≡ true
-        go true true = refl
-        go true false = refl
-        go false f = refl
+        go : (b s f : Bool) → told (cond b (EqualBranches a) (cond s (cond f (AtIndex (record { store = a; term = termAt w a .r })) (EqualBeneath (record { store = a; term = termAt w a .r }))) (Unmarked a))) ≡ true
+        go true s f = refl
+        go false true true = refl
+        go false true false = refl
+        go false false f = refl
 
     abbrev Tells : Shape → Type 0
     Tells z = some z ≡ true → told (by z) ≡ true
@@ -469,9 +551,10 @@ module _ (limit : ℕ) (w : List ℕ) (marked : Term → Bool) (I : Interpretati
     tells-by (function g e o) h =
         let places = rank-below (functionRank g) k t (placing-as w k (f .sound k b) (Apply g) e) in
         subst Tells (shape-as (Apply g) e) (function-told g e h (operation g) (functionRank g) (by-operands g e h places) places)
-    tells-by (choice e l p q r) h = subst Tells (shape-as Ite e) (λ u. told-choice (truthIn ts (t .p)))
-    tells-by (read e l pb ps q) h = subst Tells (shape-as Select e) (λ u. told-here (stopAt w (freelyPast w vs ts (getD vs (t .q) 0)) (t .p)))
+    tells-by (choice e flat l p q r) h = subst Tells (shape-as Ite e) (λ u. told-choice (truthIn ts (t .p)))
+    tells-by (read e l pb ps q) h = subst Tells (shape-as Select e) (λ u. told-here (stopAt w vs ts (getD vs (t .q) 0) (t .p)))
     tells-by (store s) h = subst Tells (shape-as Store (s .is)) (λ u. never u)
+    tells-by (fork c) h = never (sym (fork-unfree limit w I f marked k b c) ∙ h)
 
 pub settler-true : SettlerTrue
 unfolding settlerOf

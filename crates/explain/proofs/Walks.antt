@@ -1,16 +1,15 @@
--- What is found along a chain by a walk that goes on by a test, whatever it is: an array's own number is fuel enough.
+-- What is found along an array by a walk that goes on by a test to an earlier term, whatever it is: an array's own
+-- number is fuel enough.
 -- Assumes nothing.
 use mathlib.Core.Path.{_≡_, refl, sym, ap, _∙_}
 use mathlib.Core.Bool.{Bool, true, false, cond}
-use mathlib.Core.List.{List}
 use Prim.Native.Nat.{ℕ, zero, suc, _<_}
 use native.Mathlib.Nat.{not-suc-le-zero}
 use native.Mathlib.Omega.{arith}
-use Rattle.table.specs.Terms.{termAt}
 
--- found, with fuel: where the walk goes on, made of what is found beneath; else what is here
-module _ {A : Type 0} (w : List ℕ) (goes : ℕ → Bool) (below : (a : ℕ) → goes a ≡ true → termAt w a .p < a) (found : ℕ → ℕ → A) (step : ℕ → A → A) (here : ℕ → A)
-    (law : (left a : ℕ) → found (suc left) a ≡ cond (goes a) (step a (found left (termAt w a .p))) (here a)) where
+-- found, with fuel: where the walk goes on, made of what is found at the next term; else what is here
+module _ {A : Type 0} (goes : ℕ → Bool) (next : ℕ → ℕ) (below : (a : ℕ) → goes a ≡ true → next a < a) (found : ℕ → ℕ → A) (step : ℕ → A → A) (here : ℕ → A)
+    (law : (left a : ℕ) → found (suc left) a ≡ cond (goes a) (step a (found left (next a))) (here a)) where
   by : (b : Bool) (x y z : A) → (b ≡ true → x ≡ y) → cond b x z ≡ cond b y z
   by true x y z h = h refl
   by false x y z h = refl
@@ -20,15 +19,15 @@ module _ {A : Type 0} (w : List ℕ) (goes : ℕ → Bool) (below : (a : ℕ) �
   enough (suc f) zero a b c = absurd (not-suc-le-zero c)
   enough (suc f) (suc g) a b c =
       law f a
-      ∙ by (goes a) _ _ (here a) (λ e. let d = below a e in ap (step a) (enough f g (termAt w a .p) (omega arith) (omega arith)))
+      ∙ by (goes a) _ _ (here a) (λ e. let d = below a e in ap (step a) (enough f g (next a) (omega arith) (omega arith)))
       ∙ sym (law g a)
 
   pub walk-stopped : (a : ℕ) → goes a ≡ false → here a ≡ found (suc a) a
-  walk-stopped a e = sym (law a a ∙ ap (λ (b : Bool). cond b (step a (found a (termAt w a .p))) (here a)) e)
+  walk-stopped a e = sym (law a a ∙ ap (λ (b : Bool). cond b (step a (found a (next a))) (here a)) e)
 
-  pub walk-on : (a : ℕ) → goes a ≡ true → step a (found (suc (termAt w a .p)) (termAt w a .p)) ≡ found (suc a) a
+  pub walk-on : (a : ℕ) → goes a ≡ true → step a (found (suc (next a)) (next a)) ≡ found (suc a) a
   walk-on a e =
-      let d : termAt w a .p < a = below a e in
+      let d : next a < a = below a e in
       sym (law a a
-      ∙ ap (λ (b : Bool). cond b (step a (found a (termAt w a .p))) (here a)) e
-      ∙ ap (step a) (enough a (suc (termAt w a .p)) (termAt w a .p) d (omega arith)))
+      ∙ ap (λ (b : Bool). cond b (step a (found a (next a))) (here a)) e
+      ∙ ap (step a) (enough a (suc (next a)) (next a) d (omega arith)))

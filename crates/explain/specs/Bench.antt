@@ -15,13 +15,13 @@ use Rattle.evaluate.specs.Values.{valueBy, numbers}
 use Rattle.judge.specs.Conditions.{conditionBy, truths}
 use Rattle.sheets.specs.Marks.{ownMarks}
 use Rattle.explain.specs.declared.answers.Settled.{Settled}
-use Rattle.explain.specs.declared.answers.Settled.the-variants.{Untold, Alone, Picked, Equal, AtIndex, EqualBeneath, Unmarked}
+use Rattle.explain.specs.declared.answers.Settled.the-variants.{Untold, Alone, Picked, Equal, AtIndex, EqualBeneath, EqualBranches, Unmarked}
 use Rattle.explain.specs.declared.answers.Source.{Source}
-use Rattle.explain.specs.declared.answers.Source.the-variants.{Operand, Index, Stored, Array}
+use Rattle.explain.specs.declared.answers.Source.the-variants.{Operand, Index, Stored, Test, Array}
 use Rattle.explain.specs.Sources.{alongWithin, support}
 use Rattle.explain.specs.Ways.{onWay, blamed, lookedAt, wayDown}
 use Rattle.explain.specs.Repairs.{repairOf}
-use Rattle.explain.specs.Settlers.{stopWithin, unfreeAt, settlerOf}
+use Rattle.explain.specs.Settlers.{stopWithin, unfreeWithin, unfreeAt, settlerOf}
 use Rattle.explain.specs.Laws.{wayIn, repairIn}
 
 -- a marked test, unmarked branches of width 8 (slots 0, 1, 2): the choice is 3
@@ -42,6 +42,14 @@ markedIndex = term 1 8 8 0 0 0 (term 1 0 8 1 1 0 (term 1 0 8 2 0 0 (term 0 0 8 4
 -- rule H with t unmarked, and a marked value in place of 42 stored at a (slot 3)
 abbrev markedValue : List ℕ
 markedValue = term 1 8 8 0 0 0 (term 1 0 8 1 0 0 (term 1 0 8 2 0 0 (term 1 0 8 3 1 0 (term 16 8 8 0 1 3 (term 15 0 8 4 2 0 (term 6 0 0 5 1 0 []))))))
+
+-- a marked test, two unmarked curves (slots 0, 1, 2), read at slot 3: the choice is 3, the read 5
+abbrev curves : List ℕ
+curves = term 1 0 0 0 1 0 (term 1 8 8 1 0 0 (term 1 8 8 2 0 0 (term 7 8 8 0 1 2 (term 1 0 8 3 0 0 (term 15 0 8 3 4 0 (term 6 0 0 5 4 0 []))))))
+
+-- the same with the second curve alone marked
+abbrev otherCurve : List ℕ
+otherCurve = term 1 0 0 0 0 0 (term 1 8 8 1 0 0 (term 1 8 8 2 1 0 (term 7 8 8 0 1 2 (term 1 0 8 3 0 0 (term 15 0 8 3 4 0 (term 6 0 0 5 4 0 []))))))
 
 -- of the first n numbers of a row those that are marked, the highest first
 pub listedBelow : ℕ → List ℕ → List ℕ
@@ -71,7 +79,8 @@ toldIn w values k i =
 
 -- P1, whose condition is true. P2: by the sum and the product to x. P8: past the store to the array. P11 with branches
 -- 3 and 4: to the test; with a marked branch behind it: to both. A read at a marked store index, of the store and past
--- it: to that index.
+-- it: to that index. A read by a marked test of curves that differ: to the test; of a marked curve that a free test
+-- picks: to the curve.
 pub ways : List Down
 ways =
     downIn ruleG (0 ∷ 5 ∷ 1 ∷ [])
@@ -81,6 +90,8 @@ ways =
     ∷ downIn behind (1 ∷ 3 ∷ 4 ∷ [])
     ∷ downIn markedIndex (9 ∷ 0 ∷ 0 ∷ [])
     ∷ downIn markedIndex (9 ∷ 1 ∷ 0 ∷ [])
+    ∷ downIn curves (1 ∷ 3 ∷ 4 ∷ 0 ∷ [])
+    ∷ downIn otherCurve (0 ∷ 3 ∷ 4 ∷ 0 ∷ [])
     ∷ []
 
 pub ways-are : ways
@@ -91,13 +102,16 @@ pub ways-are : ways
     ∷ record { way = 5 ∷ 3 ∷ 1 ∷ 0 ∷ []; slots = 1 ∷ 0 ∷ [] }
     ∷ record { way = 6 ∷ 5 ∷ 1 ∷ []; slots = 1 ∷ [] }
     ∷ record { way = 6 ∷ 5 ∷ 1 ∷ []; slots = 1 ∷ [] }
+    ∷ record { way = 6 ∷ 5 ∷ 0 ∷ []; slots = 0 ∷ [] }
+    ∷ record { way = 6 ∷ 5 ∷ 2 ∷ []; slots = 2 ∷ [] }
     ∷ []
 unfolding ways downIn listedBelow fold valueBy conditionBy apply settles lookFrom alongWithin support blamed lookedAt wayDown repairOf
 ways-are = refl
 
 -- P1: the product, by a, which is 0. P2: not free. P7: the read, by the store at its index. P11: equal branches, and
 -- others. The first branch picked by a free test. A read past a marked index, by the equal value beneath. A read past a
--- marked value, by the unmarked array.
+-- marked value, by the unmarked array. A read by a marked test of curves that are equal there, and of others. A read of
+-- the unmarked curve that a free test picks.
 pub settlers : List Told
 settlers =
     toldIn ruleG (0 ∷ 5 ∷ 1 ∷ []) 3 1
@@ -108,6 +122,9 @@ settlers =
     ∷ toldIn aside (1 ∷ 3 ∷ 4 ∷ []) 3 2
     ∷ toldIn markedIndex (42 ∷ 0 ∷ 2 ∷ []) 5 0
     ∷ toldIn markedValue (9 ∷ 0 ∷ 2 ∷ 7 ∷ []) 5 0
+    ∷ toldIn curves (1 ∷ 3 ∷ 3 ∷ 0 ∷ []) 5 0
+    ∷ toldIn curves (1 ∷ 3 ∷ 4 ∷ 0 ∷ []) 5 0
+    ∷ toldIn otherCurve (1 ∷ 3 ∷ 4 ∷ 0 ∷ []) 5 0
     ∷ []
 
 pub settlers-are : settlers
@@ -119,6 +136,9 @@ pub settlers-are : settlers
     ∷ record { by = Picked (record { first = 0; second = 1 }); though = Operand 2 }
     ∷ record { by = EqualBeneath (record { store = 4; term = 3 }); though = Index (record { store = 4; term = 1 }) }
     ∷ record { by = Unmarked 0; though = Stored (record { store = 4; term = 3 }) }
+    ∷ record { by = EqualBranches 3; though = Test (record { store = 3; term = 0 }) }
+    ∷ record { by = Untold; though = Test (record { store = 3; term = 0 }) }
+    ∷ record { by = Unmarked 1; though = Array 2 }
     ∷ []
-unfolding settlers toldIn fold valueBy conditionBy apply settles lookFrom stopWithin unfreeAt settlerOf
+unfolding settlers toldIn fold valueBy conditionBy apply settles lookFrom stopWithin unfreeWithin unfreeAt settlerOf
 settlers-are = refl

@@ -11,7 +11,7 @@ use Rattle.ops.specs.declared.Op.{Op}
 use Rattle.ops.specs.Condition.{settles}
 use Rattle.table.specs.declared.words.Term.{Term}
 use Rattle.table.specs.Terms.{terms, termAt}
-use Rattle.table.specs.Faults.{isVariable, isStore}
+use Rattle.table.specs.Faults.{isVariable, isStore, isChoice}
 use Rattle.table.specs.WellFormed.{WellFormed}
 use Rattle.setting.specs.Interpretation.{Interpretation, interpret}
 use Rattle.setting.specs.Cells.{look}
@@ -34,15 +34,15 @@ FreeSettles =
     → settles op n x y z c d e ≡ true
 
 -- What a value comes from suffices: of a well-formed table, under any marks, in any interpretation, a term whose
--- support is all free is free. It is no store, and no marked variable.
+-- support is all free is free. It is no store, no choice between arrays, and no marked variable.
 abbrev pub SupportSuffices : Type 0
 SupportSuffices =
     (limit : ℕ) (w : List ℕ) (marked : Term → Bool) (I : Interpretation) → WellFormed limit w
-    → (k : ℕ) → k < terms w → isStore (termAt w k) ≡ false → (isVariable (termAt w k) ≡ true → marked (termAt w k) ≡ false)
+    → (k : ℕ) → k < terms w → isStore (termAt w k) ≡ false → isChoice (termAt w k) ≡ false → (isVariable (termAt w k) ≡ true → marked (termAt w k) ≡ false)
     → ((i : ℕ) → names (support w (numbers w I (terms w)) (termAt w k)) i ≡ true → conditionAt w marked I i .free ≡ true)
     → conditionAt w marked I k .free ≡ true
 
--- It is short: a chain has at most 16 stores.
+-- It is short: a read passes at most 16 stores and choices.
 abbrev pub FewSources : Type 0
 FewSources = (limit : ℕ) (w values : List ℕ) → WellFormed limit w → (k : ℕ) → k < terms w → length (support w values (termAt w k)) ≤ 18
 
@@ -55,10 +55,11 @@ pub record Blamed (w values truths : List ℕ) (k : ℕ) : Type 0 where
   pub term : ℕ
   pub is : blames w values truths k term ≡ true
 
--- Term i, which term k blames: an earlier term, no store, and not free.
+-- Term i, which term k blames: an earlier term, no store and no choice between arrays, and not free.
 pub record Beneath (w truths : List ℕ) (k i : ℕ) : Type 0 where
   pub below : i < k
   pub no-store : isStore (termAt w i) ≡ false
+  pub no-choice : isChoice (termAt w i) ≡ false
   pub unfree : truthIn truths i ≡ false
 
 -- Term k is a marked variable or blames a term; and what it blames is beneath it.

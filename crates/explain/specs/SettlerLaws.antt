@@ -8,7 +8,7 @@ use lib.ListN.{getD}
 use Rattle.ops.specs.Numbers.{opOf}
 use Rattle.table.specs.declared.words.Term.{Term}
 use Rattle.table.specs.Terms.{terms, termAt, sortAt}
-use Rattle.table.specs.Faults.{isVariable, isStore}
+use Rattle.table.specs.Faults.{isVariable, isStore, isChoice}
 use Rattle.table.specs.WellFormed.{WellFormed}
 use Rattle.setting.specs.Interpretation.{Interpretation}
 use Rattle.evaluate.specs.Values.{valueAt, numbers}
@@ -17,15 +17,17 @@ use Rattle.judge.specs.Code.Labelled.{truthIn}
 use Rattle.explain.specs.declared.answers.Held.{Held}
 use Rattle.explain.specs.declared.answers.Pair.{Pair}
 use Rattle.explain.specs.declared.answers.Settled.{Settled}
-use Rattle.explain.specs.declared.answers.Settled.the-variants.{Untold, Alone, Picked, Equal, AtIndex, EqualBeneath, Unmarked}
+use Rattle.explain.specs.declared.answers.Settled.the-variants.{Untold, Alone, Picked, Equal, AtIndex, EqualBeneath, EqualBranches, Unmarked}
 use Rattle.explain.specs.Operands.{wouldSettle}
 use Rattle.explain.specs.Sources.{picked}
-use Rattle.explain.specs.Settlers.{someUnfree, freelyPast, settlerOf}
+use Rattle.explain.specs.Settlers.{someUnfree, freelyPast, freelyPicked, settlerOf}
 
--- A read at index j comes from array term a to term b: past stores at other indexes, each of which is free.
+-- A read at index j comes from array term a to term b: past stores at other indexes, each of which is free, and into the
+-- branches that free tests pick.
 pub data Reaches (w values truths : List ℕ) (j : ℕ) : ℕ → ℕ → Type 0 where
   arrived : {a : ℕ} → Reaches w values truths j a a
   onward : {a b : ℕ} → freelyPast w values truths j a ≡ true → Reaches w values truths j (termAt w a .p) b → Reaches w values truths j a b
+  inward : {a b : ℕ} → freelyPicked w truths a ≡ true → Reaches w values truths j (picked values (termAt w a)) b → Reaches w values truths j a b
 
 module _ (w : List ℕ) (marked : Term → Bool) (I : Interpretation) where
   abbrev pub value : ℕ → ℕ
@@ -83,7 +85,17 @@ module _ (w : List ℕ) (marked : Term → Bool) (I : Interpretation) where
     pub equal : valueAt w I (termAt w (held .store) .p) .cell j ≡ value (held .term)
     pub same : number ≡ value (held .term)
 
-  -- the variable at the chain's end is not marked: what it holds there is read
+  -- a choice between arrays whose test is not free; what is read in its branches is free, and equal
+  pub record SaysEqualBranches (j a number b : ℕ) : Type 0 where
+    pub reached : Reached j a b
+    pub choice : isChoice (termAt w b) ≡ true
+    pub test-unfree : free (termAt w b .p) ≡ false
+    pub first-free : conditionAt w marked I (termAt w b .q) .readFree j true ≡ true
+    pub second-free : conditionAt w marked I (termAt w b .r) .readFree j true ≡ true
+    pub equal : valueAt w I (termAt w b .q) .cell j ≡ valueAt w I (termAt w b .r) .cell j
+    pub same : number ≡ valueAt w I (termAt w b .q) .cell j
+
+  -- the variable at the end is not marked: what it holds there is read
   pub record SaysUnmarked (j a number b : ℕ) : Type 0 where
     pub reached : Reached j a b
     pub input : isVariable (termAt w b) ≡ true
@@ -98,6 +110,7 @@ module _ (w : List ℕ) (marked : Term → Bool) (I : Interpretation) where
   Says k (Equal pair) = SaysEqual k pair
   Says k (AtIndex held) = SaysAtIndex (value (termAt w k .q)) (termAt w k .p) (value k) held
   Says k (EqualBeneath held) = SaysEqualBeneath (value (termAt w k .q)) (termAt w k .p) (value k) held
+  Says k (EqualBranches b) = SaysEqualBranches (value (termAt w k .q)) (termAt w k .p) (value k) b
   Says k (Unmarked b) = SaysUnmarked (value (termAt w k .q)) (termAt w k .p) (value k) b
 
 -- something is told
@@ -108,6 +121,7 @@ told (Picked pair) = true
 told (Equal pair) = true
 told (AtIndex held) = true
 told (EqualBeneath held) = true
+told (EqualBranches b) = true
 told (Unmarked b) = true
 
 -- What the settler says is so: of each term of a well-formed table, by the values and truths of any interpretation

@@ -10,12 +10,12 @@ use Rattle.table.specs.declared.ranks.Rank.{Rank}
 use Rattle.table.specs.declared.ranks.Rank.the-variants.{Literal, Input, BoolUnary, BoolBinary, Equality, Choice, BvUnary, BvBinary, BvCompare, Read, Write, Other}
 use Rattle.table.specs.declared.words.Term.{Term}
 use Rattle.table.specs.Terms.{termAt}
-use Rattle.table.specs.Faults.{rank, isStore}
+use Rattle.table.specs.Faults.{rank, isStore, isChoice}
 use Rattle.judge.specs.Code.Labelled.{truthIn}
 use Rattle.explain.specs.declared.answers.Shape.{Shape}
 use Rattle.explain.specs.declared.answers.Shape.the-variants.{Leaf, Unary, Binary, Branches, Cell}
 use Rattle.explain.specs.declared.answers.Source.{Source}
-use Rattle.explain.specs.declared.answers.Source.the-variants.{Nothing, Operand, Index, Stored, Array}
+use Rattle.explain.specs.declared.answers.Source.the-variants.{Nothing, Operand, Index, Stored, Test, Array}
 
 -- the term that a source names, where there is one
 abbrev pub termOf : Source → ℕ
@@ -23,6 +23,7 @@ termOf Nothing = 0
 termOf (Operand k) = k
 termOf (Index held) = held .term
 termOf (Stored held) = held .term
+termOf (Test held) = held .term
 termOf (Array a) = a
 
 abbrev pub there : Source → Bool
@@ -30,39 +31,66 @@ there Nothing = false
 there (Operand k) = true
 there (Index held) = true
 there (Stored held) = true
+there (Test held) = true
 there (Array a) = true
 
 -- a store over an earlier term
 abbrev pub stacked : Term → ℕ → Bool
 stacked x a = isStore x && ltb (x .p) a
 
+-- a choice between two arrays, both earlier terms
+abbrev pub branched : Term → ℕ → Bool
+branched x a = isChoice x && ltb (x .q) a && ltb (x .r) a
+
 -- a read at index j goes past term a: a store at another index
 abbrev pub past : List ℕ → List ℕ → ℕ → ℕ → Bool
 past w values a j = let x = termAt w a in stacked x a && not (eqb (getD values (x .q) 0) j)
 
--- what it comes from at term a: of a store the index, and at the read's index the value; else the array itself
+-- the branch that a choice's test picks by its value
+abbrev pub picked : List ℕ → Term → ℕ
+picked values x = cond (holds (getD values (x .p) 0)) (x .q) (x .r)
+
+-- a read goes on from term a, past such a store or into a branch of a choice: to the store's array, or to the branch
+-- picked
+abbrev pub goes : List ℕ → List ℕ → ℕ → ℕ → Bool
+goes w values a j = past w values a j || branched (termAt w a) a
+
+abbrev pub next : List ℕ → List ℕ → ℕ → ℕ
+next w values a = let x = termAt w a in cond (isStore x) (x .p) (picked values x)
+
+-- of term a, x: a store's index, a store's value, a choice's test
+abbrev pub index : Term → ℕ → Source
+index x a = Index (record { store = a; term = x .q })
+
+abbrev pub stored : Term → ℕ → Source
+stored x a = Stored (record { store = a; term = x .r })
+
+abbrev pub test : Term → ℕ → Source
+test x a = Test (record { store = a; term = x .p })
+
+-- what it comes from at term a: of a store the index, and at the read's index the value; of a choice the test; else the
+-- array itself
 abbrev pub here : List ℕ → List ℕ → ℕ → ℕ → List Source
 here w values a j =
     let x = termAt w a in
-    cond (stacked x a)
-    (Index (record { store = a; term = x .q }) ∷ cond (eqb (getD values (x .q) 0) j) (Stored (record { store = a; term = x .r }) ∷ []) [])
-    (Array a ∷ [])
+    cond (stacked x a) (index x a ∷ cond (eqb (getD values (x .q) 0) j) (stored x a ∷ []) [])
+    (cond (branched x a) (test x a ∷ []) (Array a ∷ []))
 
--- from array term a inward, past at most left stores: the index of each store that it goes past, and what it comes
--- from where it stops
+-- and where it goes on
+abbrev pub passing : Term → ℕ → Source
+passing x a = cond (isStore x) (index x a) (test x a)
+
+-- from array term a inward, through at most left terms: the index of each store that it goes past, the test of each
+-- choice, and what it comes from where it stops
 unfoldable pub alongWithin : ℕ → List ℕ → List ℕ → ℕ → ℕ → List Source
 alongWithin zero w values a j = here w values a j
 alongWithin (suc left) w values a j =
-    let beneath = alongWithin left w values (termAt w a .p) j in
-    cond (past w values a j) (Index (record { store = a; term = termAt w a .q }) ∷ beneath) (here w values a j)
+    let beneath = alongWithin left w values (next w values a) j in
+    cond (goes w values a j) (passing (termAt w a) a ∷ beneath) (here w values a j)
 
--- an array's number falls along its chain, so its own is stores enough
+-- an array's number falls on the way, so its own is terms enough
 abbrev pub along : List ℕ → List ℕ → ℕ → ℕ → List Source
 along w values a j = alongWithin (suc a) w values a j
-
--- the branch that the test's value picks
-abbrev pub picked : List ℕ → Term → ℕ
-picked values x = cond (holds (getD values (x .p) 0)) (x .q) (x .r)
 
 -- a term by its operands
 abbrev pub shapeOf : Rank → Shape

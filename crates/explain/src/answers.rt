@@ -1,6 +1,6 @@
 // What is answered of a term.
 
-// A store, and its index or value.
+// A store, and its index or value; a choice between arrays, and its test.
 pub struct Held {
     pub store: u32,
     pub term: u32,
@@ -13,12 +13,13 @@ pub struct Pair {
 }
 
 // One thing that a term's value comes from: none; an operand of its own; of a read also the index of a store, the
-// value that a store holds, the array at the chain's end.
+// value that a store holds, the test of a choice between arrays, the array at the end.
 pub enum Source {
     Nothing,
     Operand(u32),
     Index(Held),
     Stored(Held),
+    Test(Held),
     Array(u32),
 }
 
@@ -33,7 +34,7 @@ pub enum Shape {
 
 // What settled a term that is free though an operand is not: nothing to tell; this operand alone; the test and the
 // branch that it picks; two branches that are equal; of a read the store at its index, a store whose value equals what
-// is read beneath it, the variable at the chain's end.
+// is read beneath it, a choice between arrays that are equal there, the variable at the end.
 pub enum Settled {
     Untold,
     Alone(u32),
@@ -41,5 +42,6 @@ pub enum Settled {
     Equal(Pair),
     AtIndex(Held),
     EqualBeneath(Held),
+    EqualBranches(u32),
     Unmarked(u32),
 }

@@ -19,6 +19,7 @@ pub use operands::would_settle;
 pub use repairs::repair;
 pub use settlers::settler;
 pub use settlers::unfree_operand;
+pub use sources::picked;
 pub use sources::source_at;
 pub use sources::term_of;
 pub use sources::there;

@@ -7,8 +7,8 @@ ghost use Rattle.table.specs.Faults.{rank};
 ghost use Rattle.explain.specs.declared.answers.Shape.the-variants.{Binary, Branches, Cell};
 ghost use Rattle.explain.specs.declared.answers.Source.the-variants.{Nothing};
 ghost use Rattle.explain.specs.Sources.{shapeOf};
-ghost use Rattle.explain.specs.Settlers.{unfreeTerm, open-store, unfreeHere, unfreeAlong, unfreeAt};
-ghost use Rattle.explain.specs.Settlers.{someUnfree, settlesAlone, freelyPast, settledHere, settledBy, settlerOf};
+ghost use Rattle.explain.specs.Settlers.{unfree, unfreeTerm, orElse, unfreeHere, unfreeAlong, unfreeAt, someUnfree};
+ghost use Rattle.explain.specs.Settlers.{settlesAlone, freely, settledHere, settledBy, settlerOf};
 use crate::answers::Held;
 use crate::answers::Pair;
 use crate::answers::Settled;
@@ -16,64 +16,81 @@ use crate::answers::Shape;
 use crate::answers::Source;
 use crate::operands::free_at;
 use crate::operands::would_settle;
+use crate::sources::branched;
+use crate::sources::index;
+use crate::sources::next;
 use crate::sources::past;
 use crate::sources::picked;
 use crate::sources::shape_of;
 use crate::sources::stacked;
+use crate::sources::stored;
+use crate::sources::term_of;
+use crate::sources::test;
 use crate::sources::there;
 use table::Term;
 use table::number_at;
+
+// A source, where its term is not free.
+fn unfree(truths: &[u32], s: Source) -> Source
+    ensures { λ r. ⌜ r ≡ unfree (now (truths .entry)) s ⌝ }
+{
+    if free_at(truths, term_of(s)) {
+        return Source::Nothing;
+    }
+    s
+}
 
 // Term `k`, where it is not free.
 fn unfree_term(truths: &[u32], k: u32) -> Source
     ensures { λ r. ⌜ r ≡ unfreeTerm (now (truths .entry)) k ⌝ }
 {
-    if free_at(truths, k) {
-        return Source::Nothing;
+    unfree(truths, Source::Operand(k))
+}
+
+// The first of two that is there.
+fn or_else(s: Source, rest: Source) -> Source
+    ensures { λ r. ⌜ r ≡ orElse s rest ⌝ }
+{
+    if there(s) {
+        return s;
     }
-    Source::Operand(k)
+    rest
 }
 
-// Whether term `a` is a store whose index and value are free.
-fn open_store(table: &[u32], truths: &[u32], a: u32) -> bool
-    ensures { λ r. ⌜ r ≡ open-store (now (table .entry)) (now (truths .entry)) a ⌝ }
+// What is not free at term `a`, `x`, of an array: a store's index, or its value; a choice's test; the variable.
+fn unfree_here(truths: &[u32], x: Term, a: u32) -> Source
+    ensures { λ r. ⌜ r ≡ unfreeHere (now (truths .entry)) x a ⌝ }
 {
-    let x = table::term_at(table, a);
-    stacked(x, a) & free_at(truths, x.q) & free_at(truths, x.r)
-}
-
-// What is not free at term `a` of a chain, which is no such store.
-fn unfree_here(table: &[u32], truths: &[u32], a: u32) -> Source
-    ensures { λ r. ⌜ r ≡ unfreeHere (now (table .entry)) (now (truths .entry)) a ⌝ }
-{
-    let x = table::term_at(table, a);
     if stacked(x, a) {
-        if free_at(truths, x.q) {
-            return Source::Stored(Held {
-                store: a,
-                term: x.r,
-            });
-        }
-        return Source::Index(Held {
-            store: a,
-            term: x.q,
-        });
+        return or_else(unfree(truths, index(x, a)), unfree(truths, stored(x, a)));
     }
-    if free_at(truths, a) {
-        return Source::Nothing;
+    if branched(x, a) {
+        return unfree(truths, test(x, a));
     }
-    Source::Array(a)
+    unfree(truths, Source::Array(a))
 }
 
-// The first thing along the whole chain of array term `a` that is not free, from the outermost store inward.
+// The first thing in the whole of array term `a` that is not free: at a store before what is beneath it, at a choice
+// before its branches, in q before r.
 fn unfree_along(table: &[u32], truths: &[u32], a: u32) -> Source
     ensures { λ r. ⌜ r ≡ unfreeAlong (now (table .entry)) (now (truths .entry)) a ⌝ }
 {
-    let mut at = a;
-    while open_store(table, truths, at) {
-        at = table::term_at(table, at).p;
+    let x = table::term_at(table, a);
+    let own = unfree_here(truths, x, a);
+    if there(own) {
+        return own;
     }
-    unfree_here(table, truths, at)
+    if stacked(x, a) {
+        return unfree_along(table, truths, x.p);
+    }
+    if !branched(x, a) {
+        return Source::Nothing;
+    }
+    let first = unfree_along(table, truths, x.q);
+    if there(first) {
+        return first;
+    }
+    unfree_along(table, truths, x.r)
 }
 
 // Number `i` of three.
@@ -117,8 +134,8 @@ fn unfree_at(table: &[u32], truths: &[u32], x: Term, i: u32) -> Source
     }
 }
 
-// Operand i of term k, 0 to 2 for p, q, r, where it is not free. Of a read: 0 is the first thing along its whole chain
-// that is not free, from the outermost store inward an index, a stored value, last the variable; 1 is its own index.
+// Operand i of term k, 0 to 2 for p, q, r, where it is not free. Of a read: 0 is the first thing in its whole array that
+// is not free, from the outermost inward an index, a stored value, a test, a variable; 1 is its own index.
 pub fn unfree_operand(table: &[u32], truths: &[u32], k: u32, i: u32) -> Source
     ensures { λ r. ⌜ r ≡ unfreeAt (now (table .entry)) (now (truths .entry)) (termAt (now (table .entry)) k) i ⌝ }
 {
@@ -174,18 +191,23 @@ fn choice_settler(table: &[u32], values: &[u32], truths: &[u32], x: Term) -> Set
     })
 }
 
-// Whether a read at index `j` goes past term `a` by a free test.
-fn freely_past(table: &[u32], values: &[u32], truths: &[u32], j: u32, a: u32) -> bool
-    ensures { λ r. ⌜ r ≡ freelyPast (now (table .entry)) (now (values .entry)) (now (truths .entry)) j a ⌝ }
+// Whether a read at index `j` goes on from term `a` by a free test: past a store, or into a branch of a choice.
+fn freely(table: &[u32], values: &[u32], truths: &[u32], j: u32, a: u32) -> bool
+    ensures { λ r. ⌜ r ≡ freely (now (table .entry)) (now (values .entry)) (now (truths .entry)) j a ⌝ }
 {
-    past(table, values, a, j) & free_at(truths, table::term_at(table, a).q)
+    let x = table::term_at(table, a);
+    let stored_past = past(table, values, a, j) & free_at(truths, x.q);
+    stored_past | (branched(x, a) & free_at(truths, x.p))
 }
 
-// What settles a read at term `a`, which it does not go past so.
+// What settles a read at term `a`, which it does not go on from so.
 fn settled_here(table: &[u32], truths: &[u32], a: u32) -> Settled
     ensures { λ r. ⌜ r ≡ settledHere (now (table .entry)) (now (truths .entry)) a ⌝ }
 {
     let x = table::term_at(table, a);
+    if branched(x, a) {
+        return Settled::EqualBranches(a);
+    }
     if !stacked(x, a) {
         return Settled::Unmarked(a);
     }
@@ -207,8 +229,8 @@ fn read_settler(table: &[u32], values: &[u32], truths: &[u32], x: Term) -> Settl
 {
     let j = number_at(values, x.q);
     let mut at = x.p;
-    while freely_past(table, values, truths, j, at) {
-        at = table::term_at(table, at).p;
+    while freely(table, values, truths, j, at) {
+        at = next(table, values, at);
     }
     settled_here(table, truths, at)
 }

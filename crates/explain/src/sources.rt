@@ -3,7 +3,8 @@ ghost use mathlib.Core.Path.{_≡_};
 ghost use mathlib.Core.List.{[], _∷_};
 ghost use lib.ListN.{getD};
 ghost use Rattle.explain.specs.declared.answers.Source.the-variants.{Nothing, Operand};
-ghost use Rattle.explain.specs.Sources.{termOf, there, stacked, past, here, along, picked, shapeOf, support};
+ghost use Rattle.explain.specs.Sources.{termOf, there, stacked, branched, past, picked, goes, next};
+ghost use Rattle.explain.specs.Sources.{index, stored, test, here, along, shapeOf, support};
 ghost use Rattle.table.specs.Faults.{rank};
 use crate::answers::Held;
 use crate::answers::Shape;
@@ -21,6 +22,7 @@ pub fn term_of(s: Source) -> u32
         Source::Operand(k) => k,
         Source::Index(held) => held.term,
         Source::Stored(held) => held.term,
+        Source::Test(held) => held.term,
         Source::Array(a) => a,
     }
 }
@@ -34,6 +36,7 @@ pub fn there(s: Source) -> bool
         Source::Operand(_) => true,
         Source::Index(_) => true,
         Source::Stored(_) => true,
+        Source::Test(_) => true,
         Source::Array(_) => true,
     }
 }
@@ -45,6 +48,13 @@ pub fn stacked(x: Term, a: u32) -> bool
     table::is_store(x) & (x.p < a)
 }
 
+// Whether term `a`, `x`, is a choice between two arrays, both earlier terms.
+pub fn branched(x: Term, a: u32) -> bool
+    ensures { λ r. ⌜ r ≡ branched x a ⌝ }
+{
+    table::is_choice(x) & (x.q < a) & (x.r < a)
+}
+
 // Whether a read at index `j` goes past term `a`: a store at another index.
 pub fn past(table: &[u32], values: &[u32], a: u32, j: u32) -> bool
     ensures { λ r. ⌜ r ≡ past (now (table .entry)) (now (values .entry)) a j ⌝ }
@@ -53,40 +63,85 @@ pub fn past(table: &[u32], values: &[u32], a: u32, j: u32) -> bool
     stacked(x, a) & (number_at(values, x.q) != j)
 }
 
+// The branch that a choice's test picks by its value.
+pub fn picked(values: &[u32], x: Term) -> u32
+    ensures { λ r. ⌜ r ≡ picked (now (values .entry)) x ⌝ }
+{
+    ops::ite(number_at(values, x.p) == 1, x.q, x.r)
+}
+
+// Whether a read at index `j` goes on from term `a`: past such a store, or into a branch of a choice.
+fn goes(table: &[u32], values: &[u32], a: u32, j: u32) -> bool
+    ensures { λ r. ⌜ r ≡ goes (now (table .entry)) (now (values .entry)) a j ⌝ }
+{
+    past(table, values, a, j) | branched(table::term_at(table, a), a)
+}
+
+// Where to: the store's array, or the branch picked.
+pub fn next(table: &[u32], values: &[u32], a: u32) -> u32
+    ensures { λ r. ⌜ r ≡ next (now (table .entry)) (now (values .entry)) a ⌝ }
+{
+    let x = table::term_at(table, a);
+    ops::ite(table::is_store(x), x.p, picked(values, x))
+}
+
+// Of term `a`, `x`: a store's index, a store's value, a choice's test.
+pub fn index(x: Term, a: u32) -> Source
+    ensures { λ r. ⌜ r ≡ index x a ⌝ }
+{
+    Source::Index(Held {
+        store: a,
+        term: x.q,
+    })
+}
+
+pub fn stored(x: Term, a: u32) -> Source
+    ensures { λ r. ⌜ r ≡ stored x a ⌝ }
+{
+    Source::Stored(Held {
+        store: a,
+        term: x.r,
+    })
+}
+
+pub fn test(x: Term, a: u32) -> Source
+    ensures { λ r. ⌜ r ≡ test x a ⌝ }
+{
+    Source::Test(Held {
+        store: a,
+        term: x.p,
+    })
+}
+
 // Number `i` of what a read at index `j` comes from at term `a` alone.
 fn here(table: &[u32], values: &[u32], a: u32, j: u32, i: usize) -> Source
     ensures { λ r. ⌜ r ≡ getD (here (now (table .entry)) (now (values .entry)) a j) i Nothing ⌝ }
 {
     let x = table::term_at(table, a);
-    if stacked(x, a) {
-        if i == 0 {
-            return Source::Index(Held {
-                store: a,
-                term: x.q,
-            });
-        }
-        if (i == 1) & (number_at(values, x.q) == j) {
-            return Source::Stored(Held {
-                store: a,
-                term: x.r,
-            });
-        }
+    let stored_there = (i == 1) & (number_at(values, x.q) == j);
+    if stacked(x, a) & stored_there {
+        return stored(x, a);
+    }
+    if i != 0 {
         return Source::Nothing;
     }
-    if i == 0 {
-        return Source::Array(a);
+    if stacked(x, a) {
+        return index(x, a);
     }
-    Source::Nothing
+    if branched(x, a) {
+        return test(x, a);
+    }
+    Source::Array(a)
 }
 
-// Number `i` of what a read of array term `a` at index `j` comes from, the outermost store first.
+// Number `i` of what a read of array term `a` at index `j` comes from, the outermost first.
 fn along(table: &[u32], values: &[u32], a: u32, j: u32, i: usize) -> Source
     ensures { λ r. ⌜ r ≡ getD (along (now (table .entry)) (now (values .entry)) a j) i Nothing ⌝ }
 {
     let mut at = a;
     let mut left = i;
-    while (0 < left) & past(table, values, at, j) {
-        at = table::term_at(table, at).p;
+    while (0 < left) & goes(table, values, at, j) {
+        at = next(table, values, at);
         left -= 1;
     }
     here(table, values, at, j, left)
@@ -111,14 +166,7 @@ fn two(p: u32, q: u32, i: usize) -> Source
     one(q, i - 1)
 }
 
-// The branch that the test's value picks.
-pub fn picked(values: &[u32], x: Term) -> u32
-    ensures { λ r. ⌜ r ≡ picked (now (values .entry)) x ⌝ }
-{
-    ops::ite(number_at(values, x.p) == 1, x.q, x.r)
-}
-
-// Number `i` of what a read comes from: its index, and what is along its chain.
+// Number `i` of what a read comes from: its index, and what is along its array.
 fn read(table: &[u32], values: &[u32], x: Term, i: usize) -> Source
     ensures { λ r. ⌜ r ≡ getD (Operand (x .q) ∷ along (now (table .entry)) (now (values .entry)) (x .p)
         (getD (now (values .entry)) (x .q) 0)) i Nothing ⌝ }

@@ -39,7 +39,7 @@ hexagon
 
 // The line of a node.
 fn line_of(x: Term) -> u32 {
-    if x.op == 16 {
+    if show::bare(x) {
         3
     } else if x.op == 1 {
         ops::ite(x.sort.m != 0, 2, 1)
@@ -51,9 +51,10 @@ fn line_of(x: Term) -> u32 {
 // The lines of a node's shape and colour: a variable is marked where it is not free.
 fn style(x: Term, free: bool) -> Numbers {
     let marked = (x.op == 1) & !free;
-    let applied = ops::ite(free | (x.op == 16), 11, 16);
+    let bare = show::bare(x);
+    let applied = ops::ite(free | bare, 11, 16);
     let shape = ops::ite(marked, 9, ops::ite(x.op == 1, 10, applied));
-    let color = ops::ite(x.op == 16, 13, ops::ite(free, 14, 15));
+    let color = ops::ite(bare, 13, ops::ite(free, 14, 15));
     two(shape, ops::ite(marked, 12, color))
 }
 

@@ -2,6 +2,7 @@
 // What is told of a term is lines, each by numbers for &: the first is a line of the text, 0 where there is none.
 use crate::settling::settled;
 use crate::settling::settling;
+use explain::Held;
 use explain::Operand;
 use explain::Source;
 use page::Numbers;
@@ -53,15 +54,18 @@ $Free though an operand is not:$
 &, but + and + are free and equal (?).$
 &, but store + holds + there, which is free.$
 &, but +, which store + holds, is free and equal to what is beneath.$
-&, but the read goes past its store to +, which is not marked.$
-$Why the condition is false, from the rule down:$
+&, but the read comes to +, which is not marked.$
+&, but both branches of choice + are free and equal there.$
 &,$    but + is free and ?.$
 &,$    but the test + is free and picks +, which is free.$
 &,$    but + and + are free and equal (?).$
 &,$    but store + holds + there, which is free.$
 &,$    but +, which store + holds, is free and equal to what is beneath.$
-&,$    but the read goes past its store to +, which is not marked.$
+&,$    but the read comes to +, which is not marked.$
+&,$    but both branches of choice + are free and equal there.$
+$Why the condition is false, from the rule down:$
 ? or -1
++, the test of choice +, is not free: it picks +.
 ",
         n,
         numbers,
@@ -129,7 +133,7 @@ fn settling_words(op: u32, second: bool, width: u32) -> Numbers {
     let all = all_ones(width);
     let both = (least == 0) & (all != 0) & explain::would_settle(f, width, all, second);
     let boolean = width == 0;
-    let line = ops::ite(both, 40, ops::ite(more, 13, 12));
+    let line = ops::ite(both, 42, ops::ite(more, 13, 12));
     page::five(line as u64, page::value(boolean, least), 0, 0, 0)
 }
 
@@ -213,13 +217,20 @@ fn freedom(free: bool) -> u64 {
     if free { 25 } else { 24 }
 }
 
+// The test of a choice between arrays, which is not free.
+fn test_told(table: &[u32], values: &[u32], held: Held) -> Numbers {
+    let picked = explain::picked(values, table::term_at(table, held.store));
+    push(43, three(held.term, held.store, picked))
+}
+
 // A source that is not free.
-fn source_told(s: Source) -> Numbers {
+fn source_told(table: &[u32], values: &[u32], s: Source) -> Numbers {
     match s {
         Source::Nothing => none(),
         Source::Operand(k) => two(16, k),
         Source::Index(held) => three(17, held.term, held.store),
         Source::Stored(held) => three(18, held.term, held.store),
+        Source::Test(held) => test_told(table, values, held),
         Source::Array(k) => two(19, k),
     }
 }
@@ -230,13 +241,13 @@ fn read_told(table: &[u32], values: &[u32], truths: &[u32], x: Term, i: u32) -> 
     if explain::free_at(truths, explain::term_of(s)) {
         return none();
     }
-    source_told(s)
+    source_told(table, values, s)
 }
 
 // Line `i` of a choice: the test, the two lines about its branches, the branch that it picks.
 fn choice_told(table: &[u32], values: &[u32], truths: &[u32], x: Term, i: u32) -> Numbers {
     let tested = explain::free_at(truths, x.p);
-    let picked = ops::ite(number_at(values, x.p) == 1, x.q, x.r);
+    let picked = explain::picked(values, x);
     if (i == 3) & !explain::free_at(truths, picked) {
         return two(15, picked);
     }

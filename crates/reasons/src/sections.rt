@@ -23,6 +23,7 @@ fn line_of(s: Settled) -> u32 {
         Settled::Equal(_) => 29,
         Settled::AtIndex(_) => 30,
         Settled::EqualBeneath(_) => 31,
+        Settled::EqualBranches(_) => 33,
         Settled::Unmarked(_) => 32,
     }
 }
@@ -36,6 +37,7 @@ fn numbers_of(table: &[u32], values: &[u32], s: Settled) -> Numbers {
         Settled::Equal(p) => push(p.first, push(p.second, valued(table, values, p.first))),
         Settled::AtIndex(h) => two(h.store, h.term),
         Settled::EqualBeneath(h) => two(h.term, h.store),
+        Settled::EqualBranches(k) => one(k),
         Settled::Unmarked(k) => one(k),
     }
 }
@@ -110,7 +112,7 @@ pub fn put_all_settled(
 
 // The heading of the way down.
 pub fn put_way_heading(page: &mut [u8], at: usize) -> usize {
-    say(page, at, b"", 33, none())
+    say(page, at, b"", 41, none())
 }
 
 // The terms on the way down from the rule.

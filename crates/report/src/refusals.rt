@@ -32,7 +32,7 @@ the slot is #, at most 255 is allowed
 the mark is #, at most 1 is allowed
 + has slot # as @, and here it is @
 + has slot # with mark #, and here it is #
-17 stores in the chain, at most 16 are allowed
+# stores and choices in the array, at most 16 are allowed
 the rule is @, and Bool is asked
 the cells have # numbers, not three for each cell
 the slot is #, and there are # values
@@ -90,7 +90,7 @@ const TOLD: [u32; 32] = [
     1,
     2,
     4,
-    0,
+    1,
     0,
     1,
     2,

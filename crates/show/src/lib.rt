@@ -140,9 +140,14 @@ pub fn value(s: Sort, v: u32, none: u64) -> u64 {
     }
 }
 
-// Whether a term is free, for ?; of a store the word for none.
+// Whether a term is a store or a choice between arrays, which have no condition.
+pub fn bare(x: Term) -> bool {
+    table::is_store(x) | table::is_choice(x)
+}
+
+// Whether a term is free, for ?; of one that has no condition the word for none.
 pub fn condition(x: Term, free: bool, none: u64) -> u64 {
-    if x.op == 16 { none } else { page::truth(free) }
+    if bare(x) { none } else { page::truth(free) }
 }
 
 // The line of a variable's mark: it is marked where it is not free.

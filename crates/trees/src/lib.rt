@@ -100,7 +100,7 @@ fn set(work: &mut [u32], i: u32, n: u32) {
 
 // The line of a term that is shown.
 fn line_of(x: Term) -> u32 {
-    if x.op == 16 {
+    if show::bare(x) {
         3
     } else if x.op == 1 {
         ops::ite(x.sort.m != 0, 2, 1)

@@ -1,12 +1,11 @@
 use mathlib.Core.Path.{_≡_, refl, sym, ap, _∙_}
 use mathlib.Core.Bool.{Bool, _&&_}
-use Prim.Native.Nat.{_-_}
+use Prim.Native.Nat.{ℕ, _-_}
 use native.Mathlib.Omega.{arith}
 use lib.Dec.{ltb}
 use lib.ListN.{getD}
 use borrow.Author.Tests.{ltb-true}
 use Rattle.ops.proofs.Booleans.{and-parts}
-use Rattle.table.specs.declared.words.Term.{Term}
 use Rattle.explain.specs.declared.answers.Source.the-variants.{Nothing}
 use Rattle.explain.specs.Sources.{along}
 use Rattle.explain.proofs.Alongs.{onward, stopped}
@@ -24,21 +23,21 @@ abbrev μ-loop : tie.MeasureT-loop
 sub-left : tie.Need-sub-left Inv-loop μ-loop
 sub-left c =
     let l = c .before .before .before .loop in
-    let some = ltb-true 0 (l .left) (and-parts (ltb 0 (l .left)) (c .before .before .past .result) (c .before .if1 .taken) .0) in
+    let some = ltb-true 0 (l .left) (and-parts (ltb 0 (l .left)) (c .before .before .goes .result) (c .before .if1 .taken) .0) in
     omega arith
 
 loop-less : tie.Need-loop-less Inv-loop μ-loop
 loop-less c =
     let l = c .before .before .before .loop in
-    let some = ltb-true 0 (l .left) (and-parts (ltb 0 (l .left)) (c .before .before .past .result) (c .before .if1 .taken) .0) in
+    let some = ltb-true 0 (l .left) (and-parts (ltb 0 (l .left)) (c .before .before .goes .result) (c .before .if1 .taken) .0) in
     omega arith
 
 loop-again : tie.Need-loop-again Inv-loop μ-loop
 loop-again c =
     let a = c .before .before .before .before .before .before .args in
     let l = c .before .before .before .loop in
-    ap (λ (y : Term). getD (along (a .table .now) (a .values .now) (y .p) (a .j)) (l .left - 1) Nothing) (c .term-at .ensures)
-    ∙ onward (a .table .now) (a .values .now) (a .j) (l .at) (l .left) (sym (ap (λ (b : Bool). ltb 0 (l .left) && b) (c .before .before .past .ensures)) ∙ c .before .if1 .taken)
+    ap (λ (n : ℕ). getD (along (a .table .now) (a .values .now) n (a .j)) (l .left - 1) Nothing) (c .next .ensures)
+    ∙ onward (a .table .now) (a .values .now) (a .j) (l .at) (l .left) (sym (ap (λ (b : Bool). ltb 0 (l .left) && b) (c .before .before .goes .ensures)) ∙ c .before .if1 .taken)
     ∙ l .inv
 
 returns : tie.Need-returns Inv-loop μ-loop
@@ -46,7 +45,7 @@ returns c =
     let a = c .before .before .before .before .before .before .args in
     let l = c .before .before .before .loop in
     c .here .ensures
-    ∙ stopped (a .table .now) (a .values .now) (a .j) (l .at) (l .left) (sym (ap (λ (b : Bool). ltb 0 (l .left) && b) (c .before .before .past .ensures)) ∙ c .before .if1 .left)
+    ∙ stopped (a .table .now) (a .values .now) (a .j) (l .at) (l .left) (sym (ap (λ (b : Bool). ltb 0 (l .left) && b) (c .before .before .goes .ensures)) ∙ c .before .if1 .left)
     ∙ l .inv
 
 pub along-spec : {M : Type 1} → statement M

@@ -30,10 +30,14 @@ impl Random {
 }
 
 /// What follows the first variables, over and over. Between them the first two have every operator of paper 01; the third, which
-/// is not timed, has those of request 05.
+/// is not timed, has those of request 05; the fourth has choices of arrays.
 const PLAIN: [u32; 20] = [12, 11, 14, 3, 8, 6, 7, 9, 4, 10, 13, 1, 2, 11, 5, 0, 14, 9, 3, 12];
 const WITH_ARRAYS: [u32; 20] = [16, 15, 16, 14, 11, 15, 3, 16, 12, 15, 6, 16, 4, 7, 15, 0, 16, 1, 13, 15];
 const SIGNED: [u32; 10] = [18, 19, 17, 20, 3, 18, 20, 19, 6, 4];
+const CHOOSING: [u32; 20] = [ITE, 15, 16, 14, ITE, 15, 11, 16, ITE, 15, 12, 6, ITE, 16, 15, 4, 7, 15, ITE, 15];
+
+/// Stands for a choice of arrays.
+const ITE: u32 = 107;
 
 /// A table being written. Vectors are 8 bits wide, arrays 8 bits from 8 bits.
 struct Writer {
@@ -41,7 +45,7 @@ struct Writer {
     table: Vec<u32>,
     values: Vec<u32>,
     array_slots: Vec<u32>,
-    /// Term numbers by sort; an array with its count of stores.
+    /// Term numbers by sort; an array with its size.
     booleans: Vec<u32>,
     vectors: Vec<u32>,
     arrays: Vec<(u32, u32)>,
@@ -104,6 +108,7 @@ impl Writer {
             }
             6 | 14 | 19 => self.truth([op, 0, 0, p, q, 0]),
             15 | 16 => self.array_operator(op, p, q),
+            ITE => self.array_choice(c),
             7 => self.number([7, 0, 8, c, p, q]),
             8 | 17 => self.number([op, 0, 8, p, 0, 0]),
             _ => self.number([op, 0, 8, p, q, 0]),
@@ -120,16 +125,25 @@ impl Writer {
         self.booleans.push(t);
     }
 
-    /// A read anywhere, or a store upon the newest array; after 16 stores upon the first.
+    /// A choice between the newest array and any; where they are too large, between the first two.
+    fn array_choice(&mut self, test: u32) {
+        let (newest, any) = (self.arrays[self.arrays.len() - 1], self.arrays[self.random.below(self.arrays.len())]);
+        let fit = newest.1 + any.1 < 16;
+        let [(q, of_q), (r, of_r)] = if fit { [newest, any] } else { [self.arrays[0], self.arrays[1]] };
+        let t = self.push([7, 8, 8, test, q, r]);
+        self.arrays.push((t, 1 + of_q + of_r));
+    }
+
+    /// A read anywhere, or a store upon the newest array; where that is too large upon the first.
     fn array_operator(&mut self, op: u32, p: u32, q: u32) {
         if op == 15 {
             let (array, _) = self.arrays[self.random.below(self.arrays.len())];
             self.number([15, 0, 8, array, p, 0]);
         } else {
             let newest = self.arrays[self.arrays.len() - 1];
-            let (array, stores) = if newest.1 < 16 { newest } else { self.arrays[0] };
+            let (array, size) = if newest.1 < 16 { newest } else { self.arrays[0] };
             let t = self.push([16, 8, 8, array, p, q]);
-            self.arrays.push((t, stores + 1));
+            self.arrays.push((t, size + 1));
         }
     }
 
@@ -145,19 +159,23 @@ impl Writer {
 
 /// Operators in turn, with or without arrays and 16 cells.
 pub fn mixed(terms: usize, arrays: bool) -> Input {
-    in_turn(terms, arrays, if arrays { &WITH_ARRAYS } else { &PLAIN })
+    in_turn(terms, arrays.into(), if arrays { &WITH_ARRAYS } else { &PLAIN })
 }
 
 /// The signed operators in turn, with some others.
 pub fn signed(terms: usize) -> Input {
-    in_turn(terms, false, &SIGNED)
+    in_turn(terms, 0, &SIGNED)
 }
 
-fn in_turn(terms: usize, arrays: bool, cycle: &[u32]) -> Input {
+/// Choices between arrays, with reads, stores and some others, and 16 cells.
+pub fn choosing(terms: usize) -> Input {
+    in_turn(terms, 2, &CHOOSING)
+}
+
+/// Operators in turn after so many array variables and some others.
+fn in_turn(terms: usize, arrays: usize, cycle: &[u32]) -> Input {
     let mut writer = Writer::new(terms as u64);
-    if arrays {
-        writer.variable(8, 8);
-    }
+    (0..arrays).for_each(|_| writer.variable(8, 8));
     writer.variable(0, 8);
     writer.variable(0, 8);
     writer.variable(0, 0);
@@ -166,7 +184,7 @@ fn in_turn(terms: usize, arrays: bool, cycle: &[u32]) -> Input {
     }
     let (p, q) = (writer.vector(), writer.vectors[writer.vectors.len() - 1]);
     writer.truth([14, 0, 0, p, q, 0]);
-    writer.input(if arrays { 16 } else { 0 })
+    writer.input(if arrays > 0 { 16 } else { 0 })
 }
 
 /// 16 reads of an array variable among so many cells: 8 find theirs, evenly spread, and 8 do not.
@@ -198,6 +216,21 @@ pub fn chained(reads: u32) -> Input {
     }
     table.extend([14, 0, 0, 1, 18 + reads, 0]);
     Input { table, values: vec![5, 7, 9], ..Input::default() }
+}
+
+/// So many reads of an array of size 16 by marked tests: of two array variables that agree, each choice between what is before it and
+/// that again. A read's condition asks all 17 variables that it meets.
+pub fn branched(reads: u32) -> Input {
+    let mut table = vec![1, 8, 8, 0, 0, 0, 1, 8, 8, 1, 0, 0, 1, 0, 0, 2, 1, 0, 1, 0, 8, 3, 0, 0, 7, 8, 8, 2, 0, 1];
+    for k in 4..7 {
+        table.extend([7, 8, 8, 2, k, k]);
+    }
+    table.extend([7, 8, 8, 2, 7, 0]);
+    for _ in 0..reads {
+        table.extend([15, 0, 8, 8, 3, 0]);
+    }
+    table.extend([14, 0, 0, 3, 8 + reads, 0]);
+    Input { table, values: vec![5, 5, 1, 7], ..Input::default() }
 }
 
 /// So many variables, each in a slot of its own, and as many sums of them.

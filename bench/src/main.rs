@@ -14,7 +14,7 @@ mod sides;
 mod solvers;
 mod typed;
 
-use inputs::{Input, Random, chained, mixed, reads_among, sheeted, variables};
+use inputs::{Input, Random, branched, chained, choosing, mixed, reads_among, sheeted, variables};
 use sides::{Library, ROUTINES, Routine, Rust, Side};
 use std::hint::black_box;
 
@@ -38,6 +38,8 @@ fn calls(words: &[String]) -> Option<()> {
         "variables" => variables(size),
         "sheet" => sheeted(size),
         "chained" => finished(&chained(size)),
+        "choices" => choosing(size as usize),
+        "branched" => branched(size),
         "typed" => typed::rule(size as usize),
         "names" => typed::names(size as usize),
         _ => return None,
@@ -59,7 +61,7 @@ fn main() {
         Some(_) => {
             eprintln!(
                 "usage: hiranthok-bench [solvers | calls library|rust ROUTINE KIND SIZE N]\n\
-                 KIND: plain, arrays, finished, cells, variables, sheet, chained; typed, names"
+                 KIND: plain, arrays, finished, cells, variables, sheet, chained, choices, branched; typed, names"
             );
             std::process::exit(2);
         }

@@ -2,7 +2,7 @@
 
 use crate::compare::{compare, compare_altered, compare_misprinted};
 use crate::finished;
-use crate::inputs::{Input, Random, chained, mixed, reads_among, sheeted, signed, variables};
+use crate::inputs::{Input, Random, branched, chained, choosing, mixed, reads_among, sheeted, signed, variables};
 use crate::measure::improve;
 use crate::sides::{Library, ROUTINES, Routine, Rust, Side};
 use crate::typed;
@@ -66,8 +66,9 @@ fn section(heading: &'static str, unit: &'static str, routines: &[Routine], inpu
     Section { heading, unit, lines: routines.iter().flat_map(|&routine| line(routine)).collect() }
 }
 
-/// Tables without and with arrays: each routine, and evaluating and printing the finished table; then a long one.
-fn ratio_sections() -> [Section; 3] {
+/// Tables without and with arrays: each routine, and evaluating and printing the finished table; then a long one; then choices of
+/// arrays, in turn with others and read 64 times at the largest size.
+fn ratio_sections() -> [Section; 4] {
     let of_finished = |input: &Input| {
         let line = |routine| Line::new(routine, finished(input), input.terms());
         [Routine::Evaluate, Routine::Print].map(line)
@@ -82,7 +83,13 @@ fn ratio_sections() -> [Section; 3] {
         Section { heading, unit: "term", lines }
     };
     let long = Section { heading: "A long table", unit: "term", lines: of_finished(&chained(479)).into() };
-    [section("No arrays", false), section("With arrays", true), long]
+    let choices = [choosing(64), choosing(512), branched(64)];
+    let lines = choices.iter().flat_map(|input| {
+        let line = |routine| Line::new(routine, input.clone(), input.terms());
+        [Routine::Finish, Routine::Evaluate, Routine::Judge].map(line)
+    });
+    let choices = Section { heading: "Choices of arrays", unit: "term", lines: lines.collect() };
+    [section("No arrays", false), section("With arrays", true), long, choices]
 }
 
 fn growth_sections() -> [Section; 5] {
@@ -169,13 +176,14 @@ fn print_growth(Section { heading, unit, lines }: &Section) {
 fn print_altered(random: &mut Random) {
     let sizes = [8, 64, 512];
     let (plain, arrays) = (sizes.map(|terms| mixed(terms, false)), sizes.map(|terms| mixed(terms, true)));
-    let inputs = [plain, arrays, sizes.map(signed), SHEETS.map(sheeted)].concat();
+    let choices = [choosing(8), choosing(64), choosing(512), branched(8)];
+    let inputs = [&plain[..], &arrays, &sizes.map(signed), &SHEETS.map(sheeted), &choices].concat();
     let refused: usize = inputs.iter().map(|input| compare_altered(input, ALTERED, random)).sum();
     let calls = inputs.len() * ALTERED * ROUTINES.len();
     println!("Both sides gave equal results on each input below before it was timed, and on {calls} calls with one");
     println!("number altered, of which {refused} were refused.");
     let measured = typed_sections().into_iter().flat_map(|section| section.lines).map(|line| line.input);
-    let texts: Vec<Input> = measured.chain([typed::signed()]).collect();
+    let texts: Vec<Input> = measured.chain([typed::signed(), typed::choices()]).collect();
     let refused: usize = texts.iter().map(|text| compare_misprinted(text, ALTERED, random)).sum();
     println!("So they did on {} misprinted texts, of which {refused} were refused.", texts.len() * ALTERED);
 }

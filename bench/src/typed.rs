@@ -1,4 +1,4 @@
-//! The typed rules that are measured, and one that is compared only. The same at each run.
+//! The typed rules that are measured, and two that are compared only. The same at each run.
 
 use crate::inputs::Input;
 
@@ -72,6 +72,24 @@ pub fn signed() -> Input {
         declaration(0, VECTOR),
         declaration(1, VECTOR),
         format!("(assert (bvslt (bvneg {0}) (bvashr (bvsub {1} {0}) {1})))\n", name(0), name(1)),
+    ];
+    input(&lines)
+}
+
+/// Choices of arrays.
+pub fn choices() -> Input {
+    let lines = [
+        declaration(0, "Bool"),
+        declaration(1, ARRAY),
+        declaration(2, ARRAY),
+        declaration(3, VECTOR),
+        format!(
+            "(assert (bvult (select (ite {0} (store {1} {3} {3}) (ite {0} {2} {1})) {3}) #b01011010))\n",
+            name(0),
+            name(1),
+            name(2),
+            name(3)
+        ),
     ];
     input(&lines)
 }

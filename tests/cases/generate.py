@@ -19,7 +19,7 @@ def fit(g, n):
 
 class Table:
     def __init__(self, g, size):
-        self.g, self.terms, self.by, self.slots, self.depth = g, [], collections.defaultdict(list), {}, []
+        self.g, self.terms, self.by, self.slots, self.size = g, [], collections.defaultdict(list), {}, []
         widths = g.choice([[8], [1, 2], [8, 3], [32], [32, 1], [1, 2, 8, 31, 32], [g.randint(1, 32), g.randint(1, 32)]])
         self.widths = widths
         self.marked = g.choice([0.1, 0.3, 0.5, 0.9])
@@ -33,8 +33,12 @@ class Table:
         t = len(self.terms)
         self.terms.append((op, s[0], s[1], p, q, r))
         self.by[s].append(t)
-        self.depth.append(self.depth[p] + 1 if op == 16 else 0)
+        self.size.append(self.size_of(op, s, p, q, r))
         return t
+
+    def size_of(self, op, s, p=0, q=0, r=0):
+        beneath = [p] if op == 16 else [q, r] if op == 7 and s[0] else []
+        return sum(self.size[x] for x in beneath) + bool(beneath)
 
     def leaf(self, s):
         g = self.g
@@ -71,7 +75,7 @@ class Table:
             o = g.choice([b, w])
             want, s = [o, o], b
         elif op == 7:
-            s = g.choice([b, w])
+            s = g.choice([b, w] + [(g.choice(self.widths), w[1])] * self.arrays)
             want = [b, s, s]
         elif op in (8, 17):
             want, s = [w], w
@@ -88,9 +92,8 @@ class Table:
             if got[k] is None or (g.random() < 0.05 and o[0] == 0):
                 self.leaf(o)
                 return
-        if op == 16 and self.depth[got[0]] >= 16:
-            return
-        self.put(op, s, *got)
+        if self.size_of(op, s, *got) <= 16:
+            self.put(op, s, *got)
 
     def rule(self):
         g, b, w = self.g, (0, 0), self.vector()
@@ -114,7 +117,7 @@ class Table:
             s = g.choice(arrays)
             m, n = self.slots[s][0]
             cells += [s, fit(g, m), fit(g, n)]
-        steps = sum(self.depth[t[3]] for t in self.terms if t[0] == 15)
+        steps = sum(self.size[t[3]] for t in self.terms if t[0] == 15)
         allowance = g.choice([steps, steps, steps + g.randrange(5), 4294967295, max(0, steps - 1)])
         return values, cells, allowance
 
@@ -209,7 +212,7 @@ def text_of(g, case):
     return text
 
 
-WORDS = [b"table", b"values", b"cells", b"allowance", b"sheet", b"sheets", b"shee", b"mark", b"keep", b"Table", b"tables", b"value", b"x", b"-1", b"+1", b"0x1", b"1a", b"a1",
+WORDS = [b"7", b"table", b"values", b"cells", b"allowance", b"sheet", b"sheets", b"shee", b"mark", b"keep", b"Table", b"tables", b"value", b"x", b"-1", b"+1", b"0x1", b"1a", b"a1",
          b"tablevalues", b"cellscellscells", b"4294967296", b"4294967295", b"99999999999999999999999", b"18446744073709551616",
          b"18446744073709551617", b"0000000000000000000000000000000000000001", b"1.0", b"1,", b"\xff", b"\x00", b"\x0e", b"\x08",
          b"\xc2\xa0", b"\x85", b"allowance0", b"table\x00", b"aaaaaaaaaaaaaaaaaaaaaaaaaaaatable", b"tabl", b"able", b"\xef\xbb\xbf", b"\xef\xbb\xbftable",
@@ -269,12 +272,12 @@ def marks(g):
 
 
 def signed(g):
-    """Signed operators over inputs and constants of one width, the last a comparison."""
+    """Signed operators and shifts over inputs and constants of one width, the last a comparison."""
     t = Table(g, 1)
     t.spread, t.marked, w = 20, 0.4, (0, g.choice([1, 2, 8, 8, 8, 32]))
     have = [t.leaf(w) for _ in range(3)]
     for _ in range(g.choice([0, 1, 1, 2, 4])):
-        op = g.choice([17, 18, 20, 20])
+        op = g.choice([13, 17, 18, 20, 20])
         have.append(t.put(op, w, *(g.choice(have) for _ in range(operand_count(op)))))
     t.put(19, (0, 0), *g.sample(have[-2:] if g.random() < 0.7 else have, 2))
     return t
@@ -302,18 +305,41 @@ def chain(g):
     return t
 
 
+def choices(g):
+    """Stores and choices of arrays, some too large, read at several places."""
+    t = Table(g, 1)
+    w, t.spread, limit = g.choice([1, 2, 8, 32]), 20, g.choice([16, 16, 16, 40])
+    tests, leaves = [t.leaf((0, 0)) for _ in range(3)], [t.leaf((0, w)) for _ in range(4)]
+    arrays = [a for a in (t.leaf((w, w)) for _ in range(3)) if a is not None]
+    reads = []
+    for _ in range(g.choice([1, 2, 3, 5, 8, 12]) if arrays else 0):
+        new, old = g.choice(arrays[-2:]), g.choice(arrays)
+        term = (7, (w, w), g.choice(tests), *g.choice([(new, old), (old, new), (new, new)]))
+        if g.random() < 0.35:
+            term = (16, (w, w), new, g.choice(leaves), g.choice(leaves + reads))
+        if t.size_of(*term) <= limit:
+            arrays.append(t.put(*term))
+        if g.random() < 0.3:
+            reads.append(t.put(15, (0, w), g.choice(arrays), g.choice(leaves)))
+            tests.append(t.put(g.choice([6, 14]), (0, 0), reads[-1], g.choice(leaves)))
+    if arrays:
+        leaves.append(t.put(15, (0, w), arrays[-1], g.choice(leaves)))
+    t.put(g.choice([6, 14, 19]), (0, 0), leaves[-1], g.choice(leaves + reads))
+    return t
+
+
 def any_sort(g, t):
     w = g.choice(t.widths)
-    return g.choice([(0, 0), (0, w), (0, g.choice([1, 8, 32])), (g.choice(t.widths), w)])
+    return g.choice([(0, 0), (0, w), (0, g.choice([1, 8, 32])), (g.choice(t.widths), w), (g.choice(t.widths), w)])
 
 
 def odd_term(g, t):
     """One more term, of any operator; one of its parts may have another sort than is asked."""
-    op = g.choice(list(range(21)) + [6, 7, 7, 14, 15, 15, 16, 16])
+    op = g.choice(list(range(21)) + [0, 0, 6, 6, 6, 6, 7, 7, 7, 7, 7, 14, 15, 15, 16, 16])
     m, n = g.choice(t.widths), g.choice(t.widths)
     v, b = (0, n), (0, 0)
-    x = g.choice([b, v])
-    want = {0: [x], 1: [x], 2: [b, b], 6: [b, x, x], 7: [x, b, x, x], 8: [v, v], 14: [b, v, v], 15: [v, (m, n), (0, m)],
+    x, y = g.choice([b, v]), g.choice([b, v, (m, n), (m, n)])
+    want = {0: [x], 1: [x], 2: [b, b], 6: [b, x, x], 7: [y, b, y, y], 8: [v, v], 14: [b, v, v], 15: [v, (m, n), (0, m)],
             16: [(m, n), (m, n), (0, m), v], 17: [v, v], 19: [b, v, v]}.get(op, [b, b, b] if op < 6 else [v, v, v])
     if g.random() < 0.9:
         want[g.randrange(len(want))] = any_sort(g, t)
@@ -324,8 +350,8 @@ def odd_term(g, t):
 def spoil_term(g, t, table):
     """A change of one term that breaks a rule of the table."""
     three = [x for x, term in enumerate(t.terms) if operand_count(term[0]) == 3]
-    k = 6 * g.choice(three if three and g.random() < 0.3 else range(len(t.terms)))
-    count, what = operand_count(table[k]), g.randrange(6)
+    k = 6 * g.choice(three if three and g.random() < 0.5 else range(len(t.terms)))
+    count, what = operand_count(table[k]), g.choice([0, 1, 2, 2, 3, 3, 4, 4, 4, 5])
     if what == 0:
         table[k] = g.choice([21, 22, 4294967295])
     elif what == 1:
@@ -360,10 +386,10 @@ def spoil_cells(g, t, cells):
 
 
 def spoil(g, t, table, sheet, values, cells, allowance):
-    what = g.randrange(12)
-    if what >= 9 or g.random() < 0.1:
+    what = g.randrange(14)
+    if what >= 11 or g.random() < 0.1:
         sheet = spoil_sheet(g, sheet)
-    if what >= 9 and g.random() < 0.8:
+    if what >= 11 and g.random() < 0.8:
         return table, sheet, values, cells, allowance
     if what < 4:
         spoil_term(g, t, table)
@@ -381,14 +407,15 @@ def spoil(g, t, table, sheet, values, cells, allowance):
 
 
 def sure(g):
-    """Files at the limits, and one past each; a file with a byte-order mark."""
+    """Files at the limits, and one past each; a byte-order mark; a cut sheet; allowances of two numbers and of none. Of each four
+    the second is finished or printed too."""
     base, limit = b"table 1 0 0 0 0 0\nvalues 1\ncells\n", b"\nallowance 3"
     lines = b"sheet " + b"0 0 0\n" * ((OTHERS - 2) // 3)          # with a value and the allowance, as many as may be
     wide = widest(g)
     values, cells, allowance = wide.setting()
     table = [x for term in wide.terms for x in term] + [2, 0, 0, len(wide.terms) - 1, 0, 0]
     return [b"\xef\xbb\xbf" + base + limit,
-            base + b"0 " * (OTHERS - 2) + limit,
+            base + limit + b"\nsheet 1 0",
             base + b"0 " * (OTHERS - 1) + limit,
             base + lines + limit,
             base + lines + b"1" + limit,
@@ -398,11 +425,15 @@ def sure(g):
             b"table " + b"0 0 0 1 0 0\n" * 80000 + b" 7 values cells allowance 0",
             base + b"allowance 3;" + b"x" * (LIMIT - len(base) - 12),
             base + b"allowance 3;" + b"x" * (LIMIT - len(base) - 11),
-            text_of(g, (table, wide.sheet(), values, cells, 4294967295))]
+            text_of(g, (table, wide.sheet(), values, cells, 4294967295)),
+            base + limit + b" 4",
+            base + b"0 " * (OTHERS - 2) + limit,
+            base + b"\nallowance"]
 
 
-KINDS = {"whole": 20, "chain": 12, "marks": 3, "signed": 8, "spoilt": 24, "odd": 20, "numbers": 4, "text": 12, "both": 3, "random": 2, "wide": 0.3}
-MAKERS = {"wide": widest, "chain": chain, "marks": marks, "signed": signed}
+KINDS = {"whole": 16, "chain": 11, "choices": 9, "marks": 4, "signed": 12, "spoilt": 28, "odd": 24,
+         "numbers": 4, "text": 12, "both": 3, "random": 2, "wide": 0.3}
+MAKERS = {"wide": widest, "chain": chain, "choices": choices, "marks": marks, "signed": signed}
 
 
 def make(g):

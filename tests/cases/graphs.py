@@ -13,7 +13,7 @@ sys.path.insert(0, os.path.join(os.path.dirname(os.path.abspath(__file__)), "ref
 from casefile import read_case
 from explaining import support, way_down
 from judging import Setting
-from words import NAMES, is_array, operands, operator, value_name
+from words import NAMES, has_condition, is_array, operands, operator, value_name
 
 TOKEN = re.compile(r'\s+|//[^\n]*|/\*.*?\*/|(?:(?<=\n)|^)#[^\n]*|(?P<string>"(?:[^"\\]|\\.)*")|(?P<word>[A-Za-z_\d.]+)|'
                    r'(?P<sign>->|[{}\[\]=;,])', re.S)
@@ -120,10 +120,11 @@ def styles(given):
 def node_faults(j, t, given):
     term = j.terms[t]
     marked = j.marked(term)
-    shape = "octagon" if marked else "box" if term[0] == 1 else "ellipse" if term[0] == 16 or j.free[t] else "hexagon"
+    bare = not has_condition(term)
+    shape = "octagon" if marked else "box" if term[0] == 1 else "ellipse" if bare or j.free[t] else "hexagon"
     if given.get("shape", "ellipse") != shape:
         yield "t%d has not the shape %s" % (t, shape)
-    fill = "orange" if marked else "white" if term[0] == 16 else "green" if j.free[t] else "red"
+    fill = "orange" if marked else "white" if bare else "green" if j.free[t] else "red"
     held = given.get("fillcolor", "")
     if "filled" not in styles(given) or {f for f in FILLS if f in held} != {fill}:
         yield "t%d is not filled %s" % (t, fill)

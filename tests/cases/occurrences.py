@@ -15,12 +15,13 @@ REASONS = {
     6: ["the term is %s, and %s is asked" % (SORT, a) for a in ("Bool", r"BitVec \d+", "a BitVec", "an Array", "no Array")] +
        [r"operand p, t\d+, is %s, and %s is asked" % (SORT, a)
         for a in ("Bool", r"BitVec \d+", r"Array \d+ \d+", "a BitVec", "an Array", "no Array")] +
-       [r"operand %s, t\d+, is %s, and %s is asked" % (f, SORT, a) for f in "qr" for a in ("Bool", r"BitVec \d+")],
+       [r"operand %s, t\d+, is %s, and %s is asked" % (f, SORT, a) for f in "qr"
+        for a in ("Bool", r"BitVec \d+", r"Array \d+ \d+")],
     7: [r"the constant is \d+, at most \d+ fits %s" % s for s in ("Bool", r"BitVec \d+")] +
        [r"the slot is \d+, at most 255 is allowed", r"the mark is \d+, at most 1 is allowed"],
     8: [r"t\d+ has slot \d+ as %s, and here it is %s" % (SORT, SORT),
         r"t\d+ has slot \d+ with mark \d, and here it is \d"],
-    9: ["17 stores in the chain, at most 16 are allowed"],
+    9: [r"%s stores and choices in the array, at most 16 are allowed" % n for n in ("17", r"(?:1[89]|[23]\d)")],
     10: ["the rule is %s, and Bool is asked" % s for s in (r"BitVec \d+", r"Array \d+ \d+")],
     11: [r"the cells have \d+ numbers, not three for each cell", "the cells have 1 number, not three for each cell"],
     12: [r"the slot is \d+, and there are \d+ values", r"the slot is \d+, and there is 1 value"],
@@ -63,7 +64,8 @@ SETTLED = [
     r"%st\d+ is not free, but store t\d+ holds t\d+ there, which is free\." % TERM,
     r"    but store t\d+ holds t\d+ there, which is free\.",
     r"(?:%st\d+ is not free,|   ) but t\d+, which store t\d+ holds, is free and equal to what is beneath\." % TERM,
-    r"(?:%st\d+ is not free,|   ) but the read goes past its store to t\d+, which is not marked\." % TERM,
+    r"(?:%st\d+ is not free,|   ) but the read comes to t\d+, which is not marked\." % TERM,
+    r"(?:%st\d+ is not free,|   ) but both branches of choice t\d+ are free and equal there\." % TERM,
 ]
 WHY = [r"    No value of one operand settles %s: both must be free\." % op for op in ("=", "bvadd", "bvsub")] + [
     r"    A free operand would have settled it\.",
@@ -110,7 +112,7 @@ VERDICTS = ["The setting passes: .*", "The setting does not pass: the rule is fa
             "The setting does not pass: the marked inputs .*", "The setting does not pass: the rule is false, and .*"]
 LINES = [".*: passes", ".*: does not pass: the rule is false", ".*: does not pass: the marked inputs may matter",
          ".*: does not pass: the rule is false and the marked inputs may matter"]
-TREE = [r".*t\d+: see above", r".*t\d+: see below", r".*t\d+ store", r".*: array, free", r".*: array, not free, marked",
+TREE = [r".*t\d+: see above", r".*t\d+: see below", r".*t\d+ store", r".*t\d+ ite", r".*: array, free", r".*: array, not free, marked",
         r".* constant = \w+, free", r".* = \w+, not free, marked"]
 NOTES = [r".*:\d+: note: this line of the table has \d+ numbers, no multiple of six",
          r".*:\d+: note: this line of the table has 1 number, no multiple of six"]
@@ -122,7 +124,8 @@ TEXT = [r"\(declare-const v\d+ %s\)" % sort for sort in ("Bool", VECTOR, r"\(Arr
     r"\(define-fun t\d+ \(\) .* \(%s(?: %s){%d}\)\)" % (word, NAME, operands) for words, operands in (
         ("not bvnot bvneg", 1),
         ("and or => = bvand bvor bvadd bvmul bvshl bvult bvsub bvslt bvashr select", 2),
-        ("ite store", 3)) for word in words.split()]
+        ("ite store", 3)) for word in words.split()] + [
+    r"\(define-fun t\d+ \(\) \(Array .*\) \(ite(?: %s){3}\)\)" % NAME]
 
 WANTED = [("judge", ".*:\\d+: refused %d at (?:term|cell|place|sheet line) \\d+: %s" % (number, reason))
           for number, reasons in REASONS.items() for reason in reasons]

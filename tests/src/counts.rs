@@ -1,5 +1,6 @@
 //! What occurred in a run, and what must occur, so that the test cannot go blind.
 
+mod choices;
 mod parsing;
 mod sheets;
 
@@ -67,6 +68,9 @@ impl Counts {
             3..=9 => {
                 let op = case.table[6 * answer.numbers[0] as usize].min(LAST + 1);
                 self.count(("refusal, operator", answer.number, op));
+                if matches!(answer.number, 6 | 9) {
+                    choices::observe_refused(self, case, answer.number, answer.numbers[0] as usize);
+                }
                 if answer.number == 6 {
                     self.observe_like_operands(case, &Term::of(&case.table[6 * answer.numbers[0] as usize..][..6]));
                 }
@@ -153,6 +157,7 @@ impl Counts {
         if case.routine == Routine::Judge {
             self.count(("rule, condition", answer.numbers[0] as u32, answer.numbers[1] as u32));
             self.observe_terms(case, &answer.room);
+            choices::observe_judged(self, case, &answer.room);
             self.observe_cells(case);
         }
         if case.routine == Routine::Print {
@@ -162,6 +167,7 @@ impl Counts {
 
     /// The words, numerals, bits and sorts of a text, and where slots and terms stand.
     fn observe_printed(&mut self, case: &Case) {
+        choices::observe_text(self, "printed: a choice of arrays", &case.table);
         let terms: Vec<Term> = case.table.chunks(6).map(Term::of).collect();
         let mut slots = vec![];
         for (number, t) in terms.iter().enumerate() {
@@ -184,14 +190,19 @@ impl Counts {
         }
     }
 
-    /// Operators, widths, chains and conditions of a judged table; `room` holds values and conditions.
+    /// Operators, widths, chains and conditions of a judged table; `room` holds values and conditions. Choices of arrays, and reads of
+    /// arrays with such a choice, are counted elsewhere.
     fn observe_terms(&mut self, case: &Case, room: &[u32]) {
         let n = case.terms();
-        let mut stores = vec![0; n];
+        let mut stores = vec![Some(0); n];
         let mut slots = BTreeMap::new();
         for (number, term) in case.table.chunks(6).enumerate() {
             let t = Term::of(term);
             let width = if compares(t.op) { case.table[6 * t.p as usize + 2] } else { t.n };
+            if t.op == CHOICE && t.m != 0 {
+                stores[number] = None;
+                continue;
+            }
             self.count(("operator, width", t.op, width));
             self.observe_signs(&t, width, room);
             match t.op {
@@ -201,11 +212,13 @@ impl Counts {
                         self.count(("slot used again, kind of sort", kind(term), 0));
                     }
                 }
-                STORE => stores[number] = stores[t.p as usize] + 1,
+                STORE => stores[number] = stores[t.p as usize].map(|stores| stores + 1),
                 READ => {
-                    self.count(("read, stores in its chain", stores[t.p as usize], 0));
                     self.count(("read, index width", case.table[6 * t.p as usize + 1], 0));
-                    self.observe_read(case, room, &t, room[n + number] == 1);
+                    if let Some(stores) = stores[t.p as usize] {
+                        self.count(("read, stores in its chain", stores, 0));
+                        self.observe_read(case, room, &t, room[n + number] == 1);
+                    }
                 }
                 _ if room[n + number] == 1 => self.observe_settled(&t, width, room.split_at(n)),
                 _ => {}
@@ -331,6 +344,7 @@ fn wanted() -> Vec<Key> {
     wanted_of_texts(&mut keys);
     parsing::wanted(&mut keys);
     sheets::wanted(&mut keys);
+    choices::wanted(&mut keys);
     keys
 }
 
@@ -364,12 +378,13 @@ fn wanted_of_tables(keys: &mut Vec<Key>) {
     for op in SCALAR {
         let forbidden: &[u32] = match op {
             NOT | AND | OR | IMPLIES => &[1, 2],
-            EQUAL | CHOICE => &[2],
+            EQUAL => &[2],
+            CHOICE => &[],
             _ => &[0, 2],
         };
         keys.extend(forbidden.iter().map(|&kind| (LIKE, op, kind)));
     }
-    keys.extend([("refusal, operator", 7, CONSTANT), ("refusal, operator", 7, VARIABLE)]);
+    keys.extend([(7, CONSTANT), (7, VARIABLE), (9, CHOICE), (9, STORE)].map(|(number, op)| ("refusal, operator", number, op)));
     wanted_of_conditions(keys);
     keys.extend((0..=16).map(|length| ("read, stores in its chain", length, 0)));
     keys.extend((0..=15).map(|depth| ("read from store, from outside", depth, 0)));

@@ -1,6 +1,7 @@
-//! Paper 01's bench examples, the texts of requests 01 and 02, request 03's less, request 05's operators, request 06's sheets, and a
-//! case for each point that the papers leave open, with the expected answers.
+//! Paper 01's bench examples, the texts of requests 01 and 02, request 03's less, request 05's operators, request 06's sheets, request
+//! 07's choices of arrays, and a case for each point that the papers leave open, with the expected answers.
 
+mod choices;
 pub mod sheets;
 mod signed;
 mod typed;
@@ -137,6 +138,7 @@ pub fn all() -> Vec<Example> {
     examples.extend(less());
     examples.extend(signed::all());
     examples.extend(sheets::all());
+    examples.extend(choices::all());
     examples.extend(open_points());
     examples.extend(open_points_of_settings());
     examples.extend(texts());

@@ -10,7 +10,7 @@ const RULES: [&str; 4] = [
     "( declare-const a Bool ) ( assert a ) ( check-sat )",
     "( assert true ) ( check-sat )",
     "( declare-const x1 ( _ BitVec 8 ) ) ( declare-const t ( Array ( _ BitVec 8 ) ( _ BitVec 4 ) ) ) \
-     ( assert ( = ( select ( store t x1 #b0101 ) ( bvnot x1 ) ) ( ite false #b0000 ( select t x1 ) ) ) ) \
+     ( assert ( = ( select ( store t x1 #b0101 ) ( bvnot x1 ) ) ( ite false #b0000 ( select ( ite true t t ) x1 ) ) ) ) \
      ( assert ( not ( bvult ( bvshl x1 ( bvand x1 x1 ) ) ( bvor x1 #b00000001 ) ) ) ) ( check-sat )",
     "( declare-const a Bool ) ( declare-const x2 ( _ BitVec 3 ) ) ( assert ( => ( and a ( or a true ) ) a ) ) \
      ( assert ( = ( bvadd x2 ( bvmul x2 x2 ) ) #b101 ) ) ( assert a ) \

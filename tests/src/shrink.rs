@@ -58,13 +58,13 @@ impl Shrinker<'_> {
         }
     }
 
-    /// Puts an operand in the place of its list, from the end.
+    /// Puts an operand in the place of its list, apart from the words beside it, from the end.
     fn lift_operands(&mut self) {
         for at in (0..words(&self.best.text, Flaw::None).len()).rev() {
             for part in 1..=3 {
                 self.attempt(|c| {
                     if let Some((list, operand)) = list_at(&c.text, at, part) {
-                        let operand = c.text[operand].to_vec();
+                        let operand = [b" ", &c.text[operand], b" "].concat();
                         c.text.splice(list, operand);
                     }
                 });

@@ -7,6 +7,7 @@ use crate::examples::{self, h};
 use crate::printed::{self, differ_in_order};
 use crate::reference::flaw::{Flaw, FLAWS};
 use crate::reference::setting::Content;
+use crate::reference::term::*;
 use crate::reference::{admission, values, Reference};
 use crate::shrink::shrink;
 use std::collections::BTreeMap;
@@ -74,7 +75,13 @@ fn every_flaw_is_found_and_shrunk() {
         let fails = |case: &Case| found.check.fault(&flawed, &REFERENCE, case).is_some();
         let small = shrink(&found.case, Duration::from_secs(10), &fails);
         assert!(fails(&small), "{name}: what is printed still fails");
-        assert!(small.terms() <= 12 && small.sheet.len() <= 12 && small.text.len() <= 500, "{name}: {small}");
+        let terms = match flaw {
+            // 17 stores or choices; a room that fits one text.
+            Flaw::SeventeenAllowed | Flaw::OnlyReadSizes => 22,
+            Flaw::TextSpare => 60,
+            _ => 12,
+        };
+        assert!(small.terms() <= terms && small.sheet.len() <= 12 && small.text.len() <= 500, "{name}: {small}");
     }
 }
 
@@ -85,7 +92,8 @@ fn pairs_alone_find_conditions_that_are_too_weak() {
     let signed = [Flaw::SignedByOnes, Flaw::SignedExchanged, Flaw::AmountSettles, Flaw::SixthByAmount];
     let first = [Flaw::JoinsIndexes, Flaw::FactorAlone, Flaw::PickedBranch, Flaw::IndexUnasked];
     let sheets = [Flaw::TableMarks, Flaw::KeepWins, Flaw::FirstLine, Flaw::LastSlotLeftOut, Flaw::UnnamedUnmarked];
-    for flaw in first.into_iter().chain(less).chain(signed).chain(sheets) {
+    let arrays = [Flaw::PickedArray, Flaw::OtherArrayFree, Flaw::EqualReadsAlone, Flaw::StepsOfBranch];
+    for flaw in first.into_iter().chain(less).chain(signed).chain(sheets).chain(arrays) {
         let flawed = Reference { flaw };
         let mut comparison = Comparison::new(&flawed, &flawed);
         let pair = |d: &Difference| matches!(d.check, Check::Pair(_));
@@ -221,4 +229,62 @@ fn only_the_example_of_our_own_tells_how_a_read_is_joined() {
     };
     assert_eq!(flawed.call(&case).numbers[1], 1);
     assert_eq!(REFERENCE.call(&case).numbers[1], 0);
+}
+
+/// The table with each read of a store or a choice as a choice: of the stored value and what is beneath, of the branches' reads. Only
+/// variables are read then.
+fn reads_as_choices(table: &[u32]) -> Vec<[u32; 6]> {
+    let given: Vec<Term> = table.chunks(6).map(Term::of).collect();
+    let (mut terms, mut now): (Vec<[u32; 6]>, Vec<u32>) = (vec![], vec![]);
+    for t in &given {
+        let moved = |at: usize| if at < t.operands() { now[t.fields()[at] as usize] } else { t.fields()[at] };
+        match t.op {
+            READ => drop(pushed_in(&given, &now, &mut terms, t.p, t.q)),
+            STORE => {}
+            CHOICE if t.m != 0 => {}
+            _ => terms.push([t.op, t.m, t.n, moved(0), moved(1), moved(2)]),
+        }
+        now.push(terms.len() as u32 - 1);
+    }
+    terms
+}
+
+/// Adds what a read of an array at the index that is term j is, and gives its number.
+fn pushed_in(given: &[Term], now: &[u32], terms: &mut Vec<[u32; 6]>, array: u32, j: u32) -> u32 {
+    let a = given[array as usize];
+    let at = |term: u32| now[term as usize];
+    let last = match a.op {
+        VARIABLE => [READ, 0, a.n, at(array), at(j), 0],
+        STORE => {
+            let beneath = pushed_in(given, now, terms, a.p, j);
+            terms.push([EQUAL, 0, 0, at(a.q), at(j), 0]);
+            [CHOICE, 0, a.n, terms.len() as u32 - 1, at(a.r), beneath]
+        }
+        _ => {
+            let (q, r) = (pushed_in(given, now, terms, a.q, j), pushed_in(given, now, terms, a.r, j));
+            [CHOICE, 0, a.n, at(a.p), q, r]
+        }
+    };
+    terms.push(last);
+    terms.len() as u32 - 1
+}
+
+/// A read of a store or of a choice has the value and the condition of that choice.
+#[test]
+fn a_read_is_a_choice_of_reads() {
+    let (mut compared, mut with_choices) = (0, 0);
+    for number in 0..20_000 {
+        let mut random = crate::random::Random::new(number);
+        let judged = crate::generate::round(&mut random, number).into_iter().filter(|case| case.routine == Routine::Judge);
+        for case in judged.filter(|case| REFERENCE.call(case).number == 0) {
+            let table = reads_as_choices(&case.table);
+            let other = REFERENCE.call(&Case { table: table.concat(), room: 2 * table.len(), ..case.clone() });
+            if table.len() <= 512 {
+                assert_eq!(other.numbers[..2], REFERENCE.call(&case).numbers[..2], "{case}");
+                compared += 1;
+                with_choices += u32::from(case.table.chunks(6).any(|t| t[0] == CHOICE && t[1] != 0));
+            }
+        }
+    }
+    assert!(compared > 3000 && with_choices > 300, "{compared} tables, {with_choices} with choices of arrays");
 }

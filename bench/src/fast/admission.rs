@@ -1,6 +1,6 @@
 //! Refusals 1 to 10, and what later stages use of an admitted table.
 
-use super::{Refusal, STORES, Term, largest};
+use super::{LARGEST, Refusal, Term, largest};
 
 /// What is learnt of a table on the way through it. `N` is at least its count of terms.
 pub struct Known<const N: usize> {
@@ -9,8 +9,8 @@ pub struct Known<const N: usize> {
     /// The first variable term of each slot in use, ascending.
     pub firsts: [u32; 256],
     pub firsts_len: usize,
-    /// By array term: the stores in its chain.
-    pub depth: [u8; N],
+    /// By array term: its size.
+    pub sizes: [u8; N],
     /// The sum over the reads.
     pub steps: u64,
 }
@@ -18,11 +18,21 @@ pub struct Known<const N: usize> {
 impl<const N: usize> Known<N> {
     #[inline(always)]
     pub fn new() -> Self {
-        Known { slots: [0; 256], firsts: [0; 256], firsts_len: 0, depth: [0; N], steps: 0 }
+        Known { slots: [0; 256], firsts: [0; 256], firsts_len: 0, sizes: [0; N], steps: 0 }
     }
 
     pub fn firsts(&self) -> &[u32] {
         &self.firsts[..self.firsts_len]
+    }
+
+    /// Array term t is over others of this size together: 9, or 0.
+    #[inline(always)]
+    fn sized(&mut self, t: usize, beneath: u8) -> u32 {
+        if beneath >= LARGEST {
+            return 9;
+        }
+        self.sizes[t] = beneath + 1;
+        0
     }
 }
 
@@ -114,7 +124,10 @@ fn fault<const N: usize>(terms: &[Term], t: usize, known: &mut Known<N>) -> u32 
         2 => first_of(one, || s | at(p) == 0),
         3..=5 => first_of(two, || s | at(p) | at(q) == 0),
         6 => first_of(two, || s == 0 && at(p) == at(q) && at(p) as u32 == 0),
-        7 => first_of(three, || m == 0 && at(p) == 0 && at(q) == s && at(r) == s),
+        7 => match first_of(three, || at(p) == 0 && at(q) == s && at(r) == s) {
+            0 if m != 0 => known.sized(t, known.sizes[q as usize] + known.sizes[r as usize]),
+            number => number,
+        },
         8 | 17 => first_of(one, || is_vector(s) && at(p) == s),
         9..=13 | 18 | 20 => first_of(two, || is_vector(s) && at(p) == s && at(q) == s),
         14 | 19 => first_of(two, || s == 0 && is_vector(at(p)) && at(p) == at(q)),
@@ -151,7 +164,7 @@ fn read<const N: usize>(terms: &[Term], term: &Term, bounds: bool, known: &mut K
         m == 0 && index != 0 && n == width && sort(&terms[q as usize]) == vector(index)
     });
     if number == 0 {
-        known.steps += u64::from(known.depth[p as usize]);
+        known.steps += u64::from(known.sizes[p as usize]);
     }
     number
 }
@@ -164,13 +177,5 @@ fn store<const N: usize>(terms: &[Term], t: usize, bounds: bool, known: &mut Kno
         let (array, index, value) = (terms[p as usize], terms[q as usize], terms[r as usize]);
         m != 0 && sort(&array) == sort(term) && sort(&index) == vector(m) && sort(&value) == vector(n)
     });
-    if number != 0 {
-        return number;
-    }
-    let beneath = known.depth[p as usize];
-    if beneath == STORES {
-        return 9;
-    }
-    known.depth[t] = beneath + 1;
-    0
+    if number == 0 { known.sized(t, known.sizes[p as usize]) } else { number }
 }

@@ -101,6 +101,10 @@ fn read(terms: &[Term], cells: &[Cell], values: &[u32], work: &[u32], term: &Ter
         if op == 1 {
             return held(cells, values, p, index);
         }
+        if op == 7 {
+            array = if work[p as usize] == 1 { q } else { r };
+            continue;
+        }
         if work[q as usize] == index {
             return work[r as usize];
         }

@@ -251,6 +251,82 @@ fn shift_right() {
     assert_eq!(shifted(32, [0, 0], [1 << 31, 31], u32::MAX), (1, 1));
 }
 
+/// Test, two arrays and an index in slots 0 to 3 with these marks: what the array that the test picks holds there is below 90.
+fn curves(marks: [u32; 4]) -> Vec<u32> {
+    let [c, a, b, i] = marks;
+    [
+        [1, 0, 0, 0, c, 0],
+        [1, 8, 8, 1, a, 0],
+        [1, 8, 8, 2, b, 0],
+        [1, 0, 8, 3, i, 0],
+        [7, 8, 8, 0, 1, 2],
+        [15, 0, 8, 4, 3, 0],
+        [0, 0, 8, 90, 0, 0],
+        [14, 0, 0, 5, 6, 0],
+    ]
+    .concat()
+}
+
+/// Of the curves, finished: the read's group, from term 10 on.
+const GROUP_OF_CURVES: [[u32; 6]; 10] = [
+    [3, 0, 0, 8, 8, 0],
+    [3, 0, 0, 8, 8, 0],
+    [15, 0, 8, 1, 3, 0],
+    [15, 0, 8, 2, 3, 0],
+    [7, 0, 0, 0, 10, 11],
+    [3, 0, 0, 9, 14, 0],
+    [3, 0, 0, 10, 11, 0],
+    [6, 0, 0, 12, 13, 0],
+    [3, 0, 0, 16, 17, 0],
+    [4, 0, 0, 15, 18, 0],
+];
+
+#[test]
+fn choices_of_arrays() {
+    assert_eq!(verdict(&curves([1, 0, 0, 0]), &[1, 50, 50, 7]), (1, 1));
+    assert_eq!(verdict(&curves([1, 0, 0, 0]), &[1, 50, 60, 7]), (1, 0));
+    assert_eq!(verdict(&curves([1, 0, 1, 0]), &[1, 50, 50, 7]), (1, 0));
+    assert_eq!(verdict(&curves([0, 0, 1, 0]), &[1, 50, 60, 7]), (1, 1));
+    assert_eq!(verdict(&curves([0, 0, 1, 0]), &[0, 50, 60, 7]), (1, 0));
+    assert_eq!(verdict(&curves([0, 1, 0, 0]), &[0, 50, 95, 7]), (0, 1));
+    assert_eq!(verdict(&curves([0, 0, 0, 1]), &[1, 50, 50, 7]), (1, 0));
+    let (mut work, mut answer) = ([5; 17], [0; 4]);
+    assert_eq!(judge(&curves([1, 0, 0, 0]), &[], &[1, 50, 50, 7], &[], 1, &mut work, &mut answer), 0);
+    assert_eq!((answer, work), ([1, 1, 1, 0], [1, 0, 0, 7, 0, 50, 90, 1, 0, 1, 1, 1, 0, 1, 1, 1, 5]));
+    let mut room = [9; 6 * 30];
+    assert_eq!(finish(&curves([1, 0, 0, 0]), &mut room, &mut answer), 0);
+    assert_eq!((answer, &room[60..120]), ([30, 28, 29, 0], GROUP_OF_CURVES.as_flattened()));
+    assert!(text(&curves([1, 0, 0, 0])).contains("t4 () (Array (_ BitVec 8) (_ BitVec 8)) (ite v0 v1 v2))\n"));
+}
+
+/// A test and an array, choices between the array before and that again, then one more term and a rule.
+fn tower(choices: u32, more: [u32; 6]) -> Vec<u32> {
+    let mut table = vec![1, 0, 0, 0, 0, 0, 1, 8, 8, 1, 0, 0];
+    table.extend((1..=choices).flat_map(|array| [7, 8, 8, 0, array, array]));
+    table.extend(more);
+    table.extend([2, 0, 0, 0, 0, 0]);
+    table
+}
+
+#[test]
+fn sizes() {
+    let refused = |table: &[u32]| {
+        let mut answer = [9; 4];
+        (admit(table, &mut answer), answer[0])
+    };
+    assert_eq!(refused(&tower(4, [7, 8, 8, 0, 5, 1])), (0, 0));
+    assert_eq!(refused(&tower(4, [7, 8, 8, 0, 5, 5])), (9, 6));
+    assert_eq!(refused(&tower(4, [7, 8, 8, 0, 2, 5])), (9, 6));
+    assert_eq!(refused(&tower(4, [7, 8, 8, 1, 5, 5])), (6, 6));
+    assert_eq!(refused(&tower(4, [7, 8, 9, 0, 5, 5])), (6, 6));
+    assert_eq!(refused(&tower(4, [6, 0, 0, 5, 5, 0])), (6, 6));
+    let steps = [[1, 0, 0, 0, 0, 0], [1, 8, 8, 1, 0, 0], [1, 0, 8, 2, 0, 0], [16, 8, 8, 1, 2, 2], [7, 8, 8, 0, 3, 1]];
+    let table = [steps.concat(), vec![15, 0, 8, 4, 2, 0, 6, 0, 0, 5, 2, 0]].concat();
+    let mut answer = [0; 4];
+    assert_eq!(evaluate(&table, &[0, 9, 9], &[], 2, &mut [0; 7], &mut answer), 0);
+    assert_eq!(answer, [2, 0, 0, 0]);
+}
+
 fn chain(stores: u32) -> Vec<u32> {
     let mut table = vec![1, 8, 8, 0, 1, 0, 1, 0, 8, 1, 0, 0];
     table.extend((0..stores).flat_map(|k| [16, 8, 8, if k == 0 { 0 } else { k + 1 }, 1, 1]));
@@ -327,10 +403,23 @@ fn typed_rules() {
     assert_eq!(asserted(&format!("{}a{}", "(not ".repeat(65), ")".repeat(65))), (33, at(5 * 64)));
 }
 
-/// The measured rules have the terms that their names say, and the compared one is a rule.
+/// The measured tables with choices of arrays are taken, and read them.
+#[test]
+fn measured_choices() {
+    for input in [64, 512].map(crate::inputs::choosing).into_iter().chain([8, 64].map(crate::inputs::branched)) {
+        let (mut work, mut answer) = (vec![0; 2 * input.terms()], [0; 4]);
+        let number = judge(&input.table, &[], &input.values, &input.cells, u64::MAX, &mut work, &mut answer);
+        assert_eq!((number, answer[2] > 0), (0, true));
+        assert!(input.table.as_chunks::<6>().0.iter().any(|term| term[0] == 7 && term[1] != 0));
+    }
+    assert_eq!(verdict(&crate::inputs::branched(2).table, &[5, 5, 1, 7]), (0, 1));
+}
+
+/// The measured rules have the terms that their names say, and the compared ones are rules.
 #[test]
 fn measured_rules() {
     assert_eq!(read(&String::from_utf8(crate::typed::signed().typed).unwrap()), (0, 36));
+    assert_eq!(read(&String::from_utf8(crate::typed::choices().typed).unwrap()), (0, 60));
     for terms in [8, 64, 512] {
         assert_eq!(read(&String::from_utf8(crate::typed::rule(terms).typed).unwrap()), (0, 6 * terms as u64));
     }

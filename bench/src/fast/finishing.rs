@@ -1,7 +1,7 @@
 //! The finished table: the terms, T, F, the groups, and the conjunction of rule and condition.
 
 use super::admission::{Known, admitted};
-use super::{Refusal, STORES, TERMS, Term, answered, greatest, ones};
+use super::{LARGEST, Refusal, TERMS, Term, answered, greatest, ones};
 
 const NOT: u32 = 2;
 const AND: u32 = 3;
@@ -20,7 +20,7 @@ pub fn finish(table: &[u32], room: &mut [u32], answer: &mut [u64; 4]) -> u32 {
 fn finished(table: &[u32], room: &mut [u32]) -> Result<[u64; 4], Refusal> {
     let mut known = Known::<TERMS>::new();
     let terms = admitted(table, TERMS, &mut known)?;
-    let added: usize = terms.iter().map(|term| added(term, &known.depth)).sum();
+    let added: usize = terms.iter().map(|term| added(term, &known.sizes)).sum();
     let needed = terms.len() + added + 3;
     let room = room.as_chunks_mut::<6>().0;
     if room.len() < needed {
@@ -41,10 +41,13 @@ fn finished(table: &[u32], room: &mut [u32]) -> Result<[u64; 4], Refusal> {
 
 /// How many terms a group has.
 #[inline(always)]
-fn added(term: &Term, depth: &[u8; TERMS]) -> usize {
+fn added(term: &Term, sizes: &[u8; TERMS]) -> usize {
     const ADDED: [u8; 21] = [0, 0, 0, 7, 5, 6, 1, 6, 0, 8, 8, 1, 8, 6, 9, 1, 0, 0, 1, 9, 9];
-    let stores = if term[0] == READ { depth[term[3] as usize] } else { 0 };
-    usize::from(ADDED[term[0] as usize]) + 9 * usize::from(stores)
+    match term[0] {
+        READ => 1 + 9 * usize::from(sizes[term[3] as usize]),
+        CHOICE if term[1] != 0 => 0,
+        op => usize::from(ADDED[op as usize]),
+    }
 }
 
 /// A finished table being written.
@@ -91,7 +94,7 @@ impl Groups<'_> {
     /// Writes a term's group; the number of its condition.
     #[inline(always)]
     fn group(&mut self, terms: &[Term], term: &Term) -> u32 {
-        let &[op, _, n, p, q, r] = term;
+        let &[op, m, n, p, q, r] = term;
         let (yes, no) = (terms.len() as u32, terms.len() as u32 + 1);
         match op {
             0 => yes,
@@ -101,7 +104,7 @@ impl Groups<'_> {
             4 => self.group_or(p, q),
             5 => self.group_implies(p, q),
             6 | 11 | 18 => self.and(self.condition(p), self.condition(q)),
-            7 => self.group_choice(p, q, r),
+            7 if m == 0 => self.group_choice(p, q, r),
             9 | 12 => self.group_absorbing(n, 0, p, q),
             10 => self.group_absorbing(n, ones(n), p, q),
             13 => self.group_shift(n, p, q),
@@ -201,21 +204,40 @@ impl Groups<'_> {
         self.or(by_test, by_branches)
     }
 
+    /// From the bottom of a chain of stores, which is a variable or a choice, outward.
     #[inline(always)]
     fn group_read(&mut self, terms: &[Term], n: u32, array: u32, index: u32) -> u32 {
-        let mut chain = [0; STORES as usize];
+        let mut chain = [0; LARGEST as usize];
         let (mut stores, mut bottom) = (0, array);
-        while terms[bottom as usize][0] != 1 {
+        while terms[bottom as usize][0] == 16 {
             chain[stores] = bottom;
             stores += 1;
             bottom = terms[bottom as usize][3];
         }
-        let c = self.condition(index);
-        let mut below = self.and(self.condition(bottom), c);
+        let mut below = match terms[bottom as usize][0] {
+            1 => self.and(self.condition(bottom), self.condition(index)),
+            _ => self.group_array_choice(terms, &terms[bottom as usize], index),
+        };
         for &store in chain[..stores].iter().rev() {
             below = self.group_store(&terms[store as usize], n, index, below);
         }
         below
+    }
+
+    /// The groups of both branches, and the eight terms of the choice.
+    #[inline(never)]
+    fn group_array_choice(&mut self, terms: &[Term], choice: &Term, index: u32) -> u32 {
+        let &[_, _, n, test, q, r] = choice;
+        let d = self.group_read(terms, n, q, index);
+        let e = self.group_read(terms, n, r, index);
+        let of_q = self.push([READ, 0, n, q, index, 0]);
+        let of_r = self.push([READ, 0, n, r, index, 0]);
+        let taken = self.push([CHOICE, 0, 0, test, d, e]);
+        let by_test = self.and(self.condition(test), taken);
+        let both = self.and(d, e);
+        let same = self.equal(of_q, of_r);
+        let by_branches = self.and(both, same);
+        self.or(by_test, by_branches)
     }
 
     /// The nine terms of one store of a read's chain.

@@ -4,7 +4,7 @@ use super::admission::{Known, admitted};
 use super::evaluation::{operation, variable};
 use super::setting::{afforded, checked, held};
 use super::sheet::named;
-use super::{Cell, Refusal, TERMS, Term, answered, greatest, ones};
+use super::{Cell, LARGEST, Refusal, TERMS, Term, answered, greatest, ones};
 
 #[inline(never)]
 pub fn judge(
@@ -37,6 +37,7 @@ fn judged(
     for (t, term) in terms.iter().enumerate() {
         (work[t], truths[t]) = match term[0] {
             1 => (variable(term, values), named.free(term[3], term[4])),
+            7 if term[1] != 0 => (0, 0),
             15 => Chain { terms, cells, values, work, truths }.read(term),
             _ => (operation(term, terms, work), condition(term, terms, work, truths)),
         };
@@ -91,13 +92,17 @@ struct Chain<'a> {
 }
 
 impl Chain<'_> {
-    /// The value at an index, from the outermost store inward.
+    /// The value at an index, from the outermost store inward; of a choice in the branch taken.
     #[inline(always)]
     fn value(&self, mut array: u32, index: u32) -> u32 {
         loop {
             let [op, _, _, p, q, r] = self.terms[array as usize];
             if op == 1 {
                 return held(self.cells, self.values, p, index);
+            }
+            if op == 7 {
+                array = if self.work[p as usize] == 1 { q } else { r };
+                continue;
             }
             if self.work[q as usize] == index {
                 return self.work[r as usize];
@@ -119,31 +124,54 @@ impl Chain<'_> {
 
     /// A store whose index is free answers where the indexes are equal, else passes the question on.
     /// A store whose index is not free needs a free stored value, equal to what the array beneath
-    /// holds: `beneath` is the value on which all such stores agree so far.
+    /// holds: `beneath` is the value on which all that was asked agrees so far. A choice whose test is
+    /// free passes the question to the branch taken. Where the test is not free both branches must be
+    /// free and agree: the one that is not taken is asked later.
     #[inline(always)]
     fn at_free_index(&self, mut array: u32, index: u32) -> (u32, u32) {
         let (mut found, mut beneath) = (None, None);
+        let (mut later, mut count) = ([0; LARGEST as usize], 0);
         loop {
             let [op, _, _, p, q, r] = self.terms[array as usize];
-            if op == 1 {
-                let value = held(self.cells, self.values, p, index);
-                let agreed = beneath.is_none_or(|other| other == value);
-                return (found.unwrap_or(value), self.truths[array as usize] & u32::from(agreed));
-            }
-            let (stored, free) = (self.work[r as usize], self.truths[r as usize]);
-            let (equal, sure) = (self.work[q as usize] == index, self.truths[q as usize] == 1);
-            if equal || !sure {
-                let agreed = beneath.is_none_or(|other| other == stored);
-                let free = free & u32::from(agreed);
-                if equal {
-                    found = found.or(Some(stored));
+            if op == 7 {
+                let (taken, other) = if self.work[p as usize] == 1 { (q, r) } else { (r, q) };
+                if self.truths[p as usize] == 0 {
+                    later[count] = other;
+                    count += 1;
                 }
-                if sure || free == 0 {
-                    return (found.unwrap_or_else(|| self.value(p, index)), free);
-                }
-                beneath = Some(stored);
+                array = taken;
+                continue;
             }
+            let (value, free, here, sure) = match op {
+                1 => (held(self.cells, self.values, p, index), self.truths[array as usize], true, true),
+                _ => self.stored(q, r, index),
+            };
+            if !here && sure {
+                array = p;
+                continue;
+            }
+            if here {
+                found = found.or(Some(value));
+            }
+            if free == 0 || beneath.is_some_and(|other| other != value) {
+                return (found.unwrap_or_else(|| self.value(p, index)), 0);
+            }
+            beneath = Some(value);
             array = p;
+            if sure {
+                if count == 0 {
+                    return (found.unwrap_or(value), 1);
+                }
+                count -= 1;
+                array = later[count];
+            }
         }
+    }
+
+    /// Of a store: its value, whether it is free, whether it is at this index, and whether its index is free.
+    #[inline(always)]
+    fn stored(&self, at: u32, value: u32, index: u32) -> (u32, u32, bool, bool) {
+        let (at, value) = (at as usize, value as usize);
+        (self.work[value], self.truths[value], self.work[at] == index, self.truths[at] == 1)
     }
 }

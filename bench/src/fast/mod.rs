@@ -34,8 +34,8 @@ const FINISHED: usize = 80_000;
 /// Number and place.
 type Refusal = (u32, u64);
 
-/// An admitted table has at most 16 stores in a chain.
-const STORES: u8 = 16;
+/// The size of an array in an admitted table is at most 16.
+const LARGEST: u8 = 16;
 
 /// The value with n ones; the largest that fits n bits, n from 1 to 32.
 #[inline(always)]

@@ -20,16 +20,35 @@ class Refused(Exception):
 
 
 class Table:
-    """Admitted terms; how many stores stand over each array's variable; the first variable of each slot."""
+    """Admitted terms; the size of each array, and whether a choice is in it; the first variable of each slot."""
 
     def __init__(self):
-        self.terms, self.depth, self.first = [], [], {}
+        self.terms, self.size, self.chosen, self.first = [], [], [], {}
+
+    def add(self, term):
+        if term[0] == 1:
+            self.first.setdefault(term[3], len(self.terms))
+        self.terms.append(term)
+        self.size.append(self.size_of(term))
+        self.chosen.append(self.is_chosen(term))
+
+    def beneath(self, term):
+        """The arrays over which a store or a choice of arrays stands."""
+        op, m, n, p, q, r = term
+        return [p] if op == 16 else [q, r] if op == 7 and m else []
+
+    def size_of(self, term):
+        """0 for a variable, 1 more than all beneath for a store and a choice."""
+        return sum(self.size[x] for x in self.beneath(term)) + bool(self.beneath(term))
+
+    def is_chosen(self, term):
+        return bool(self.beneath(term)) and (term[0] == 7 or any(self.chosen[x] for x in self.beneath(term)))
 
     def sort(self, t):
         return self.terms[t][1:3]
 
     def steps(self):
-        return sum(self.depth[term[3]] for term in self.terms if term[0] == 15)
+        return sum(self.size[term[3]] for term in self.terms if term[0] == 15)
 
 
 def sort_fault(m, n):
@@ -64,7 +83,7 @@ def askings(op, own, first):
     if op == 6:
         return [(None, BOOL), (0, "no Array"), (1, first)]
     if op == 7:
-        return [(None, "no Array"), (0, BOOL), (1, own), (2, own)]
+        return [(0, BOOL), (1, own), (2, own)]
     if op <= 13 or op in (17, 18, 20):
         return [(None, "a BitVec"), (0, own), (1, own)]
     if op in (14, 19):
@@ -122,18 +141,23 @@ def clash(table, term):
     return "t%d has slot %d with mark %d, and here it is %d" % (t, p, mark, q) if mark != q else None
 
 
+def size_fault(table, term):
+    size = table.size_of(term)
+    return "%d stores and choices in the array, at most 16 are allowed" % size if size > 16 else None
+
+
 def term_fault(table, t, term):
     """The lowest number that applies at a term, with its reason."""
     op, m, n, p, q, r = term
     if op > 20:
         return 3, "the op is %d, at most 20 is allowed" % op
     checks = ((4, lambda: sort_fault(m, n)), (5, lambda: field_fault(t, term)), (6, lambda: sorts_fault(table, term)),
-              (7, lambda: leaf_fault(term)), (8, lambda: clash(table, term)))
+              (7, lambda: leaf_fault(term)), (8, lambda: clash(table, term)), (9, lambda: size_fault(table, term)))
     for refusal, check in checks:
         reason = check()
         if reason:
             return refusal, reason
-    return (9, "17 stores in the chain, at most 16 are allowed") if op == 16 and table.depth[p] == 16 else None
+    return None
 
 
 def admit(case, limit):
@@ -150,10 +174,7 @@ def admit(case, limit):
         fault = term_fault(table, t, term)
         if fault:
             raise Refused(fault[0], t, case.line(b"table", 6 * t), fault[1])
-        table.terms.append(term)
-        table.depth.append(table.depth[term[3]] + 1 if term[0] == 16 else 0)
-        if term[0] == 1:
-            table.first.setdefault(term[3], t)
+        table.add(term)
     if table.sort(t) != BOOL:
         raise Refused(10, t, case.line(b"table", 6 * t), "the rule is %s, and Bool is asked" % sort_name(table.sort(t)))
     return table

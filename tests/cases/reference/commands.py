@@ -10,7 +10,7 @@ from explaining import evaluate_rows, explain, repair, way_down
 from finishing import Finished, finish
 from judging import Setting
 from printing import text as solver_text
-from words import BOOL, NAMES, is_array, operands, smt_sort, truth
+from words import BOOL, NAMES, has_condition, is_array, operands, smt_sort, truth
 
 OPTIONS = {"judge": ["--json"], "explain": ["--json"], "tree": ["--color", "--no-color"],
            "evaluate": [], "finish": [], "graph": [], "print": [], "print-finished": []}
@@ -80,7 +80,7 @@ def json_term(j, t, way):
         if j.marks.line[term[3]] is not None:
             out["sheet_line"] = j.marks.line[term[3]]
     out["value"] = None if is_array(sort) else bool(value) if sort == BOOL else value
-    out["free"] = None if term[0] == 16 else bool(j.free[t])
+    out["free"] = bool(j.free[t]) if has_condition(term) else None
     out["way"] = t in way
     return out
 

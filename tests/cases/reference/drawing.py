@@ -1,6 +1,6 @@
 """The rule as a tree of text, and as a graph for Graphviz."""
 from explaining import support, way_down
-from words import NAMES, is_array, operands, value_name
+from words import NAMES, has_condition, is_array, operands, value_name
 
 LEVELS = 12
 PLAIN = {"free": "free", "not free": "not free", "marked": "marked"}
@@ -25,8 +25,8 @@ class Tree:
 
     def text(self, t):
         term = self.j.terms[t]
-        if term[0] == 16:
-            return "t%d store" % t
+        if not has_condition(term):
+            return "t%d %s" % (t, name(term))
         is_what = ": array" if is_array(term[1:3]) else " = " + value_name(term, self.j.v[t])
         text = "t%d %s%s, %s" % (t, name(term), is_what, self.words["free" if self.j.free[t] else "not free"])
         return text + (", " + self.words["marked"] if self.j.marked(term) else "")
@@ -54,8 +54,9 @@ def tree(j, colour):
 def node(j, t):
     term = j.terms[t]
     marked = j.marked(term)
-    shape = "octagon" if marked else "box" if term[0] == 1 else "ellipse" if term[0] == 16 or j.free[t] else "hexagon"
-    fill = "orange" if marked else "white" if term[0] == 16 else "green" if j.free[t] else "red"
+    bare = not has_condition(term)
+    shape = "octagon" if marked else "box" if term[0] == 1 else "ellipse" if bare or j.free[t] else "hexagon"
+    fill = "orange" if marked else "white" if bare else "green" if j.free[t] else "red"
     value = "" if is_array(term[1:3]) else " = " + value_name(term, j.v[t])
     return 't%d [label="t%d %s%s", shape=%s, style=filled, fillcolor=%s];' % (t, t, name(term), value, shape, fill)
 

@@ -1,6 +1,6 @@
 """Rows, verdict, what settled a term, why the condition is false, and what would mend it."""
 from judging import settles
-from words import NAMES, operands, operator, sort_name, truth, value_name
+from words import NAMES, has_condition, operands, operator, sort_name, truth, value_name
 
 BROAD, REPAIR = 80, 78
 
@@ -17,7 +17,7 @@ def explain_rows(j):
     out = ["  term  operator                  sort         mark         value  condition"]
     for t, term in enumerate(j.terms):
         mark = ("marked" if j.marked(term) else "-") if term[0] == 1 else ""
-        condition = "-" if term[0] == 16 else truth(j.free[t])
+        condition = truth(j.free[t]) if has_condition(term) else "-"
         out.append("%s%-6s%12s  %s" % (front(t, term), mark, value_name(term, j.v[t]), condition))
     return out
 
@@ -47,17 +47,36 @@ def verdict(j):
 
 # ---- what settled a term ----
 
+def whole_array(j, a):
+    """What a whole array stands on, depth first: tests, indexes, stored values, variables."""
+    op, m, n, p, q, r = j.terms[a]
+    if op == 16:
+        return [q, r] + whole_array(j, p)
+    if op == 7:
+        return [p] + whole_array(j, q) + whole_array(j, r)
+    return [a]
+
+
+def picked(j, a):
+    """The branch that a choice's test picks."""
+    op, m, n, p, q, r = j.terms[a]
+    return q if j.v[p] else r
+
+
 def settled_read(j, array, index):
-    """The first that is not free along the chain, and what settled the read."""
-    stores, variable = j.chain(array)
-    along = [x for _, i, e in stores for x in (i, e)] + [variable]
-    unfree = [x for x in along if not j.free[x]][:1]
-    for s, i, e in stores:
-        if not j.free[i]:
-            return unfree, "t%d, which store t%d holds, is free and equal to what is beneath." % (e, s)
-        if j.v[i] == j.v[index]:
-            return unfree, "store t%d holds t%d there, which is free." % (s, e)
-    return unfree, "the read goes past its store to t%d, which is not marked." % variable
+    """The first that is not free in the array, and what settled the read."""
+    unfree = [x for x in whole_array(j, array) if not j.free[x]][:1]
+    a = array
+    while j.terms[a][0] != 1:
+        op, m, n, p, q, r = j.terms[a]
+        if op == 7 and not j.free[p]:
+            return unfree, "both branches of choice t%d are free and equal there." % a
+        if op == 16 and not j.free[q]:
+            return unfree, "t%d, which store t%d holds, is free and equal to what is beneath." % (r, a)
+        if op == 16 and j.v[q] == j.v[index]:
+            return unfree, "store t%d holds t%d there, which is free." % (a, r)
+        a = p if op == 16 else picked(j, a)
+    return unfree, "the read comes to t%d, which is not marked." % a
 
 
 def settled_choice(j, test, first, second):
@@ -113,14 +132,19 @@ def settled_section(j):
 # ---- why the condition is false ----
 
 def support_of_read(j, array, index):
-    """The index, the indexes of the stores that are asked, and what holds the value; each with its part."""
-    found = [(index, "the index")]
-    stores, variable = j.chain(array)
-    for s, i, e in stores:
-        found.append((i, "the index of store t%d" % s))
-        if j.v[i] == j.v[index]:
-            return found + [(e, "which store t%d holds there" % s)]
-    return found + [(variable, "the array beneath")]
+    """The index, the indexes of the stores and the tests of the choices on the way, and what holds the value; each with its part."""
+    found, a = [(index, "the index")], array
+    while j.terms[a][0] != 1:
+        op, m, n, p, q, r = j.terms[a]
+        if op == 7:
+            found.append((p, "the test of choice t%d" % a))
+            a = picked(j, a)
+            continue
+        found.append((q, "the index of store t%d" % a))
+        if j.v[q] == j.v[index]:
+            return found + [(r, "which store t%d holds there" % a)]
+        a = p
+    return found + [(a, "the array beneath")]
 
 
 def support(j, t):
@@ -171,10 +195,17 @@ def would_settle(j, term):
     return [settling_line(j, x, j.v[x] == s, value_name(j.terms[x], s)) for x, s in sides]
 
 
+def what_it_is(j, part):
+    """What a part of a choice or a read is that is not free."""
+    if part == "the array beneath":
+        return "marked"
+    choice = part.removeprefix("the test of choice t")
+    return "not free" if choice == part else "not free: it picks t%d" % picked(j, int(choice))
+
+
 def parts_told(j, term, blamed):
     """A line for each part of a choice or a read that is not free."""
-    out = ["t%d, %s, is %s." % (x, part, "marked" if part == "the array beneath" else "not free")
-           for x, part in blamed]
+    out = ["t%d, %s, is %s." % (x, part, what_it_is(j, part)) for x, part in blamed]
     if term[0] == 7 and not j.free[term[3]]:
         def is_what(x):
             return "t%d is %s and %sfree" % (x, value_name(j.terms[x], j.v[x]), "" if j.free[x] else "not ")

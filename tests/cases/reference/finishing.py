@@ -51,11 +51,11 @@ class Finished:
             return self.less(op, self.terms[p][2], p, q)
         if op == 20:
             return self.shift_right(n, p, q)
-        if op == 7:
-            return self.choice(p, q, r)
         if op == 13:
             return self.shift(n, p, q)
-        return self.read(p, q) if op == 15 else None
+        if op == 15:
+            return self.read(p, q)
+        return None if m else self.choice(p, q, r)
 
     def boolean(self, op, p, q):
         """And: false settles; or: true; implies: a false first or a true second operand."""
@@ -108,19 +108,27 @@ class Finished:
         return self.OR(picked, self.AND(both, self.EQ(q, r)))
 
     def read(self, array, j):
-        """D0, then nine terms for each store from the inside out."""
-        C, stores = self.C, []
-        while self.terms[array][0] == 16:
-            stores.append(self.terms[array])
-            array = self.terms[array][3]
-        D = self.AND(C[array], C[j])
-        for op, m, n, A, i, e in reversed(stores):
-            beneath = self.add(15, A, j, sort=(0, n))
-            picked = self.ITE(self.EQ(i, j), C[e], D)
-            test = self.AND(self.AND(C[i], C[j]), picked)
-            equal = self.EQ(e, beneath)
-            D = self.OR(test, self.AND(self.AND(C[e], D), equal))
-        return D
+        """The group of a read at index j, depth first: one term for each variable met, nine for a store, eight for a choice."""
+        op, m, n, p, q, r = self.terms[array]
+        if op == 1:
+            return self.AND(self.C[array], self.C[j])
+        return self.stored(n, p, q, r, j) if op == 16 else self.chosen(n, p, q, r, j)
+
+    def stored(self, n, A, i, e, j):
+        C, D = self.C, self.read(A, j)
+        beneath = self.add(15, A, j, sort=(0, n))
+        picked = self.ITE(self.EQ(i, j), C[e], D)
+        test = self.AND(self.AND(C[i], C[j]), picked)
+        equal = self.EQ(e, beneath)
+        return self.OR(test, self.AND(self.AND(C[e], D), equal))
+
+    def chosen(self, n, c, first, second, j):
+        Dq = self.read(first, j)
+        Dr = self.read(second, j)
+        reads = [self.add(15, array, j, sort=(0, n)) for array in (first, second)]
+        test = self.AND(self.C[c], self.ITE(c, Dq, Dr))
+        both = self.AND(Dq, Dr)
+        return self.OR(test, self.AND(both, self.EQ(*reads)))
 
 
 def by_three(numbers):

@@ -74,18 +74,14 @@ class Setting:
         """Whether a term is an input that is marked under the sheet."""
         return term[0] == 1 and self.marks.marked(term[3])
 
-    def chain(self, array):
-        """The stores of an array term from the outermost inward, each as term, index and value; and the variable."""
-        stores = []
-        while self.terms[array][0] == 16:
-            beneath, i, e = self.terms[array][3:]
-            stores.append((array, i, e))
-            array = beneath
-        return stores, array
-
-    def held(self, variable, index):
-        slot = self.terms[variable][3]
-        return self.cell.get((slot, index), self.values[slot])
+    def held(self, array, index):
+        """What an array holds: a store at this index its value, else what is beneath; a choice what the branch taken holds."""
+        op, m, n, p, q, r = self.terms[array]
+        if op == 16:
+            return self.v[r] if self.v[q] == index else self.held(p, index)
+        if op == 7:
+            return self.held(q if self.v[p] else r, index)
+        return self.cell.get((p, index), self.values[p])
 
     def value(self, term):
         op, m, n, p, q, r = term
@@ -94,14 +90,10 @@ class Setting:
             return p
         if op == 1:
             return 0 if m else self.values[p]
-        if op == 16:
-            return 0
         if op == 15:
-            stores, variable = self.chain(p)
-            for _, i, e in stores:
-                if v[i] == v[q]:
-                    return v[e]
-            return self.held(variable, v[q])
+            return self.held(p, v[q])
+        if m:
+            return 0
         return VALUE[op](n or self.terms[p][2], v[p], v[q], v[r])
 
     def condition(self, term):
@@ -109,6 +101,8 @@ class Setting:
         c, v = self.free, self.v
         if op <= 1:
             return not self.marked(term)
+        if m:
+            return None
         if op in (2, 8, 17):
             return c[p]
         if op in (6, 11, 18):
@@ -121,21 +115,22 @@ class Setting:
             return (c[p] and stays(v[p], n)) or (c[p] and c[q])
         if op == 15:
             return self.read_condition(p, q)
-        if op == 16:
-            return None
         a, b = settles(op, self.terms[p][2])
         return (c[p] and v[p] == a) or (c[q] and v[q] == b) or (c[p] and c[q])
 
     def read_condition(self, array, j):
-        """D0 at the variable, then a new D for each store outward; below is what the array beneath holds."""
+        """D of an array at index term j: that of a variable, of a store over what is beneath, of a choice from both branches."""
+        op, m, n, p, q, r = self.terms[array]
         c, v = self.free, self.v
-        stores, variable = self.chain(array)
-        d, below = c[variable] and c[j], self.held(variable, v[j])
-        for _, i, e in reversed(stores):
-            met = v[i] == v[j]
-            d = (c[i] and c[j] and (c[e] if met else d)) or (c[e] and d and v[e] == below)
-            below = v[e] if met else below
-        return d
+        if op == 1:
+            return c[array] and c[j]
+        if op == 7:
+            first, second = self.read_condition(q, j), self.read_condition(r, j)
+            equal = self.held(q, v[j]) == self.held(r, v[j])
+            return (c[p] and (first if v[p] else second)) or (first and second and equal)
+        below = self.read_condition(p, j)
+        picked = c[r] if v[q] == v[j] else below
+        return (c[q] and c[j] and picked) or (c[r] and below and v[r] == self.held(p, v[j]))
 
     def rule(self):
         return bool(self.v[-1])

@@ -22,6 +22,11 @@ def greatest(width):
     return 2 ** (width - 1) - 1
 
 
+def has_condition(term):
+    """A store has none, and neither has a choice of arrays."""
+    return term[0] == 1 or not is_array(term[1:3])
+
+
 def operand_count(op):
     if op <= 1:
         return 0

@@ -1,6 +1,6 @@
 //! What occurred in texts, and what must.
 
-use super::{kind, Counts, Key};
+use super::{choices, kind, Counts, Key};
 use crate::case::{Answer, Case, Routine};
 use crate::reference::flaw::Flaw;
 use crate::reference::parsing;
@@ -68,7 +68,14 @@ pub fn observe(counts: &mut Counts, case: &Case, answer: &Answer) {
                 2 if table.len() == 513 => counts.count(("one term over the limit", routine, 0)),
                 2 => {}
                 10 => counts.count(("parse: the last term is not Boolean, operator", table[place as usize][0], 0)),
-                _ => counts.count(("parse refuses, operator", number, table[place as usize][0])),
+                _ => {
+                    counts.count(("parse refuses, operator", number, table[place as usize][0]));
+                    let [op, _, _, _, q, r] = table[place as usize];
+                    let sort = |operand: u32| &table[operand as usize][1..3];
+                    if (number, op) == (6, CHOICE) && sort(q)[0] != 0 && sort(r)[0] != 0 && sort(q) != sort(r) {
+                        counts.count(("parse refuses 6 at a choice of arrays of two sorts", 0, 0));
+                    }
+                }
             }
         }
     }
@@ -142,6 +149,7 @@ fn accepted(counts: &mut Counts, case: &Case, answer: &Answer, words: &[Word]) {
             op => counts.count(("parsed: operator", op, 0)),
         }
     }
+    choices::observe_text(counts, "parsed: a choice of arrays", &table.concat());
     let names = table.iter().filter(|term| term[0] == VARIABLE).count();
     if names == 256 {
         counts.count(("parsed: 256 names", 0, 0));

@@ -5,13 +5,13 @@ use crate::case::Case;
 use crate::reference::words::{COMMANDS, OPERATORS, RESERVED};
 
 /// A text with its table, in a room that is just long enough.
-fn read(name: &'static str, text: &str, terms: &[Term]) -> Example {
+pub fn read(name: &'static str, text: &str, terms: &[Term]) -> Example {
     let front = terms.concat();
     let case = Case::parse(text.into(), front.len());
     Example { front: front.clone(), ..example(name, case, 0, [front.len() as u64, 0, 0, 0]) }
 }
 
-fn not_read(name: &'static str, text: &str, number: u32, place: usize) -> Example {
+pub fn not_read(name: &'static str, text: &str, number: u32, place: usize) -> Example {
     refused(name, Case::parse(text.into(), 4000), number, place as u64)
 }
 
@@ -296,7 +296,7 @@ fn of_the_table() -> Vec<Example> {
         of("a sole array", "(assert (store t v v))", 10, 2),
         of("6 at the join of vectors", "(assert (bvnot v))(assert (bvnot v))", 6, 4),
         of("equal arrays", "(assert (= t t))", 6, 2),
-        of("a choice of arrays", "(assert (= v (select (ite true t t) v)))", 6, 3),
+        of("a choice between an array and a vector", "(assert (= v (select (ite true t v) v)))", 6, 3),
         of("a read of a vector", "(assert (= v (select v v)))", 6, 2),
         of("a read of a Boolean", "(assert (= v (select true v)))", 6, 3),
         of("a store in a vector", "(assert (= v (select (store v v v) v)))", 6, 2),

@@ -1,5 +1,6 @@
 //! Damage to tables and settings: each kind aims at one refusal, and may well meet another.
 
+use super::choices;
 use super::draft::{numbers_of, width, Draft};
 use super::setting::Setting;
 use crate::random::Random;
@@ -13,11 +14,15 @@ pub fn table(random: &mut Random, table: &mut Vec<u32>, aim: usize) {
         3 => operator(random, table),
         4 => sort(random, table),
         5 => field(random, table),
-        6 if random.chance(50) => like_operands(random, table),
-        6 => sorts(random, table),
+        6 => match random.below(6) {
+            0..=2 => like_operands(random, table),
+            3 | 4 => sorts(random, table),
+            _ => faulty_choice(random, table),
+        },
         7 => leaf(random, table),
         8 => clash(random, table),
-        9 => seventeenth(random, table),
+        9 if random.chance(40) => seventeenth(random, table),
+        9 => *table = choices::too_large(random).numbers(),
         10 => last(random, table),
         _ => anywhere(random, table),
     }
@@ -69,7 +74,7 @@ fn sorts(random: &mut Random, table: &mut [u32]) {
     }
 }
 
-/// Appends a term whose operands have one sort, allowed for its operator or not: a sum of Booleans, a choice of arrays.
+/// Appends a term whose operands have one sort, allowed for its operator or not: a sum of Booleans, an equality of arrays.
 fn like_operands(random: &mut Random, table: &mut Vec<u32>) {
     let sorts: Vec<(u32, u32)> = table.chunks(6).map(|t| (t[1], t[2])).collect();
     let with = |wanted: &dyn Fn((u32, u32)) -> bool| -> Vec<u32> {
@@ -87,6 +92,30 @@ fn like_operands(random: &mut Random, table: &mut Vec<u32>) {
         CHOICE => table.extend([op, m, n, random.pick(&tests), x, other]),
         _ => table.extend([op, m, n, x, other, 0]),
     }
+}
+
+/// Appends a choice between arrays of two sorts, or one with a test that is no Boolean; the size may be over 16 besides.
+fn faulty_choice(random: &mut Random, table: &mut Vec<u32>) {
+    let size = random.pick(&[0, 1, 8, 16, 16]);
+    *table = choices::whole(random, size).numbers();
+    let terms: Vec<Term> = table.chunks(6).map(Term::of).collect();
+    let arrays: Vec<usize> = (0..terms.len()).filter(|&t| terms[t].m != 0).collect();
+    let x = if random.chance(70) { arrays[arrays.len() - 1] } else { random.pick(&arrays) };
+    let (m, n) = (terms[x].m, terms[x].n);
+    let number = |wanted: &dyn Fn(&Term) -> bool| terms.iter().position(wanted).map(|t| t as u32);
+    let (x, test) = (x as u32, number(&|t| t.n == 0).unwrap_or(0));
+    if random.chance(30) {
+        let test = number(&|t| t.n != 0).unwrap_or(x);
+        return table.extend([CHOICE, m, n, test, x, x]);
+    }
+    let used = |slot: &u32| number(&|t| t.op == VARIABLE && t.p == *slot).is_some();
+    let slot = (0..256).find(|slot| !used(slot)).unwrap_or(0);
+    let other = random.pick(&[(m % 32 + 1, n), (m, n % 32 + 1), (m % 32 + 1, n % 32 + 1)]);
+    let y = terms.len() as u32;
+    table.extend([VARIABLE, other.0, other.1, slot, 0, 0]);
+    let [q, r] = random.pick(&[[x, y], [y, x]]);
+    let (m, n) = random.pick(&[(m, n), other]);
+    table.extend([CHOICE, m, n, test, q, r]);
 }
 
 fn leaf(random: &mut Random, table: &mut [u32]) {

@@ -12,6 +12,8 @@ pub struct Taste {
     pub marked: usize,
     /// Of a hundred operands, how many are new variables and constants.
     pub fresh: usize,
+    /// Of a hundred choices, how many are between arrays; and in a tree, of a hundred arrays over others, how many are choices.
+    pub chosen: usize,
     pub pool: [u32; 3],
 }
 
@@ -20,8 +22,8 @@ pub struct Draft {
     pub taste: Taste,
     /// Slot, sort and mark of each input.
     pub inputs: Vec<(u32, Sort, u32)>,
-    /// Of an array term: the stores in its chain.
-    stores: Vec<usize>,
+    /// Of an array term: its size.
+    sizes: Vec<usize>,
     by_sort: BTreeMap<Sort, Vec<u32>>,
 }
 
@@ -48,6 +50,7 @@ impl Taste {
             arrays: vec![Sort::Array(second, first), Sort::Array(first, second), Sort::Array(first, first)],
             marked: random.pick(&[0, 25, 50, 50, 75, 100]),
             fresh: random.pick(&[5, 20, 50]),
+            chosen: random.pick(&[0, 0, 0, 20, 60]),
             pool,
         }
     }
@@ -75,7 +78,7 @@ impl Taste {
 
 impl Draft {
     pub fn new(taste: Taste) -> Draft {
-        Draft { terms: vec![], taste, inputs: vec![], stores: vec![], by_sort: BTreeMap::new() }
+        Draft { terms: vec![], taste, inputs: vec![], sizes: vec![], by_sort: BTreeMap::new() }
     }
 
     /// A table that is admitted, as a draft.
@@ -94,11 +97,26 @@ impl Draft {
     pub fn push(&mut self, term: [u32; 6]) -> u32 {
         let number = self.terms.len() as u32;
         let t = Term::of(&term);
-        let stores = if t.op == STORE { self.stores[t.p as usize] + 1 } else { 0 };
+        let size = match t.op {
+            STORE => 1 + self.size(t.p),
+            CHOICE if t.m != 0 => 1 + self.size(t.q) + self.size(t.r),
+            _ => 0,
+        };
         self.by_sort.entry(t.sort().expect("a sort")).or_default().push(number);
-        self.stores.push(stores);
+        self.sizes.push(size);
         self.terms.push(term);
         number
+    }
+
+    /// The size of an array term.
+    pub fn size(&self, array: u32) -> usize {
+        self.sizes[array as usize]
+    }
+
+    /// The array terms of the sort that are there and have this size.
+    pub fn of_size(&self, sort: Sort, size: usize) -> Vec<u32> {
+        let known = self.by_sort.get(&sort).map_or(&[][..], Vec::as_slice);
+        known.iter().copied().filter(|&array| self.size(array) == size).collect()
     }
 
     pub fn constant(&mut self, random: &mut Random, sort: Sort) -> u32 {
@@ -168,7 +186,9 @@ impl Draft {
             CHOICE => {
                 let test = self.operand(random, Sort::Boolean);
                 let (q, r) = self.two(random, sort);
-                self.push([op, 0, n, test, q, r])
+                let r = if self.size(q) + self.size(r) < 16 { r } else { self.leaf(random, sort) };
+                let q = if self.size(q) + self.size(r) < 16 { q } else { r };
+                self.push([op, m, n, test, q, r])
             }
             READ => {
                 let p = self.operand(random, sort);
@@ -195,7 +215,7 @@ impl Draft {
 
     fn store(&mut self, random: &mut Random, sort: Sort) -> u32 {
         let mut array = self.operand(random, sort);
-        if self.stores[array as usize] == 16 {
+        if self.size(array) == 16 {
             array = self.variable(random, sort);
         }
         let (m, n) = numbers_of(sort);
@@ -230,7 +250,7 @@ impl Draft {
     }
 
     pub fn steps(&self) -> u64 {
-        self.terms.iter().filter(|t| t[0] == READ).map(|t| self.stores[t[3] as usize] as u64).sum()
+        self.terms.iter().filter(|t| t[0] == READ).map(|t| self.size(t[3]) as u64).sum()
     }
 
     /// The count of terms of the finished table.
@@ -240,13 +260,14 @@ impl Draft {
 
     fn added(&self, term: &[u32; 6]) -> usize {
         match term[0] {
+            CHOICE if term[1] != 0 => 0,
             EQUAL | SUM | SUBTRACT => 1,
             AND => 7,
             OR => 5,
             IMPLIES | SHIFT | CHOICE => 6,
             VECTOR_AND | VECTOR_OR | PRODUCT => 8,
             LESS | SIGNED_LESS | SHIFT_RIGHT => 9,
-            READ => 1 + 9 * self.stores[term[3] as usize],
+            READ => 1 + 9 * self.size(term[3]),
             _ => 0,
         }
     }

@@ -1,6 +1,7 @@
 //! Random rounds. A round is one table in one setting and under one sheet, handed to all routines that take a table, or a text;
 //! rooms and allowances are each call's own.
 
+pub mod choices;
 pub mod damage;
 pub mod draft;
 pub mod misprint;
@@ -61,7 +62,7 @@ const OPERATORS: [u32; 39] = [
 ];
 
 fn small(random: &mut Random, number: u64) -> Draft {
-    match random.below(20) {
+    match random.below(22) {
         0..=9 => {
             let (turn, place) = (number as usize / OPERATORS.len(), number as usize % OPERATORS.len());
             table::single(random, OPERATORS[place], (turn % 32) as u32 + 1)
@@ -74,7 +75,8 @@ fn small(random: &mut Random, number: u64) -> Draft {
             let size = random.between(15, 50);
             table::mixed(random, size)
         }
-        _ => table::chain(random, (number % 17) as usize),
+        18 | 19 => table::chain(random, (number % 17) as usize),
+        _ => choices::whole(random, (number % 17) as usize),
     }
 }
 

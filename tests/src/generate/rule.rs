@@ -142,6 +142,7 @@ impl<'a> Writer<'a> {
                 let signed = self.random.pick(&[NEGATE, SUBTRACT, SHIFT_RIGHT]);
                 self.random.pick(&[CHOICE, VECTOR_NOT, VECTOR_AND, VECTOR_OR, SUM, PRODUCT, SHIFT, READ, READ, signed, signed])
             }
+            Sort::Array(..) if self.random.chance(self.taste.chosen) => CHOICE,
             Sort::Array(..) => STORE,
         }
     }
@@ -182,9 +183,9 @@ impl<'a> Writer<'a> {
         self.list(words, op, sort, lists);
     }
 
-    /// A list of this operator. A chain of stores has at most 16.
+    /// A list of this operator. An array has at most 16 lists, and so at most that size.
     pub fn list(&mut self, words: &mut Vec<String>, op: u32, sort: Sort, lists: usize) {
-        let mut left = if op == STORE { lists.min(16) } else { lists } - 1;
+        let mut left = if matches!(sort, Sort::Array(..)) { lists.min(16) } else { lists } - 1;
         words.extend([owned("("), owned(OPERATORS[op as usize - 2].0)]);
         for sort in self.operand_sorts(op, sort) {
             let share = self.random.below(left + 1);
@@ -205,6 +206,27 @@ impl<'a> Writer<'a> {
         words.extend([owned("("), owned(OPERATORS[op as usize - 2].0)]);
         for (at, &sort) in sorts.iter().enumerate() {
             self.deep(words, sort, if at == goes_down { depth - 1 } else { 0 });
+        }
+        words.push(owned(")"));
+    }
+
+    /// An array of just this size, of stores and choices.
+    pub fn tree(&mut self, words: &mut Vec<String>, sort: Sort, size: usize) {
+        let Sort::Array(m, n) = sort else { unreachable!("an array sort") };
+        if size == 0 {
+            return self.leaf(words, sort);
+        }
+        let is_choice = self.random.chance(60);
+        words.extend([owned("("), owned(if is_choice { "ite" } else { "store" })]);
+        if is_choice {
+            let first = self.random.below(size);
+            self.leaf(words, Sort::Boolean);
+            self.tree(words, sort, first);
+            self.tree(words, sort, size - 1 - first);
+        } else {
+            self.tree(words, sort, size - 1);
+            self.leaf(words, Sort::Vector(m));
+            self.leaf(words, Sort::Vector(n));
         }
         words.push(owned(")"));
     }

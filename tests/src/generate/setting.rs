@@ -10,14 +10,19 @@ pub struct Setting {
     pub cells: Vec<u32>,
 }
 
-/// A setting that is not refused. Slots that no variable uses hold anything.
+/// A setting that is not refused. Slots that no variable uses hold anything. In some settings arrays of one sort have one value.
 pub fn whole(random: &mut Random, draft: &Draft) -> Setting {
     let used = draft.inputs.iter().map(|i| i.0 as usize + 1).max().unwrap_or(0);
     let extra = if random.chance(20) { random.below(6) } else { 0 };
     let mut values: Vec<u32> = (0..used + extra).map(|_| random.word()).collect();
     let mut cells = vec![];
-    for &(slot, sort, _) in &draft.inputs {
-        values[slot as usize] = draft.taste.value(random, sort);
+    let alike = random.chance(30);
+    for (number, &(slot, sort, _)) in draft.inputs.iter().enumerate() {
+        let same = draft.inputs[..number].iter().find(|input| input.1 == sort && matches!(sort, Sort::Array(..)));
+        values[slot as usize] = match same {
+            Some(other) if alike => values[other.0 as usize],
+            _ => draft.taste.value(random, sort),
+        };
         if let Sort::Array(m, _) = sort {
             let count = if random.chance(1) { 60 } else { random.pick(&[0, 1, 2, 3, 5, 8]) };
             for _ in 0..count {

@@ -1,5 +1,6 @@
 //! Whole tables, of several makes.
 
+use super::choices;
 use super::draft::{Draft, Taste};
 use crate::random::Random;
 use crate::reference::term::*;
@@ -21,6 +22,7 @@ fn sort_for(random: &mut Random, taste: &Taste, op: u32) -> Sort {
     let array = random.pick(&taste.arrays);
     match op {
         NOT | AND | OR | IMPLIES => Sort::Boolean,
+        CHOICE if random.chance(taste.chosen) => array,
         CONSTANT | EQUAL | CHOICE => random.pick(&[Sort::Boolean, vector, vector]),
         VARIABLE => random.pick(&[Sort::Boolean, vector, array]),
         READ | STORE => array,
@@ -42,8 +44,10 @@ pub fn single(random: &mut Random, op: u32, width: u32) -> Draft {
     let sort = sort_for(random, &draft.taste, op);
     if op == READ {
         draft.taste.fresh = random.pick(&[20, 50]);
+        let ops = if random.chance(draft.taste.chosen) { [STORE, CHOICE] } else { [STORE; 2] };
         for _ in 0..random.below(3) {
-            draft.apply(random, STORE, sort);
+            let op = random.pick(&ops);
+            draft.apply(random, op, sort);
         }
     }
     draft.apply(random, op, sort);
@@ -95,7 +99,7 @@ fn links(random: &mut Random, draft: &mut Draft, sort: Sort, length: usize) -> V
 }
 
 /// A read of the array at some index, and a comparison of what is read.
-fn compared_read(random: &mut Random, draft: &mut Draft, array: u32) {
+pub fn compared_read(random: &mut Random, draft: &mut Draft, array: u32) {
     let [_, m, n, ..] = draft.terms[array as usize];
     let index = match random.chance(40) {
         true => draft.any(random, Sort::Vector(m)),
@@ -106,11 +110,13 @@ fn compared_read(random: &mut Random, draft: &mut Draft, array: u32) {
     draft.push([random.pick(&[EQUAL, LESS, SIGNED_LESS]), 0, 0, read, other, 0]);
 }
 
-/// A table of exactly `size` terms that are mostly reads of long chains: finished, it is far longer.
+/// A table of exactly `size` terms that are mostly reads of long chains, or of large arrays with choices: finished, it is far longer.
 pub fn deep(random: &mut Random, size: usize) -> Draft {
-    let mut draft = Draft::new(Taste::new(random));
-    let sort = random.pick(&draft.taste.arrays);
-    let links = links(random, &mut draft, sort, 16);
+    let (mut draft, sort) = choices::begun(random);
+    let links = match random.chance(50) {
+        true => links(random, &mut draft, sort, 16),
+        false => [14, 16, 16].map(|size| choices::tree(random, &mut draft, sort, size)).to_vec(),
+    };
     let Sort::Array(m, n) = sort else { unreachable!("an array sort") };
     while draft.terms.len() < size - 1 {
         let array = links[links.len() - random.between(1, 3)];

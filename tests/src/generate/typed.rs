@@ -20,8 +20,11 @@ pub fn small(random: &mut Random, number: u64) -> Rule {
         0 => sole(&mut writer, turn),
         1 | 2 => single(&mut writer, (turn % OPERATORS) as u32 + 2, (turn / OPERATORS % 32) as u32 + 1),
         3 | 4 => mixed(&mut writer),
-        _ if turn % 2 == 0 => deep(&mut writer, turn / 2),
-        _ => stores(&mut writer, turn / 2),
+        _ => match turn % 3 {
+            0 => deep(&mut writer, turn / 3),
+            1 => stores(&mut writer, turn / 3),
+            _ => choices(&mut writer, turn / 3),
+        },
     }
     for _ in 0..writer.random.pick(&[0, 0, 0, 1, 3]) {
         let sort = writer.any_sort();
@@ -51,6 +54,7 @@ fn single(writer: &mut Writer, op: u32, width: u32) {
     let sort = match op {
         NOT | AND | OR | IMPLIES | EQUAL | LESS | SIGNED_LESS => Sort::Boolean,
         STORE => Sort::Array(width, width),
+        CHOICE if writer.random.chance(30) => Sort::Array(width, width),
         _ => Sort::Vector(width),
     };
     let mut words = vec![];
@@ -101,6 +105,22 @@ fn stores(writer: &mut Writer, turn: u64) {
     let sort = writer.random.pick(&writer.taste.arrays);
     let mut words = vec![];
     writer.chain(&mut words, sort, turn as usize % 20);
+    compared(writer, words, sort);
+}
+
+/// A read of an array of stores and choices; or a choice between arrays of two sorts.
+fn choices(writer: &mut Writer, turn: u64) {
+    let sort = writer.random.pick(&writer.taste.arrays);
+    let mut words = vec![];
+    if writer.random.chance(90) {
+        writer.tree(&mut words, sort, turn as usize % 20);
+        return compared(writer, words, sort);
+    }
+    let other = Sort::Array(width(writer.random), width(writer.random));
+    words.extend(["(", "ite", "true"].map(str::to_string));
+    writer.leaf(&mut words, sort);
+    writer.leaf(&mut words, other);
+    words.push(")".to_string());
     compared(writer, words, sort);
 }
 

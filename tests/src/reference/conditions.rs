@@ -6,7 +6,8 @@ use super::term::*;
 use super::values::Values;
 use std::collections::BTreeMap;
 
-/// The truths of the terms' conditions, the inputs being marked as `marks` says; false for a store, which has none.
+/// The truths of the terms' conditions, the inputs being marked as `marks` says; false for a store and for a choice of arrays, which
+/// have none.
 pub fn conditions(table: &Table, marks: &BTreeMap<u32, bool>, values: &Values, flaw: Flaw) -> Vec<bool> {
     let mut conditions = Conditions { table, marks, values, c: Vec::new(), flaw };
     for term in &table.terms {
@@ -69,6 +70,7 @@ impl Conditions<'_> {
                 (self.of(p) && value(p) == 0) || (self.of(sixth) && value(p) == ones) || (self.of(p) && self.of(q))
             }
             SHIFT | SHIFT_RIGHT => (self.of(q) && value(q) >= t.n.into()) || (self.of(p) && self.of(q)),
+            CHOICE if t.m != 0 && self.flaw != Flaw::ArrayChoiceTruth => false,
             CHOICE => {
                 let picked = if holds(p) { self.of(q) } else { self.of(r) };
                 let tested = self.of(p) || self.flaw == Flaw::PickedBranch;
@@ -89,9 +91,14 @@ impl Conditions<'_> {
     /// The condition of a read of an array term at the index that is term j.
     fn read(&self, array: u32, j: u32) -> bool {
         let a = &self.table.terms[array as usize];
-        if a.op == VARIABLE {
-            return self.of(array) && (self.of(j) || self.flaw == Flaw::IndexUnasked);
+        match a.op {
+            VARIABLE => self.of(array) && (self.of(j) || self.flaw == Flaw::IndexUnasked),
+            CHOICE => self.read_choice(a, j),
+            _ => self.read_store(a, j),
         }
+    }
+
+    fn read_store(&self, a: &Term, j: u32) -> bool {
         let (beneath, i, e) = (a.p, a.q, a.r);
         let below = self.read(beneath, j);
         let same_index = self.values.number(i) == self.values.number(j);
@@ -101,5 +108,17 @@ impl Conditions<'_> {
             same_value = same_index;
         }
         (self.of(i) && self.of(j) && picked) || (self.of(e) && below && same_value)
+    }
+
+    /// The test and the branch taken, or both branches, which hold the same at the index.
+    fn read_choice(&self, a: &Term, j: u32) -> bool {
+        let (c, q, r) = (a.p, a.q, a.r);
+        let (dq, dr) = (self.read(q, j), self.read(r, j));
+        let takes_q = self.values.holds(c) != (self.flaw == Flaw::OtherArrayFree);
+        let taken = if takes_q { dq } else { dr };
+        let held = |array: u32| self.values.read(array, self.values.number(j));
+        let same = held(q) == held(r);
+        let tested = self.of(c) || self.flaw == Flaw::PickedArray;
+        (tested && taken) || ((dq && dr || self.flaw == Flaw::EqualReadsAlone) && same)
     }
 }

@@ -14,14 +14,14 @@ pub struct Finished {
 pub fn finish(table: &Table, flaw: Flaw) -> Finished {
     let n = table.terms.len() as u32;
     let given = table.terms.iter().map(|t| [t.op, t.m, t.n, t.p, t.q, t.r]).collect();
-    let mut writer = Writer { table, terms: given, c: Vec::new(), yes: n, no: n + 1, flaw };
+    let mut writer = Writer { table, terms: given, c: Vec::new(), yes: n, no: n + 1, met: Vec::new(), flaw };
     writer.add([CONSTANT, 0, 0, 1, 0, 0]);
     writer.add([CONSTANT, 0, 0, 0, 0, 0]);
     for term in &table.terms {
         let condition = writer.group(term);
         writer.c.push(condition);
     }
-    let condition = writer.c[n as usize - 1].expect("the rule is no store");
+    let condition = writer.c[n as usize - 1].expect("the rule is no array");
     writer.and(n - 1, condition);
     Finished { terms: writer.terms, condition }
 }
@@ -29,10 +29,12 @@ pub fn finish(table: &Table, flaw: Flaw) -> Finished {
 struct Writer<'a> {
     table: &'a Table,
     terms: Vec<[u32; 6]>,
-    /// The numbers of the conditions of the terms so far; a store has none.
+    /// The numbers of the conditions of the terms so far; a store and a choice of arrays have none.
     c: Vec<Option<u32>>,
     yes: u32,
     no: u32,
+    /// The variables that a read's group met, each with its term (an error of `Flaw::MetOnce`).
+    met: Vec<(u32, u32)>,
     flaw: Flaw,
 }
 
@@ -64,7 +66,7 @@ impl Writer<'_> {
 
     /// The number of an operand's condition.
     fn of(&self, operand: u32) -> u32 {
-        self.c[operand as usize].expect("no store")
+        self.c[operand as usize].expect("no store, and no choice of arrays")
     }
 
     /// Writes a term's group and gives the number of its condition.
@@ -73,6 +75,7 @@ impl Writer<'_> {
             CONSTANT => self.yes,
             VARIABLE => [self.yes, self.no][t.q as usize],
             STORE => return None,
+            CHOICE if t.m != 0 => return None,
             NOT | VECTOR_NOT | NEGATE => self.of(t.p),
             EQUAL | SUM | SUBTRACT => self.and(self.of(t.p), self.of(t.q)),
             LESS if self.flaw == Flaw::LessUnsettled => self.and(self.of(t.p), self.of(t.q)),
@@ -83,7 +86,10 @@ impl Writer<'_> {
             SHIFT_RIGHT if self.flaw != Flaw::AmountSettles => self.shift_right(t),
             SHIFT | SHIFT_RIGHT => self.shift(t),
             CHOICE => self.branches(t),
-            _ => self.read(t.p, t.q),
+            _ => {
+                self.met.clear();
+                self.read(t.p, t.q)
+            }
         })
     }
 
@@ -156,16 +162,30 @@ impl Writer<'_> {
         self.or(tested, alike)
     }
 
-    /// Writes the group of a read of an array term at the index that is term j.
+    /// Writes the group of a read of an array term at the index that is term j, and gives its last term's number.
     fn read(&mut self, array: u32, j: u32) -> u32 {
         let a = self.table.terms[array as usize];
-        let cj = self.of(j);
-        if a.op == VARIABLE {
-            return self.and(self.of(array), cj);
+        match a.op {
+            VARIABLE => self.read_variable(array, j),
+            CHOICE => self.read_choice(&a, j),
+            _ => self.read_store(&a, j),
         }
+    }
+
+    fn read_variable(&mut self, array: u32, j: u32) -> u32 {
+        let known = self.met.iter().find(|(variable, _)| *variable == array).map(|(_, term)| *term);
+        if let Some(term) = known.filter(|_| self.flaw == Flaw::MetOnce) {
+            return term;
+        }
+        let term = self.and(self.of(array), self.of(j));
+        self.met.push((array, term));
+        term
+    }
+
+    fn read_store(&mut self, a: &Term, j: u32) -> u32 {
         let (beneath, i, e) = (a.p, a.q, a.r);
         let below = self.read(beneath, j);
-        let (ci, ce) = (self.of(i), self.of(e));
+        let (ci, ce, cj) = (self.of(i), self.of(e), self.of(j));
         let read = self.add([READ, 0, a.n, beneath, j, 0]);
         let same_index = self.equal(i, j);
         let picked = self.choice(same_index, ce, below);
@@ -176,5 +196,32 @@ impl Writer<'_> {
         let joined = if self.flaw == Flaw::JoinsIndexes { same_index } else { same_value };
         let second = self.and(both, joined);
         self.or(first, second)
+    }
+
+    fn read_choice(&mut self, a: &Term, j: u32) -> u32 {
+        let (c, q, r) = (a.p, a.q, a.r);
+        let (dq, dr) = self.read_branches(q, r, j);
+        let of_q = self.add([READ, 0, a.n, q, j, 0]);
+        let of_r = self.add([READ, 0, a.n, r, j, 0]);
+        let picked = match self.flaw {
+            Flaw::OtherArrayFree => self.choice(c, dr, dq),
+            _ => self.choice(c, dq, dr),
+        };
+        let tested = self.and(self.of(c), picked);
+        let both = self.and(dq, dr);
+        let same = match self.flaw {
+            Flaw::ReadsExchanged => self.equal(of_r, of_q),
+            _ => self.equal(of_q, of_r),
+        };
+        let alike = self.and(both, same);
+        self.or(tested, alike)
+    }
+
+    fn read_branches(&mut self, q: u32, r: u32, j: u32) -> (u32, u32) {
+        if self.flaw == Flaw::SecondGroupFirst {
+            let dr = self.read(r, j);
+            return (self.read(q, j), dr);
+        }
+        (self.read(q, j), self.read(r, j))
     }
 }

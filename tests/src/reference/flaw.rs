@@ -117,9 +117,41 @@ pub enum Flaw {
     SheetFirst,
     /// 8 by the marks that hold.
     ClashBySheet,
+    /// A choice of arrays is refused 6.
+    ArraysUnchosen,
+    /// A choice between arrays with two index widths is admitted.
+    IndexWidthUnasked,
+    /// The size of a choice leaves out its second branch.
+    OneBranchSize,
+    /// The size of a choice goes by the greater branch.
+    GreaterBranchSize,
+    /// 9 means a size over 17.
+    SeventeenAllowed,
+    /// 9 at a read of an array that is too large, and nowhere else.
+    OnlyReadSizes,
+    /// 9 before 6 in one term.
+    SizeBeforeSorts,
+    /// A read's steps leave out the branches that are not taken.
+    StepsOfBranch,
+    /// A read follows a choice's first branch, whatever the test is.
+    FirstArray,
+    /// A choice of arrays has a truth, as other choices have.
+    ArrayChoiceTruth,
+    /// Looking only at the array that a marked test picked.
+    PickedArray,
+    /// A free test beside the condition of the branch that is not taken.
+    OtherArrayFree,
+    /// Branches that hold the same settle a read, whether they are free or not.
+    EqualReadsAlone,
+    /// The group of a choice's second branch before that of the first.
+    SecondGroupFirst,
+    /// A variable that a read's group meets again is written once.
+    MetOnce,
+    /// Equal of the reads of a choice's branches with the second's first.
+    ReadsExchanged,
 }
 
-pub const FLAWS: [(&str, Flaw); 57] = [
+pub const FLAWS: [(&str, Flaw); 73] = [
     ("joins-indexes", Flaw::JoinsIndexes),
     ("shifts-modulo", Flaw::ShiftsModulo),
     ("factor-alone", Flaw::FactorAlone),
@@ -177,4 +209,20 @@ pub const FLAWS: [(&str, Flaw); 57] = [
     ("sheet-after-cells", Flaw::SheetAfterCells),
     ("sheet-first", Flaw::SheetFirst),
     ("clash-by-sheet", Flaw::ClashBySheet),
+    ("arrays-unchosen", Flaw::ArraysUnchosen),
+    ("index-width-unasked", Flaw::IndexWidthUnasked),
+    ("one-branch-size", Flaw::OneBranchSize),
+    ("greater-branch-size", Flaw::GreaterBranchSize),
+    ("seventeen-allowed", Flaw::SeventeenAllowed),
+    ("only-read-sizes", Flaw::OnlyReadSizes),
+    ("size-before-sorts", Flaw::SizeBeforeSorts),
+    ("steps-of-branch", Flaw::StepsOfBranch),
+    ("first-array", Flaw::FirstArray),
+    ("array-choice-truth", Flaw::ArrayChoiceTruth),
+    ("picked-array", Flaw::PickedArray),
+    ("other-array-free", Flaw::OtherArrayFree),
+    ("equal-reads-alone", Flaw::EqualReadsAlone),
+    ("second-group-first", Flaw::SecondGroupFirst),
+    ("met-once", Flaw::MetOnce),
+    ("reads-exchanged", Flaw::ReadsExchanged),
 ];

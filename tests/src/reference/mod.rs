@@ -160,10 +160,12 @@ impl Reference {
     }
 
     fn steps(&self, table: &Table, values: &values::Values) -> u64 {
-        if self.flaw == Flaw::StepsToSource {
-            return table.terms.iter().filter(|t| t.op == READ).map(|t| values.stores_asked(t)).sum();
+        let reads = table.terms.iter().filter(|t| t.op == READ);
+        match self.flaw {
+            Flaw::StepsToSource => reads.map(|t| values.stores_asked(t)).sum(),
+            Flaw::StepsOfBranch => reads.map(|t| values.size_taken(t.p)).sum(),
+            _ => table.steps(),
         }
-        table.steps()
     }
 }
 

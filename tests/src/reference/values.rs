@@ -5,7 +5,8 @@ use super::flaw::Flaw;
 use super::setting::Interpretation;
 use super::term::*;
 
-/// A Boolean (0 or 1) or vector is a number; an array is a variable's slot under stores, counted from the inside.
+/// A Boolean (0 or 1) or vector is a number; an array is a variable's slot under stores, counted from the inside. A choice of arrays
+/// is the array that the test picks.
 #[derive(Clone, Debug)]
 pub enum Value {
     Number(u64),
@@ -66,8 +67,19 @@ impl Values<'_> {
                 stores.push((self.number(term.q), self.number(term.r)));
                 Value::Array { slot, stores }
             }
+            CHOICE if term.m != 0 => self.of[self.picked(term) as usize].clone(),
             READ => Value::Number(self.read(term.p, self.number(term.q))),
             _ => Value::Number(self.number_of(term)),
+        }
+    }
+
+    /// The branch that a choice's test picks.
+    fn picked(&self, choice: &Term) -> u32 {
+        let first = self.holds(choice.p) || self.flaw == Flaw::FirstArray && choice.m != 0;
+        if first {
+            choice.q
+        } else {
+            choice.r
         }
     }
 
@@ -122,6 +134,16 @@ impl Values<'_> {
         let index = self.number(read.q);
         let asked = stores.iter().rev().position(|&(at, _)| at == index).map_or(stores.len(), |i| i + 1);
         asked as u64
+    }
+
+    /// The size of an array without the branches that are not taken (an error of `Flaw::StepsOfBranch`).
+    pub fn size_taken(&self, array: u32) -> u64 {
+        let a = &self.table.terms[array as usize];
+        match a.op {
+            STORE => 1 + self.size_taken(a.p),
+            CHOICE => 1 + self.size_taken(self.picked(a)),
+            _ => 0,
+        }
     }
 }
 

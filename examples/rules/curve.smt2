@@ -1,0 +1,6 @@
+(declare-const summer (Array (_ BitVec 8) (_ BitVec 8)))
+(declare-const winter (Array (_ BitVec 8) (_ BitVec 8)))
+(declare-const x1 Bool)
+(declare-const raw (_ BitVec 8))
+(assert (bvult (bvadd raw (select (ite x1 summer winter) raw)) #b01011010))
+(check-sat)

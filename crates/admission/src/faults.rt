@@ -34,11 +34,22 @@ fn size_within(table: &[u32], k: u32, left: u32) -> u32
     q + r + 1
 }
 
-// The size of array term `k`: its stores and choices. Of any other term it is 0.
+// The size of array term `k`: its stores and choices. Of any other term it is 0. The stores down to a choice or a
+// variable are counted in a loop.
 pub fn size(table: &[u32], k: u32) -> u32
     ensures { λ r. ⌜ r ≡ size (now (table .entry)) k ⌝ }
 {
-    size_within(table, k, 17)
+    let mut at = k;
+    let mut count = 0u32;
+    while count < 17 {
+        let x = term_at(table, at);
+        if !is_store(x) {
+            break;
+        }
+        at = x.p;
+        count += 1;
+    }
+    count + size_within(table, at, 17 - count)
 }
 
 // 3: an op up to the last.

@@ -19,7 +19,7 @@ use Rattle.evaluate.specs.Code.Reads.{foundAt}
 abbrev pub told : Bool → ℕ → ℕ → Turn
 told pending at other = record { pending = pending; at = at; count = 0; slot = 0; index = 0; other = other }
 
--- a read asks for its value: what its chain stores at the index is told; else the variable's cell there is sought among count
+-- a read asks for its value: what its array stores at the index is told; else the variable's cell there is sought among count
 -- cells, and else it is the slot's own value
 abbrev pub turnBy : Bool → ℕ → List ℕ → Bool → ℕ → ℕ → ℕ → Turn
 turnBy true number values pending at count index = told pending at number

@@ -90,7 +90,7 @@
  * declared here stayed as it was. The library has no version of its own to ask for: take header and library from one state of the
  * repository. */
 #define HIRANTHOK_VERSION_MAJOR 0
-#define HIRANTHOK_VERSION_MINOR 15
+#define HIRANTHOK_VERSION_MINOR 16
 #define HIRANTHOK_VERSION_PATCH 0
 #define HIRANTHOK_VERSION "0.16.0"
 

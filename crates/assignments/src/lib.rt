@@ -139,13 +139,17 @@ pub fn read(
     cells: &mut [u32],
     sheet: &mut [u32],
 ) -> Reading
-    ensures { λ r. ⌜ r ≡ reading (now (names .entry)) (now (table .entry)) (now (text .entry)) (now (cells .entry)) (now (sheet .entry)) ⌝ }
+    ensures { λ r. ⌜ r
+        ≡ reading (now (names .entry)) (now (table .entry)) (now (text .entry)) (now (cells .entry))
+        (now (sheet .entry)) ⌝ }
     ensures { λ r. ⌜ now (values .exit)
         ≡ valuesAfter r (now (names .entry)) (now (text .entry)) (now (values .entry)) ⌝ }
     ensures { λ r. ⌜ now (cells .exit)
-        ≡ worked (now (names .entry)) (now (table .entry)) (now (text .entry)) (now (cells .entry)) (now (sheet .entry)) .cells ⌝ }
+        ≡ worked (now (names .entry)) (now (table .entry)) (now (text .entry)) (now (cells .entry))
+        (now (sheet .entry)) .cells ⌝ }
     ensures { λ r. ⌜ now (sheet .exit)
-        ≡ worked (now (names .entry)) (now (table .entry)) (now (text .entry)) (now (cells .entry)) (now (sheet .entry)) .sheet ⌝ }
+        ≡ worked (now (names .entry)) (now (table .entry)) (now (text .entry)) (now (cells .entry))
+        (now (sheet .entry)) .sheet ⌝ }
 {
     let s = statements::run(names, table, text, cells, sheet);
     let r = answer(names, text, s);

@@ -96,8 +96,9 @@ pub extern "C" fn hiranthok_judge(
         (now (cells .entry)) allowance (length (now (work .entry)))) .number ⌝ }
     ensures { λ r. ⌜ now (answer .exit) ≡ row (judgementReply (judgement (now (table .entry))
         (now (sheet .entry)) (now (values .entry)) (now (cells .entry)) allowance (length (now (work .entry))))) ⌝ }
-    ensures { λ r. ⌜ now (work .exit) ≡ judges.roomAfter (judgement (now (table .entry)) (now (sheet .entry)) (now (values .entry))
-        (now (cells .entry)) allowance (length (now (work .entry)))) (now (table .entry)) (now (sheet .entry)) (now (values .entry))
+    ensures { λ r. ⌜ now (work .exit) ≡ judges.roomAfter (judgement (now (table .entry)) (now (sheet .entry))
+        (now (values .entry)) (now (cells .entry)) allowance (length (now (work .entry))))
+        (now (table .entry)) (now (sheet .entry)) (now (values .entry))
         (now (cells .entry)) (now (work .entry)) ⌝ }
     ensures { λ r. ⌜ judges-laws.JudgementPromise (now (table .entry)) (now (sheet .entry)) (now (values .entry))
         (now (cells .entry)) (judgement (now (table .entry)) (now (sheet .entry)) (now (values .entry))
@@ -147,16 +148,17 @@ pub extern "C" fn hiranthok_judge_records(
     work: &mut [u32],
     answer: &mut [u64; 4],
 ) -> u32
-    ensures { λ r. ⌜ r ≡ judgementReply (recorded.judgement (now (table .entry)) (now (sheet .entry)) (now (values .entry))
-        (now (cells .entry)) allowance (length (now (work .entry)))) .number ⌝ }
+    ensures { λ r. ⌜ r ≡ judgementReply (recorded.judgement (now (table .entry)) (now (sheet .entry))
+        (now (values .entry)) (now (cells .entry)) allowance (length (now (work .entry)))) .number ⌝ }
     ensures { λ r. ⌜ now (answer .exit) ≡ row (judgementReply (recorded.judgement (now (table .entry))
         (now (sheet .entry)) (now (values .entry)) (now (cells .entry)) allowance (length (now (work .entry))))) ⌝ }
-    ensures { λ r. ⌜ now (work .exit) ≡ recorded.judgementRoom (recorded.judgement (now (table .entry)) (now (sheet .entry)) (now (values .entry))
-        (now (cells .entry)) allowance (length (now (work .entry)))) (now (table .entry)) (now (sheet .entry)) (now (values .entry))
+    ensures { λ r. ⌜ now (work .exit) ≡ recorded.judgementRoom (recorded.judgement (now (table .entry))
+        (now (sheet .entry)) (now (values .entry)) (now (cells .entry)) allowance (length (now (work .entry))))
+        (now (table .entry)) (now (sheet .entry)) (now (values .entry))
         (now (cells .entry)) (now (work .entry)) ⌝ }
-    ensures { λ r. ⌜ recorded-laws.RecordJudgementPromise (now (table .entry)) (now (sheet .entry)) (now (values .entry))
-        (now (cells .entry)) (recorded.judgement (now (table .entry)) (now (sheet .entry)) (now (values .entry))
-        (now (cells .entry)) allowance (length (now (work .entry)))) ⌝ }
+    ensures { λ r. ⌜ recorded-laws.RecordJudgementPromise (now (table .entry)) (now (sheet .entry))
+        (now (values .entry)) (now (cells .entry)) (recorded.judgement (now (table .entry)) (now (sheet .entry))
+        (now (values .entry)) (now (cells .entry)) allowance (length (now (work .entry)))) ⌝ }
 {
     let judgement = records::judge_records(table, sheet, values, cells, allowance, work);
     answer_judged(judgement, answer)

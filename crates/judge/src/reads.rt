@@ -88,7 +88,9 @@ pub fn read(
 ) -> Labelled
     requires { ⌜ WellFormed 80000 (now table) ⌝ }
     requires { ⌜ first + length (leavesAt (now table) a) ≤ 17 ⌝ }
-    ensures { λ r. ⌜ r ≡ labelledAt (now (table .entry)) (now (front .entry)) (now (truths .entry)) (now (cells .entry)) j cj a first ⌝ }
+    ensures { λ r. ⌜ r
+        ≡ labelledAt (now (table .entry)) (now (front .entry)) (now (truths .entry))
+        (now (cells .entry)) j cj a first ⌝ }
 {
     let x = table::term_at(table, a);
     if table::is_store(x) {

@@ -61,7 +61,8 @@ fn labelled_of(
     requires { ⌜ Next (now table) (now front) x ⌝ }
     requires { ⌜ length (now truths) ≡ length (now front) ⌝ }
     ensures { λ r. ⌜ r
-        ≡ labelledOf (now (table .entry)) (marksBy (now (said .entry))) (now (values .entry)) (now (front .entry)) (now (truths .entry)) x
+        ≡ labelledOf (now (table .entry)) (marksBy (now (said .entry))) (now (values .entry))
+        (now (front .entry)) (now (truths .entry)) x
         (now (cells .entry)) ⌝ }
 {
     if table::is_read(x) {
@@ -108,8 +109,8 @@ fn labelled_here(
     requires { ⌜ terms ≡ tables.terms (now table) ⌝ }
     requires { ⌜ (at < terms) × (terms + at ≤ length (now room)) ⌝ }
     ensures { λ r. ⌜ r
-        ≡ labelledHere (now (table .entry)) (marksBy (now (said .entry))) (now (values .entry)) terms (now (room .entry)) at
-        (now (cells .entry)) ⌝ }
+        ≡ labelledHere (now (table .entry)) (marksBy (now (said .entry))) (now (values .entry))
+        terms (now (room .entry)) at (now (cells .entry)) ⌝ }
 {
     let end = at as usize;
     let start = terms as usize;

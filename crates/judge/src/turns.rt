@@ -91,7 +91,8 @@ pub fn turn_here(
     requires { ⌜ WellFormed 80000 (now table) ⌝ }
     requires { ⌜ (at ≤ terms) × (terms + at ≤ length (now room)) ⌝ }
     requires { ⌜ met ≤ 17 ⌝ }
-    ensures { λ r. ⌜ r ≡ turnHere (now (table .entry)) (now (values .entry)) count terms (now (room .entry)) cells at met ⌝ }
+    ensures { λ r. ⌜ r
+        ≡ turnHere (now (table .entry)) (now (values .entry)) count terms (now (room .entry)) cells at met ⌝ }
 {
     let end = at as usize;
     let start = terms as usize;

@@ -38,7 +38,7 @@ isStore x = writes (opOf (x .op))
 abbrev pub isChoice : Term → Bool
 isChoice x = picks (opOf (x .op)) && array (x .sort)
 
--- 3 op over 16
+-- 3 op over 20
 abbrev pub known : Term → Bool
 known x = leb (x .op) lastOp
 

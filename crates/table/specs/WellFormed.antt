@@ -10,7 +10,7 @@ use Rattle.table.specs.Terms.{words, terms, termAt, sortAt, boolean, arr
 use Rattle.table.specs.Faults.{fields, isVariable, isStore, isChoice, known, sorted, placedAs, typed, valuedAs, clash, size}
 use Rattle.table.specs.Admission.{admissionWithin}
 
--- Of term k: an op up to 16; one of the three sorts; operands below and unused fields 0; sorts as the op's line asks;
+-- Of term k: an op up to 20; one of the three sorts; operands below and unused fields 0; sorts as the op's line asks;
 -- a constant that fits, a slot up to 255 and a mark up to 1; no clash; a size of at most 16.
 pub record Sound (t : List ℕ) (k : ℕ) : Type 0 where
   pub is-known : known (termAt t k) ≡ true

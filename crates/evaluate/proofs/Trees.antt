@@ -87,12 +87,16 @@ module _ (w : List ℕ) (stacked : Stacked w) (front : List ℕ) (j : ℕ) where
         subst (λ (y : Term). isStore y ≡ true → (getD front (y .q) 0 ≡ j → ⊥) → foundAt w front (y .p) j ≡ foundAt w front a j) (sym here)
         (λ s h. sym (found-store a s ∙ ap (λ (b : Bool). cond b (record { stored = true; number = getD front (termAt w a .r) 0 }) (foundAt w front (termAt w a .p) j)) (ne-eqb (getD front (termAt w a .q) 0) j h)))
 
-    pub found-first : isChoice x ≡ true → getD front (x .p) 0 ≡ 1 → foundAt w front (x .q) j ≡ foundAt w front a j
-    found-first =
-        subst (λ (y : Term). isChoice y ≡ true → getD front (y .p) 0 ≡ 1 → foundAt w front (y .q) j ≡ foundAt w front a j) (sym here)
-        (λ c h. sym (found-choice a c ∙ ap (λ (b : Bool). cond b (foundAt w front (termAt w a .q) j) (foundAt w front (termAt w a .r) j)) (eq-eqb (getD front (termAt w a .p) 0) 1 h)))
+    -- of a choice the branch that is picked
+    pub picked-below : isChoice x ≡ true → (b : Bool) → cond b (x .q) (x .r) < a
+    picked-below c true = first-below c
+    picked-below c false = second-below c
 
-    pub found-second : isChoice x ≡ true → (getD front (x .p) 0 ≡ 1 → ⊥) → foundAt w front (x .r) j ≡ foundAt w front a j
-    found-second =
-        subst (λ (y : Term). isChoice y ≡ true → (getD front (y .p) 0 ≡ 1 → ⊥) → foundAt w front (y .r) j ≡ foundAt w front a j) (sym here)
-        (λ c h. sym (found-choice a c ∙ ap (λ (b : Bool). cond b (foundAt w front (termAt w a .q) j) (foundAt w front (termAt w a .r) j)) (ne-eqb (getD front (termAt w a .p) 0) 1 h)))
+    pub found-picked : isChoice x ≡ true → foundAt w front (cond (holds (getD front (x .p) 0)) (x .q) (x .r)) j ≡ foundAt w front a j
+    found-picked =
+        subst (λ (y : Term). isChoice y ≡ true → foundAt w front (cond (holds (getD front (y .p) 0)) (y .q) (y .r)) j ≡ foundAt w front a j) (sym here)
+        (λ c. by (holds (getD front (termAt w a .p) 0)) ∙ sym (found-choice a c))
+      where
+        by : (b : Bool) → foundAt w front (cond b (termAt w a .q) (termAt w a .r)) j ≡ cond b (foundAt w front (termAt w a .q) j) (foundAt w front (termAt w a .r) j)
+        by true = refl
+        by false = refl

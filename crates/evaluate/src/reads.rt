@@ -11,7 +11,8 @@ pub struct Found {
 }
 
 // What the array term `a` holds at index `j`, the outermost store first; where its index differs, the same question
-// goes to the array beneath, and of a choice to the branch that the test picks: the array's number falls.
+// goes to the array beneath, and of a choice to the branch that the test picks: the array's number falls. An answer is
+// handed on field by field: read whole after its fields were written one by one, it would be waited for.
 pub fn find(table: &[u32], front: &[u32], a: u32, j: u32) -> Found
     requires { ⌜ WellFormed 80000 (now table) ⌝ }
     ensures { λ r. ⌜ r ≡ foundAt (now (table .entry)) (now (front .entry)) a j ⌝ }
@@ -24,7 +25,11 @@ pub fn find(table: &[u32], front: &[u32], a: u32, j: u32) -> Found
                 number: number_at(front, x.r),
             };
         }
-        return find(table, front, x.p, j);
+        let below = find(table, front, x.p, j);
+        return Found {
+            stored: below.stored,
+            number: below.number,
+        };
     }
     if !table::is_choice(x) {
         return Found {
@@ -32,8 +37,10 @@ pub fn find(table: &[u32], front: &[u32], a: u32, j: u32) -> Found
             number: x.p,
         };
     }
-    if number_at(front, x.p) == 1 {
-        return find(table, front, x.q, j);
+    let branch = ops::ite(number_at(front, x.p) == 1, x.q, x.r);
+    let picked = find(table, front, branch, j);
+    Found {
+        stored: picked.stored,
+        number: picked.number,
     }
-    find(table, front, x.r, j)
 }

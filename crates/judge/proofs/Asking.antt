@@ -8,13 +8,13 @@ use native.Mathlib.Decide.{ℕ-discrete}
 use native.Mathlib.Nat.{zero-add}
 use native.Mathlib.Omega.{arith}
 use lib.Dec.{ltb}
-use lib.ListN.{length, getD, set}
+use lib.ListN.{length, getD, set, replicate}
 use lib.Seq.{getD-set-same, getD-set-other}
 use borrow.Author.Tests.{ltb-true, ltb-false}
 use Rattle.ops.proofs.Booleans.{never, and-parts, and-shut}
 use Rattle.table.specs.declared.words.Term.{Term}
 use Rattle.table.specs.Terms.{terms, termAt}
-use Rattle.table.specs.Faults.{isRead}
+use Rattle.table.specs.Faults.{isRead, isStore}
 use Rattle.table.specs.WellFormed.{WellFormed}
 use Rattle.setting.specs.declared.cells.Cell.{Cell}
 use Rattle.setting.specs.Cells.{lookFrom}
@@ -26,8 +26,9 @@ use Rattle.evaluate.proofs.Runs.{inCells, looked, Turning}
 use Rattle.judge.specs.declared.turns.Turn.{Turn}
 use Rattle.judge.specs.Conditions.{truths}
 use Rattle.judge.specs.Code.Leaves.{leavesAt}
-use Rattle.judge.specs.Code.Labelled.{truthIn}
-use Rattle.judge.specs.Code.Turns.{alone, turnOf, gathered}
+use Rattle.judge.specs.Code.Labelled.{truthIn, pickedBy}
+use Rattle.judge.specs.Code.Reach.{reachAt, heldAt}
+use Rattle.judge.specs.Code.Turns.{alone, held, asksFor, turnOf, gathered}
 use Rattle.judge.proofs.LeafLaws.{few-leaves}
 use Rattle.judge.proofs.Meaning.{indexOf, Answers}
 
@@ -39,72 +40,106 @@ asked t = record { pending = t .pending; at = t .at; count = t .count; slot = t 
 abbrev pub freeRead : List ℕ → List ℕ → ℕ → Bool
 freeRead w ts i = isRead (termAt w i) && truthIn ts (termAt w i .q)
 
+-- the array that term i reaches, where it is such a read, and whether that is a store that is picked
+abbrev pub reached : List ℕ → List ℕ → List ℕ → ℕ → ℕ
+reached w front ts i = reachAt w front ts (getD front (termAt w i .q) 0) (termAt w i .p)
+
+abbrev pub heldRead : List ℕ → List ℕ → List ℕ → ℕ → Bool
+heldRead w front ts i = heldAt w front ts (getD front (termAt w i .q) 0) (reached w front ts i)
+
+-- such a read asks for cells, unless a store answers
+abbrev pub Seeking : List ℕ → List ℕ → List ℕ → ℕ → Type 0
+Seeking w front ts i = (freeRead w ts i ≡ true) × (heldRead w front ts i ≡ false)
+
+-- as the code finds them
+module _ (w front ts : List ℕ) (i : ℕ) (x : Term) (index to : ℕ) (y : Term) (x-is : x ≡ termAt w i) (found : index ≡ getD front (x .q) 0) (came : to ≡ reachAt w front ts index (x .p)) (y-is : y ≡ termAt w to) where
+  pub index-is : index ≡ getD front (termAt w i .q) 0
+  index-is = found ∙ ap (λ (z : Term). getD front (z .q) 0) x-is
+
+  pub reached-is : to ≡ reached w front ts i
+  reached-is = came ∙ ap₂ (λ (j : ℕ) (z : Term). reachAt w front ts j (z .p)) index-is x-is
+
+  pub held-is : isStore y && pickedBy front ts y index true ≡ heldRead w front ts i
+  held-is = ap (λ (z : Term). isStore z && pickedBy front ts z index true) y-is ∙ ap₂ (λ (j k : ℕ). heldAt w front ts j k) index-is reached-is
+
 module _ (w row front ts had : List ℕ) (count n i met : ℕ) where
   -- what such a read asks
   abbrev pub asksCell : Turn
-  asksCell =
-      let slots = leavesAt w (termAt w i .p) in
-      let slot = getD slots met 0 in
-      record {
-        pending = ltb i n;
-        at = i;
-        count = count;
-        slot = slot;
-        index = getD front (termAt w i .q) 0;
-        other = getD row slot 0;
-        met = met;
-        more = ltb (met + 1) (length slots);
-        cells = had;
-      }
+  asksCell = asksFor w row (ltb i n) i count (getD front (termAt w i .q) 0) (reached w front ts i) met had
+
+  abbrev asksNone : Turn
+  asksNone = held (ltb i n) i (reached w front ts i)
 
   abbrev asksValue : Turn
-  asksValue = alone (evaluating.turnOf w row count n front i) had
+  asksValue = alone (evaluating.turnOf w row count n front i)
+
+  abbrev asksBy : Bool → Bool → Turn
+  asksBy z y = cond z (cond y asksNone asksCell) asksValue
 
   pub turning : Turning n count i (asked (turnOf w row count n front ts had i met))
   unfolding turnOf
-  turning = by (freeRead w ts i)
+  turning = by (freeRead w ts i) (heldRead w front ts i)
     where
-      by : (b : Bool) → Turning n count i (asked (cond b asksCell asksValue))
-      by true = record { going = refl; place = refl; most = omega arith }
-      by false = runs.turning w row front count n i
+      by : (z y : Bool) → Turning n count i (asked (asksBy z y))
+      by true true = record { going = refl; place = refl; most = omega arith }
+      by true false = record { going = refl; place = refl; most = omega arith }
+      by false y = runs.turning w row front count n i
 
-  pub free-asks : freeRead w ts i ≡ true → turnOf w row count n front ts had i met ≡ asksCell
+  pub free-asks : Seeking w front ts i → turnOf w row count n front ts had i met ≡ asksCell
   unfolding turnOf
-  free-asks e = rw e
+  free-asks e = λ k. asksBy (e .0 k) (e .1 k)
+
+  pub held-asks : freeRead w ts i ≡ true → heldRead w front ts i ≡ true → turnOf w row count n front ts had i met ≡ asksNone
+  unfolding turnOf
+  held-asks e h = λ k. asksBy (e k) (h k)
 
   pub plain-asks : freeRead w ts i ≡ false → turnOf w row count n front ts had i met ≡ asksValue
   unfolding turnOf
-  plain-asks e = rw e
+  plain-asks e = λ k. asksBy (e k) (heldRead w front ts i)
 
-  -- it keeps the cells that are had
-  pub kept-cells : turnOf w row count n front ts had i met .cells ≡ had
+  -- which of the three it is
+  way : {A : Type 0} (z y : Bool) → freeRead w ts i ≡ z → heldRead w front ts i ≡ y → (Seeking w front ts i → A) → (freeRead w ts i ≡ true → heldRead w front ts i ≡ true → A) → (freeRead w ts i ≡ false → A) → A
+  way true true e h seeks holds-it plain = holds-it e h
+  way true false e h seeks holds-it plain = seeks (e, h)
+  way false y e h seeks holds-it plain = plain e
+
+  pub by-ways : {A : Type 0} → (Seeking w front ts i → A) → (freeRead w ts i ≡ true → heldRead w front ts i ≡ true → A) → (freeRead w ts i ≡ false → A) → A
+  by-ways = way (freeRead w ts i) (heldRead w front ts i) refl refl
+
+  -- it has room for 17 cells
+  pub long-cells : length had ≡ 17 → length (turnOf w row count n front ts had i met .cells) ≡ 17
   unfolding turnOf
-  kept-cells = by (freeRead w ts i)
+  long-cells long = by (freeRead w ts i) (heldRead w front ts i)
     where
-      by : (z : Bool) → cond z asksCell asksValue .cells ≡ had
-      by true = refl
-      by false = refl
+      by : (z y : Bool) → length (asksBy z y .cells) ≡ 17
+      by true true = refl
+      by true false = long
+      by false y = refl
 
   -- a turn that goes on after its cell is such a read's
-  pub more-free : turnOf w row count n front ts had i met .more ≡ true → (freeRead w ts i ≡ true) × (met + 1 < length (leavesAt w (termAt w i .p)))
+  pub more-free : turnOf w row count n front ts had i met .more ≡ true → Seeking w front ts i × (met + 1 < length (leavesAt w (reached w front ts i)))
   unfolding turnOf
-  more-free = by (freeRead w ts i)
+  more-free = by (freeRead w ts i) (heldRead w front ts i)
     where
-      by : (b : Bool) → cond b asksCell asksValue .more ≡ true → (b ≡ true) × (met + 1 < length (leavesAt w (termAt w i .p)))
-      by true h = (refl, ltb-true (met + 1) (length (leavesAt w (termAt w i .p))) h)
-      by false h = never h
+      by : (z y : Bool) → asksBy z y .more ≡ true → ((z ≡ true) × (y ≡ false)) × (met + 1 < length (leavesAt w (reached w front ts i)))
+      by true true h = never h
+      by true false h = ((refl, refl), ltb-true (met + 1) (length (leavesAt w (reached w front ts i))) h)
+      by false y h = never h
 
 -- Of term i of a table in an interpretation: the cells of its variables
 module _ (w : List ℕ) (marked : Term → Bool) (row : List ℕ) (cells : ℕ → Cell) (count i : ℕ) where
+  abbrev pub arrayHere : ℕ
+  arrayHere = reached w (numbers w (inCells row cells count) i) (truths w marked (inCells row cells count) i) i
+
   -- the cell of number m of them
   abbrev pub variableCell : ℕ → ℕ
   variableCell m =
-      let slot = getD (leavesAt w (termAt w i .p)) m 0 in
+      let slot = getD (leavesAt w arrayHere) m 0 in
       lookFrom cells count 0 slot (getD (numbers w (inCells row cells count) i) (termAt w i .q) 0) (getD row slot 0)
 
   -- so many are had, and there is one to ask for
   pub record Gathering (met : ℕ) (had : List ℕ) : Type 0 where
-    pub next : met < length (leavesAt w (termAt w i .p))
+    pub next : met < length (leavesAt w arrayHere)
     pub before : (m : ℕ) → m < met → getD had m 0 ≡ variableCell m
 
 module _ (limit : ℕ) (w : List ℕ) (marked : Term → Bool) (row : List ℕ) (cells : ℕ → Cell) (count n : ℕ) (f : WellFormed limit w) (i : ℕ) (b : i < terms w) where
@@ -115,20 +150,19 @@ module _ (limit : ℕ) (w : List ℕ) (marked : Term → Bool) (row : List ℕ) 
   T = truths w marked (inCells row cells count) i
 
   abbrev slots : List ℕ
-  slots = leavesAt w (termAt w i .p)
+  slots = leavesAt w (reached w N T i)
 
-  module _ (turn : Turn) (met : ℕ) (had : List ℕ) (long : length had ≡ 17) (asks : turn ≡ turnOf w row count n N T had i met) (going : freeRead w T i ≡ true → Gathering w marked row cells count i met had) where
+  module _ (turn : Turn) (met : ℕ) (had : List ℕ) (long : length had ≡ 17) (asks : turn ≡ turnOf w row count n N T had i met) (going : Seeking w N T i → Gathering w marked row cells count i met had) where
     -- there is room for its answer
     pub room : turn .met < 17
-    room = by (freeRead w T i) refl
-      where
-        by : (z : Bool) → freeRead w T i ≡ z → turn .met < 17
-        by true e = omega (arith, ap (λ (t : Turn). t .met) (asks ∙ free-asks w row N T had count n i met e), going e .next, few-leaves limit w f (termAt w i .p))
-        by false e = omega (arith, ap (λ (t : Turn). t .met) (asks ∙ plain-asks w row N T had count n i met e))
+    room = by-ways w row N T had count n i met
+        (λ e. omega (arith, ap (λ (t : Turn). t .met) (asks ∙ free-asks w row N T had count n i met e), going e .next, few-leaves limit w f (reached w N T i)))
+        (λ e h. omega (arith, ap (λ (t : Turn). t .met) (asks ∙ held-asks w row N T had count n i met e h)))
+        (λ e. omega (arith, ap (λ (t : Turn). t .met) (asks ∙ plain-asks w row N T had count n i met e)))
 
     module _ (answer : ℕ) (answered : answer ≡ looked cells (asked turn)) where
       -- one more is had
-      module _ (e : freeRead w T i ≡ true) where
+      module _ (e : Seeking w N T i) where
         is : turn ≡ asksCell w row N T had count n i met
         is = asks ∙ free-asks w row N T had count n i met e
 
@@ -136,7 +170,7 @@ module _ (limit : ℕ) (w : List ℕ) (marked : Term → Bool) (row : List ℕ) 
         now-had = ap (λ (t : Turn). set (t .cells) (t .met) answer) is
 
         small : met < length had
-        small = omega (arith, long, going e .next, few-leaves limit w f (termAt w i .p))
+        small = omega (arith, long, going e .next, few-leaves limit w f (reached w N T i))
 
         pub one-more : (m : ℕ) → m < met + 1 → getD (gathered turn answer) m 0 ≡ variableCell w marked row cells count i m
         one-more m c = ap (λ (l : List ℕ). getD l m 0) now-had ∙ go (ℕ-discrete m met)
@@ -146,17 +180,24 @@ module _ (limit : ℕ) (w : List ℕ) (marked : Term → Bool) (row : List ℕ) 
             go (no k) = getD-set-other had met m answer 0 k ∙ going e .before m (omega arith)
 
       -- where it asks for no more, all is had that the term needs
-      pub answers : turn .more ≡ false → isRead (termAt w i) ≡ true → Answers limit w marked row (λ slot j other. lookFrom cells count 0 slot j other) f i b (truthIn T (termAt w i .q)) (gathered turn answer)
+      pub answers : turn .more ≡ false → isRead (termAt w i) ≡ true → Answers limit w marked row (λ slot j other. lookFrom cells count 0 slot j other) f i b (truthIn T (termAt w i .q)) (turn .array) (gathered turn answer)
       answers none r = by (truthIn T (termAt w i .q)) refl
         where
-          by : (z : Bool) → truthIn T (termAt w i .q) ≡ z → Answers limit w marked row (λ slot j other. lookFrom cells count 0 slot j other) f i b z (gathered turn answer)
+          array-is : freeRead w T i ≡ true → turn .array ≡ reached w N T i
+          array-is e = by-ways w row N T had count n i met
+              (λ s. ap (λ (t : Turn). t .array) (asks ∙ free-asks w row N T had count n i met s))
+              (λ g h. ap (λ (t : Turn). t .array) (asks ∙ held-asks w row N T had count n i met g h))
+              (λ g. never (sym g ∙ e))
+
+          by : (z : Bool) → truthIn T (termAt w i .q) ≡ z → Answers limit w marked row (λ slot j other. lookFrom cells count 0 slot j other) f i b z (turn .array) (gathered turn answer)
           by true z =
               let e : freeRead w T i ≡ true = ap₂ (λ (x y : Bool). x && y) r z in
-              let last : length slots ≤ met + 1 = ltb-false (met + 1) (length slots) (sym (ap (λ (t : Turn). t .more) (is e)) ∙ none) in
-              λ m c. ap (λ (k : ℕ). getD (gathered turn answer) k 0) (zero-add m) ∙ one-more e m (omega arith)
+              (array-is e, λ h m c.
+              let last : length slots ≤ met + 1 = ltb-false (met + 1) (length slots) (sym (ap (λ (t : Turn). t .more) (is (e, h))) ∙ none) in
+              ap (λ (k : ℕ). getD (gathered turn answer) k 0) (zero-add m) ∙ one-more (e, h) m (omega arith))
           by false z =
               let e : freeRead w T i ≡ false = ap₂ (λ (x y : Bool). x && y) r z in
               let is = asks ∙ plain-asks w row N T had count n i met e in
               ap (λ (t : Turn). getD (set (t .cells) (t .met) answer) 0 0) is
-              ∙ getD-set-same had 0 answer 0 (omega (arith, long))
+              ∙ getD-set-same (replicate 17 0) 0 answer 0 (omega arith)
               ∙ runs.answer-is limit w row cells count n f i b (asked turn) (ap asked is) answer answered r

@@ -31,11 +31,12 @@ use Rattle.judge.specs.declared.turns.Turn.{Turn}
 use Rattle.judge.specs.declared.reads.Labelled.{Labelled}
 use Rattle.judge.specs.Conditions.{plain, conditionIn, conditionFrom, conditions, conditionAt, truths}
 use Rattle.judge.specs.Code.Leaves.{leavesAt}
-use Rattle.judge.specs.Code.Labelled.{truthIn, labelledOf, entered, noted}
-use Rattle.judge.specs.Code.Turns.{turnOf, turnHere, firstTurn, gathered, noteOn, nextAt, nextMet, nextRoom}
+use Rattle.judge.specs.Code.Labelled.{truthIn, labelledOf, entered, noted, plainNoted}
+use Rattle.judge.specs.Code.Turns.{turnOf, turnHere, firstTurn, gathered, asksFor, asksMore, noteOn, nextRoom, nextTurn}
 use Rattle.judge.proofs.LeafLaws.{some-leaves}
 use Rattle.judge.proofs.Meaning.{length-truths, Answers, labelled-is}
-use Rattle.judge.proofs.Asking.{asked, freeRead, turning, free-asks, kept-cells, more-free, Gathering, room as room-for, one-more, answers}
+use Rattle.judge.proofs.Asking.{asked, reached, Seeking, turning, free-asks, asksCell, long-cells, more-free, Gathering, room as room-for, one-more, answers}
+use Rattle.judge.proofs.Steps.{plain-notes}
 use Rattle.judge.proofs.Rooms.{runs, laid-length, laid-front, laid-truths, laid-more, laid-none}
 
 truths-more : (w : List ℕ) (marked : Term → Bool) (I : Interpretation) (k : ℕ) → truths w marked I (k + 1) ≡ truths w marked I k ++ (bit (conditionAt w marked I k .free) ∷ [])
@@ -61,7 +62,7 @@ module _ (w : List ℕ) (marked : Term → Bool) (row : List ℕ) (cells : ℕ �
     pub had : List ℕ
     pub long : length had ≡ 17
     pub asks : turn ≡ asking i met had
-    pub going : (freeRead w (truths w marked I i) i ≡ true) → Gathering w marked row cells count i met had
+    pub going : Seeking w (numbers w I i) (truths w marked I i) i → Gathering w marked row cells count i met had
 
   module _ (room : List ℕ) (turn : Turn) (h : Filling room turn) where
     here : Turning n count (h .i) (asked turn)
@@ -79,8 +80,11 @@ module _ (w : List ℕ) (marked : Term → Bool) (row : List ℕ) (cells : ℕ �
     pub at-going : turn .pending ≡ true → turn .at < n
     at-going on = omega (arith, at-is, inside on)
 
-    met-of : freeRead w (truths w marked I (h .i)) (h .i) ≡ true → turn .met ≡ h .met
-    met-of e = ap (λ (t : Turn). t .met) (h .asks ∙ free-asks w row (numbers w I (h .i)) (truths w marked I (h .i)) (h .had) count n (h .i) (h .met) e)
+    seeks-is : Seeking w (numbers w I (h .i)) (truths w marked I (h .i)) (h .i) → turn ≡ asksCell w row (numbers w I (h .i)) (truths w marked I (h .i)) (h .had) count n (h .i) (h .met)
+    seeks-is e = h .asks ∙ free-asks w row (numbers w I (h .i)) (truths w marked I (h .i)) (h .had) count n (h .i) (h .met) e
+
+    met-of : Seeking w (numbers w I (h .i)) (truths w marked I (h .i)) (h .i) → turn .met ≡ h .met
+    met-of e = ap (λ (t : Turn). t .met) (seeks-is e)
 
     pub ended : turn .pending ≡ false → room ≡ filled n
     ended off =
@@ -100,7 +104,7 @@ module _ (w : List ℕ) (marked : Term → Bool) (row : List ℕ) (cells : ℕ �
         had = replicate 17 0;
         long = refl;
         asks = e;
-        going = λ free. never (sym (and-shut (isRead (termAt w 0))) ∙ free);
+        going = λ free. never (sym (and-shut (isRead (termAt w 0))) ∙ free .0);
       }
 
   module _ (limit : ℕ) (f : WellFormed limit w) (all : n ≡ terms w) (enough : n + n ≤ length begin) where
@@ -115,20 +119,23 @@ module _ (w : List ℕ) (marked : Term → Bool) (row : List ℕ) (cells : ℕ �
       long = laid-length (numbers w I i) (truths w marked I i) n i begin enough within (length-numbers w I i) (length-truths w marked I i)
 
       -- what term i asks there
-      turn-is : (room had : List ℕ) (met : ℕ) (turn : Turn) → room ≡ filled i → turn ≡ turnHere w row count n room had i met → turn ≡ asking i met had
-      turn-is room had met turn e t =
-          t ∙ ap (λ (l : List ℕ). turnHere w row count n l had i met) e ∙ ap₂ (λ (l m : List ℕ). turnOf w row count n l m had i met) front-is truths-are
+      turn-is : (room : List ℕ) (turn : Turn) → room ≡ filled i → turn ≡ turnHere w row count n room i → turn ≡ asking i 0 (replicate 17 0)
+      turn-is room turn e t =
+          t ∙ ap (λ (l : List ℕ). turnHere w row count n l i) e ∙ ap₂ (λ (l m : List ℕ). turnOf w row count n l m (replicate 17 0) i 0) front-is truths-are
 
     -- a term notes its value and its truth
-    wrote : (had : List ℕ) (i : ℕ) (b : i < terms w) → (isRead (termAt w i) ≡ true → Answers limit w marked row (λ slot j other. lookFrom cells count 0 slot j other) f i b (truthIn (truths w marked I i) (termAt w i .q)) had)
-        → noted w marked row n had (filled i) i ≡ filled (i + 1)
-    wrote had i b h =
+    wrote : (to : ℕ) (had : List ℕ) (i : ℕ) (b : i < terms w) → (isRead (termAt w i) ≡ true → Answers limit w marked row (λ slot j other. lookFrom cells count 0 slot j other) f i b (truthIn (truths w marked I i) (termAt w i .q)) to had)
+        → noted w marked row n to had (filled i) i ≡ filled (i + 1)
+    wrote to had i b h =
         let meant : Labelled = record { value = valueAt w I i .num; free = conditionAt w marked I i .free } in
         ap (λ (r : Labelled). entered r n (filled i) i)
-        (ap₂ (λ (l m : List ℕ). labelledOf w marked row l m (termAt w i) had) (front-is i (omega arith)) (truths-are i (omega arith))
-        ∙ labelled-is limit w marked row (λ slot j other. lookFrom cells count 0 slot j other) f i b had h)
+        (ap₂ (λ (l m : List ℕ). labelledOf w marked row l m (termAt w i) to had) (front-is i (omega arith)) (truths-are i (omega arith))
+        ∙ labelled-is limit w marked row (λ slot j other. lookFrom cells count 0 slot j other) f i b to had h)
         ∙ laid-more (numbers w I i) (truths w marked I i) n i begin enough (omega arith) (length-numbers w I i) (length-truths w marked I i) (omega arith) (meant .value) (bit (meant .free))
         ∙ sym (ap₂ (λ (l m : List ℕ). runs l m n (i + 1) begin) (numbers-more w I i) (truths-more w marked I i))
+
+    wrote-plain : (i : ℕ) → i < n → isReadAt w i ≡ false → plainNoted w marked row n (filled i) i ≡ filled (i + 1)
+    wrote-plain i b s = plain-notes w marked row n 0 [] (filled i) i s ∙ wrote 0 [] i (omega (arith, all, b)) (λ r. never (sym s ∙ r))
 
     module _ (room : List ℕ) (turn : Turn) (h : Filling room turn) where
       pub same-length : length room ≡ length begin
@@ -149,18 +156,22 @@ module _ (w : List ℕ) (marked : Term → Bool) (row : List ℕ) (cells : ℕ �
           long′ =
               length-set (turn .cells) (turn .met) answer
               ∙ ap (λ (t : Turn). length (t .cells)) (h .asks)
-              ∙ ap length (kept-cells w row (numbers w I (h .i)) (truths w marked I (h .i)) (h .had) count n (h .i) (h .met))
-              ∙ h .long
+              ∙ long-cells w row (numbers w I (h .i)) (truths w marked I (h .i)) (h .had) count n (h .i) (h .met) (h .long)
 
           -- the read asks for more: the same term, and one cell more
           module _ (more : turn .more ≡ true) where
-            free : (freeRead w (truths w marked I (h .i)) (h .i) ≡ true) × (h .met + 1 < length (leavesAt w (termAt w (h .i) .p)))
-            free = more-free w row (numbers w I (h .i)) (truths w marked I (h .i)) (h .had) count n (h .i) (h .met) (sym (ap (λ (t : Turn). t .more) (h .asks)) ∙ more)
+            seeks : Seeking w (numbers w I (h .i)) (truths w marked I (h .i)) (h .i) × (h .met + 1 < length (leavesAt w (reached w (numbers w I (h .i)) (truths w marked I (h .i)) (h .i))))
+            seeks = more-free w row (numbers w I (h .i)) (truths w marked I (h .i)) (h .had) count n (h .i) (h .met) (sym (ap (λ (t : Turn). t .more) (h .asks)) ∙ more)
 
             met-is : turn .met ≡ h .met
-            met-is = met-of room turn h (free .0)
+            met-is = met-of room turn h (seeks .0)
 
-            pub gathers : (after : Turn) → after ≡ turnHere w row count n room had′ (turn .at) (turn .met + 1) → Filling room after × (after .at ≡ turn .at) × (after .met ≡ turn .met + 1)
+            more-is : asksMore w row turn answer ≡ asking (h .i) (h .met + 1) had′
+            more-is =
+                ap (λ (t : Turn). asksFor w row (t .pending) (t .at) (t .count) (t .index) (t .array) (t .met + 1) had′) (seeks-is room turn h (seeks .0))
+                ∙ sym (free-asks w row (numbers w I (h .i)) (truths w marked I (h .i)) had′ count n (h .i) (h .met + 1) (seeks .0))
+
+            pub gathers : (after : Turn) → after ≡ asksMore w row turn answer → Filling room after × (after .at ≡ turn .at) × (after .met ≡ turn .met + 1)
             gathers after t =
                 let same : Filling room after =
                 record {
@@ -170,36 +181,38 @@ module _ (w : List ℕ) (marked : Term → Bool) (row : List ℕ) (cells : ℕ �
                   met = h .met + 1;
                   had = had′;
                   long = long′;
-                  asks = turn-is (h .i) (h .within) room had′ (h .met + 1) after (h .is) (t ∙ ap₂ (λ (k m : ℕ). turnHere w row count n room had′ k (m + 1)) (at-is room turn h) met-is);
+                  asks = t ∙ more-is;
                   going = λ e. record {
-                    next = free .1;
+                    next = seeks .1;
                     before = one-more limit w marked row cells count n f (h .i) b turn (h .met) (h .had) (h .long) (h .asks) (h .going) answer answered e;
                   };
                 } in
-                (same, at-is room after same ∙ sym (at-is room turn h), met-of room after same (free .0) ∙ ap (λ (m : ℕ). m + 1) (sym met-is))
+                (same, at-is room after same ∙ sym (at-is room turn h), met-of room after same (seeks .0) ∙ ap (λ (m : ℕ). m + 1) (sym met-is))
 
           -- it asks for no more: it is noted, with the terms after it up to the next read
           module _ (none : turn .more ≡ false) where
-            answers-here : isRead (termAt w (h .i)) ≡ true → Answers limit w marked row (λ slot j other. lookFrom cells count 0 slot j other) f (h .i) b (truthIn (truths w marked I (h .i)) (termAt w (h .i) .q)) had′
+            answers-here : isRead (termAt w (h .i)) ≡ true → Answers limit w marked row (λ slot j other. lookFrom cells count 0 slot j other) f (h .i) b (truthIn (truths w marked I (h .i)) (termAt w (h .i) .q)) (turn .array) had′
             answers-here = answers limit w marked row cells count n f (h .i) b turn (h .met) (h .had) (h .long) (h .asks) (h .going) answer answered none
 
-            read-is : noted w marked row n had′ room (turn .at) ≡ filled (h .i + 1)
+            abbrev written : List ℕ
+            written = noted w marked row n (turn .array) had′ room (turn .at)
+
+            read-is : written ≡ filled (h .i + 1)
             read-is =
-                ap (noted w marked row n had′ room) (at-is room turn h)
-                ∙ ap (λ (l : List ℕ). noted w marked row n had′ l (h .i)) (h .is)
-                ∙ wrote had′ (h .i) b answers-here
+                ap (noted w marked row n (turn .array) had′ room) (at-is room turn h)
+                ∙ ap (λ (l : List ℕ). noted w marked row n (turn .array) had′ l (h .i)) (h .is)
+                ∙ wrote (turn .array) had′ (h .i) b answers-here
 
             next-at : turn .at + 1 ≡ h .i + 1
             next-at = ap (λ (k : ℕ). k + 1) (at-is room turn h)
 
-            there : Arrived (isReadAt w) (noted w marked row n had′) filled n (λ k c s. wrote had′ k (omega arith) (λ r. never (sym s ∙ r))) (turn .at + 1) (noted w marked row n had′ room (turn .at))
-            there = arrived (isReadAt w) (noted w marked row n had′) filled n (λ k c s. wrote had′ k (omega arith) (λ r. never (sym s ∙ r))) (turn .at + 1) (noted w marked row n had′ room (turn .at))
-                (omega (arith, at-going room turn h on)) (read-is ∙ ap filled (sym next-at))
+            there : Arrived (isReadAt w) (plainNoted w marked row n) filled n wrote-plain (turn .at + 1) written
+            there = arrived (isReadAt w) (plainNoted w marked row n) filled n wrote-plain (turn .at + 1) written (omega (arith, at-going room turn h on)) (read-is ∙ ap filled (sym next-at))
 
             abbrev next : ℕ
             next = nextRead w n (turn .at + 1)
 
-            pub goes-on : (room′ : List ℕ) (after : Turn) → room′ ≡ noteOn w marked row n had′ room (turn .at) → after ≡ turnHere w row count n room′ had′ next 0 → Filling room′ after × (turn .at + 1 ≤ after .at)
+            pub goes-on : (room′ : List ℕ) (after : Turn) → room′ ≡ noteOn w marked row n (turn .array) had′ room (turn .at) → after ≡ turnHere w row count n room′ next → Filling room′ after × (turn .at + 1 ≤ after .at)
             goes-on room′ after e t =
                 let filled-next : Filling room′ after =
                 record {
@@ -207,10 +220,10 @@ module _ (w : List ℕ) (marked : Term → Bool) (row : List ℕ) (cells : ℕ �
                   within = there .high;
                   is = e ∙ there .is;
                   met = 0;
-                  had = had′;
-                  long = long′;
-                  asks = turn-is next (there .high) room′ had′ 0 after (e ∙ there .is) t;
-                  going = λ _. record { next = some-leaves w (stacked limit w f) (termAt w next .p); before = λ m c. absurd (not-suc-le-zero c) };
+                  had = replicate 17 0;
+                  long = refl;
+                  asks = turn-is next (there .high) room′ after (e ∙ there .is) t;
+                  going = λ _. record { next = some-leaves w (stacked limit w f) _; before = λ m c. absurd (not-suc-le-zero c) };
                 } in
                 (filled-next, omega (arith, there .low, at-is room′ after filled-next))
 
@@ -218,13 +231,13 @@ module _ (w : List ℕ) (marked : Term → Bool) (row : List ℕ) (cells : ℕ �
           abbrev pub Nearer : Turn → Type 0
           Nearer after = (n - after .at) * 18 - after .met < (n - turn .at) * 18 - turn .met
 
-          pub turned : (room′ : List ℕ) (after : Turn) → room′ ≡ nextRoom w marked row n had′ turn room → after ≡ turnHere w row count n room′ had′ (nextAt w n turn) (nextMet turn) → Filling room′ after × Nearer after
+          pub turned : (room′ : List ℕ) (after : Turn) → room′ ≡ nextRoom w marked row n turn answer room → after ≡ nextTurn w row count n turn answer room′ → Filling room′ after × Nearer after
           turned room′ after e t = by (turn .more) refl e t
             where
-              by : (z : Bool) → turn .more ≡ z → room′ ≡ cond z room (noteOn w marked row n had′ room (turn .at))
-                  → after ≡ turnHere w row count n room′ had′ (cond z (turn .at) (nextRead w n (turn .at + 1))) (cond z (turn .met + 1) 0) → Filling room′ after × Nearer after
+              by : (z : Bool) → turn .more ≡ z → room′ ≡ cond z room (noteOn w marked row n (turn .array) had′ room (turn .at))
+                  → after ≡ cond z (asksMore w row turn answer) (turnHere w row count n room′ (nextRead w n (turn .at + 1))) → Filling room′ after × Nearer after
               by true more e t =
-                  let same = gathers more after (t ∙ ap (λ (l : List ℕ). turnHere w row count n l had′ (turn .at) (turn .met + 1)) e) in
+                  let same = gathers more after t in
                   (subst (λ (l : List ℕ). Filling l after) (sym e) (same .0), omega (arith, same .1, same .2, at-going room turn h on, room-left))
               by false none e t =
                   let f′ = goes-on none room′ after e t in

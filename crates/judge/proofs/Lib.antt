@@ -4,6 +4,7 @@ pub mod Marks
 pub mod Promises
 pub mod LeafLaws
 pub mod Trees
+pub mod Reaching
 pub mod Meaning
 pub mod Asking
 pub mod Steps

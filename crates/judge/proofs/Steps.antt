@@ -1,47 +1,56 @@
--- A step of judging: the turn's own term is written whatever it is, and those after it up to the next read.
+-- A step of judging: the turn's own term, whatever it is, and those after it up to the next read.
 -- Assumes nothing.
-use mathlib.Core.Path.{_≡_, refl, ap, _∙_}
-use mathlib.Core.Bool.{Bool, true, false, cond, not, _&&_}
+use mathlib.Core.Path.{_≡_, refl, sym, ap, _∙_}
+use mathlib.Core.Bool.{Bool, true, false, cond}
 use mathlib.Core.List.{List}
-use Prim.Native.Nat.{ℕ, zero, suc, _+_, _-_, _<_}
+use Prim.Native.Nat.{ℕ, _+_, _≤_, _<_}
 use native.Mathlib.Omega.{arith}
-use lib.Dec.{eqb}
-use borrow.Author.Tests.{eq-eqb, ne-eqb}
-use Rattle.table.specs.Folds.{firstFrom}
+use Rattle.table.specs.declared.words.Term.{Term}
 use Rattle.table.proofs.Searches.{first-on}
-use Rattle.evaluate.specs.Code.Turns.{onFrom, isReadAt, nextRead, onward}
+use Rattle.evaluate.specs.Code.Turns.{isReadAt, nextRead, onward}
 use Rattle.evaluate.proofs.Onward.{on-more}
+use Rattle.judge.specs.declared.reads.Labelled.{Labelled}
+use Rattle.judge.specs.Code.Labelled.{labelledOf, readHere, plainHere, labelledHere, entered, noted, plainNoted}
+use Rattle.judge.specs.Code.Turns.{noteOn}
 
-module _ (w : List ℕ) (n at : ℕ) where
-  -- where a step stops that has begun at term at
-  abbrev pub stopsAfter : ℕ → Bool
-  stopsAfter k = not (eqb k at) && isReadAt w k
+module _ (w : List ℕ) (marked : Term → Bool) (row : List ℕ) (terms to : ℕ) (cells room : List ℕ) (at : ℕ) where
+  as-read : isReadAt w at ≡ true → readHere w terms room at to cells ≡ labelledHere w marked row terms room at to cells
+  unfolding labelledOf
+  as-read e = sym (ap (λ (z : Bool). cond z (readHere w terms room at to cells) (plainHere w marked row terms room at)) e)
 
-  stops-here : stopsAfter at ≡ false
-  stops-here = rw (eq-eqb at at refl)
+  as-plain : isReadAt w at ≡ false → plainHere w marked row terms room at ≡ labelledHere w marked row terms room at to cells
+  unfolding labelledOf
+  as-plain e = sym (ap (λ (z : Bool). cond z (readHere w terms room at to cells) (plainHere w marked row terms room at)) e)
 
-  stops-later : (k : ℕ) → at < k → stopsAfter k ≡ isReadAt w k
-  stops-later k b = rw (ne-eqb k at (λ e. omega (arith, e, b)))
+  pub plain-notes : isReadAt w at ≡ false → plainNoted w marked row terms room at ≡ noted w marked row terms to cells room at
+  plain-notes e = ap (λ (r : Labelled). entered r terms room at) (as-plain e)
 
-  same-first : (left k : ℕ) → at < k → firstFrom stopsAfter left k ≡ firstFrom (isReadAt w) left k
-  unfolding firstFrom
-  same-first zero k b = refl
-  same-first (suc left) k b =
-      ap (λ (s : Bool). cond s k (firstFrom stopsAfter left (suc k))) (stops-later k b)
-      ∙ ap (cond (isReadAt w k) k) (same-first left (suc k) (omega arith))
+  -- where the step goes on from, and what it has written there
+  abbrev begun : Bool → ℕ
+  begun b = cond b (at + 1) at
 
-  -- where it stops
-  pub step-next : at < n → firstFrom stopsAfter (n - at) at ≡ nextRead w n (at + 1)
-  step-next b = first-on stopsAfter n at b stops-here ∙ same-first (n - (at + 1)) (at + 1) (omega arith)
+  abbrev written : Bool → List ℕ
+  written b = cond b (entered (readHere w terms room at to cells) terms room at) room
 
-  -- and the room there, whatever a term writes
-  module _ (write : List ℕ → ℕ → List ℕ) where
-    same-on : (left k : ℕ) (room : List ℕ) → at < k → onFrom stopsAfter write left room k ≡ onFrom (isReadAt w) write left room k
-    unfolding onFrom
-    same-on zero k room b = refl
-    same-on (suc left) k room b =
-        ap (λ (s : Bool). cond s room (onFrom stopsAfter write left (write room k) (suc k))) (stops-later k b)
-        ∙ ap (cond (isReadAt w k) room) (same-on left (suc k) (write room k) (omega arith))
+  pub run-within : at < terms → begun (isReadAt w at) ≤ terms
+  run-within b = by (isReadAt w at)
+    where
+      by : (z : Bool) → begun z ≤ terms
+      by true = omega arith
+      by false = omega arith
 
-    pub step-room : (room : List ℕ) → at < n → onFrom stopsAfter write (n - at) room at ≡ onward w write n (write room at) (at + 1)
-    step-room room b = on-more stopsAfter write n at room b stops-here ∙ same-on (n - (at + 1)) (at + 1) (write room at) (omega arith)
+  pub run-next : at < terms → nextRead w terms (begun (isReadAt w at)) ≡ nextRead w terms (at + 1)
+  run-next b = by (isReadAt w at) refl
+    where
+      by : (z : Bool) → isReadAt w at ≡ z → nextRead w terms (begun z) ≡ nextRead w terms (at + 1)
+      by true e = refl
+      by false e = first-on (isReadAt w) terms at b e
+
+  pub run-room : at < terms → onward w (plainNoted w marked row terms) terms (written (isReadAt w at)) (begun (isReadAt w at)) ≡ noteOn w marked row terms to cells room at
+  run-room b = by (isReadAt w at) refl
+    where
+      by : (z : Bool) → isReadAt w at ≡ z → onward w (plainNoted w marked row terms) terms (written z) (begun z) ≡ noteOn w marked row terms to cells room at
+      by true e = ap (λ (r : Labelled). onward w (plainNoted w marked row terms) terms (entered r terms room at) (at + 1)) (as-read e)
+      by false e =
+          on-more (isReadAt w) (plainNoted w marked row terms) terms at room b e
+          ∙ ap (λ (l : List ℕ). onward w (plainNoted w marked row terms) terms l (at + 1)) (plain-notes e)

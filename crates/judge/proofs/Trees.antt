@@ -1,9 +1,10 @@
 -- A read along its array, value and truth, as each way of the code has found it.
 -- Assumes nothing.
 use mathlib.Core.Path.{_≡_, refl, sym, ap, ap₂, subst, _∙_}
-use mathlib.Core.Bool.{Bool, true, false, cond, _&&_}
+use mathlib.Core.Bool.{Bool, true, false, not, cond, _&&_}
 use mathlib.Core.List.{List}
 use Prim.Native.Nat.{ℕ, zero, suc, _+_, _≤_, _<_}
+use native.Mathlib.Decide.{ℕ-discrete}
 use native.Mathlib.Omega.{arith}
 use lib.Dec.{eqb}
 use lib.ListN.{length, getD}
@@ -18,6 +19,7 @@ use Rattle.table.proofs.Stacks.{Stacked, byShape, at-end, at-store, at-choice}
 use Rattle.judge.specs.declared.reads.Labelled.{Labelled}
 use Rattle.judge.specs.Code.Leaves.{leavesAt}
 use Rattle.judge.specs.Code.Labelled.{truthIn, overlaid, pickedBy, storedBy, eitherOf, labelledWithin, labelledAt}
+use Rattle.judge.specs.Code.Reach.{passedBy}
 use Rattle.judge.proofs.LeafLaws.{leaves-store, leaves-both}
 
 -- below a store that is picked nothing counts, and of a choice whose test is free the branch that it picks counts alone
@@ -42,15 +44,29 @@ overlaid-picked front truths x j cj below h =
     sym (ap₂ (λ (a b : Bool). chosen a b (truthIn truths (x .r)) (below .free) (eqb (getD front (x .r) 0) (below .value))) (parts .0) (parts .1) ∙ chosen-first (truthIn truths (x .r)) (below .free) (eqb (getD front (x .r) 0) (below .value))) in
     λ i. record { value = vs i; free = fs i }
 
+-- a free test passes over a store
+pub overlaid-passed : (front truths : List ℕ) (x : Term) (j : ℕ) (below : Labelled) → passedBy front truths x j ≡ true → below ≡ overlaid front truths x j true below
+overlaid-passed front truths x j below h =
+    let parts = and-parts (truthIn truths (x .q)) (not (eqb (getD front (x .q) 0) j)) h in
+    let other : eqb (getD front (x .q) 0) j ≡ false = flipped (eqb (getD front (x .q) 0) j) (parts .1) in
+    let vs : below .value ≡ cond (eqb (getD front (x .q) 0) j) (getD front (x .r) 0) (below .value) = sym (ap (λ (b : Bool). cond b (getD front (x .r) 0) (below .value)) other) in
+    let fs : below .free ≡ chosen (truthIn truths (x .q) && true) (eqb (getD front (x .q) 0) j) (truthIn truths (x .r)) (below .free) (eqb (getD front (x .r) 0) (below .value)) =
+    sym (ap₂ (λ (a b : Bool). chosen (a && true) b (truthIn truths (x .r)) (below .free) (eqb (getD front (x .r) 0) (below .value))) (parts .0) other ∙ chosen-second (truthIn truths (x .r)) (below .free) (eqb (getD front (x .r) 0) (below .value))) in
+    λ i. record { value = vs i; free = fs i }
+  where
+    flipped : (b : Bool) → not b ≡ true → b ≡ false
+    flipped true e = sym e
+    flipped false e = refl
+
 module _ (front truths : List ℕ) (x : Term) (q r : Labelled) (open-test : truthIn truths (x .p) ≡ true) where
   either-by : (b : Bool) → holds (getD front (x .p) 0) ≡ b → record { value = cond b (q .value) (r .value); free = chosen true b (q .free) (r .free) (eqb (q .value) (r .value)) } ≡ eitherOf front truths x q r
   either-by b e =
       sym (ap₂ (λ (c d : Bool). record { value = cond d (q .value) (r .value); free = chosen c d (q .free) (r .free) (eqb (q .value) (r .value)) }) open-test e)
 
-  either-first : getD front (x .p) 0 ≡ 1 → q ≡ eitherOf front truths x q r
+  pub either-first : getD front (x .p) 0 ≡ 1 → q ≡ eitherOf front truths x q r
   either-first h = ap (λ (f : Bool). record { value = q .value; free = f }) (sym (chosen-first (q .free) (r .free) (eqb (q .value) (r .value)))) ∙ either-by true (eq-eqb (getD front (x .p) 0) 1 h)
 
-  either-second : (getD front (x .p) 0 ≡ 1 → ⊥) → r ≡ eitherOf front truths x q r
+  pub either-second : (getD front (x .p) 0 ≡ 1 → ⊥) → r ≡ eitherOf front truths x q r
   either-second h = ap (λ (f : Bool). record { value = r .value; free = f }) (sym (chosen-second (q .free) (r .free) (eqb (q .value) (r .value)))) ∙ either-by false (ne-eqb (getD front (x .p) 0) 1 h)
 
 module _ (w front truths cells : List ℕ) (stacked : Stacked w) (j : ℕ) (cj : Bool) where
@@ -106,11 +122,22 @@ module _ (w front truths cells : List ℕ) (stacked : Stacked w) (j : ℕ) (cj :
         subst (λ (y : Term). isChoice y ≡ true → eitherOf front truths y (read (y .q) first) (read (y .r) (first + length (leavesAt w (y .q)))) ≡ read a first) (sym here)
         (λ c. sym (labelled-choice a c first))
 
-    pub read-first : isChoice x ≡ true → truthIn truths (x .p) ≡ true → getD front (x .p) 0 ≡ 1 → read (x .q) first ≡ read a first
-    read-first c o h = either-first front truths x (read (x .q) first) (read (x .r) (first + length (leavesAt w (x .q)))) o h ∙ read-either c
+    -- where its test is free, that of the branch that is picked
+    abbrev pub taken : Bool → ℕ
+    taken b = cond b (x .q) (x .r)
 
-    pub read-second : isChoice x ≡ true → truthIn truths (x .p) ≡ true → (getD front (x .p) 0 ≡ 1 → ⊥) → read (x .r) (first + length (leavesAt w (x .q))) ≡ read a first
-    read-second c o h = either-second front truths x (read (x .q) first) (read (x .r) (first + length (leavesAt w (x .q)))) o h ∙ read-either c
+    abbrev pub from : Bool → ℕ
+    from b = cond b first (first + length (leavesAt w (x .q)))
+
+    pub read-taken : isChoice x ≡ true → truthIn truths (x .p) ≡ true → read (taken (holds (getD front (x .p) 0))) (from (holds (getD front (x .p) 0))) ≡ read a first
+    read-taken c o = by (ℕ-discrete (getD front (x .p) 0) 1) ∙ read-either c
+      where
+        either-taken : Labelled
+        either-taken = eitherOf front truths x (read (x .q) first) (read (x .r) (first + length (leavesAt w (x .q))))
+
+        by : Dec (getD front (x .p) 0 ≡ 1) → read (taken (holds (getD front (x .p) 0))) (from (holds (getD front (x .p) 0))) ≡ either-taken
+        by (yes h) = ap (λ (b : Bool). read (taken b) (from b)) (eq-eqb (getD front (x .p) 0) 1 h) ∙ either-first front truths x (read (x .q) first) (read (x .r) (first + length (leavesAt w (x .q)))) o h
+        by (no h) = ap (λ (b : Bool). read (taken b) (from b)) (ne-eqb (getD front (x .p) 0) 1 h) ∙ either-second front truths x (read (x .q) first) (read (x .r) (first + length (leavesAt w (x .q)))) o h
 
     -- the cells of its parts are among its own
     pub store-within : isStore x ≡ true → first + length (leavesAt w a) ≤ 17 → first + length (leavesAt w (x .p)) ≤ 17
@@ -126,3 +153,7 @@ module _ (w front truths cells : List ℕ) (stacked : Stacked w) (j : ℕ) (cj :
 
     pub second-within : isChoice x ≡ true → first + length (leavesAt w a) ≤ 17 → first + length (leavesAt w (x .q)) + length (leavesAt w (x .r)) ≤ 17
     second-within c b = omega (arith, b, both-within c)
+
+    pub taken-within : isChoice x ≡ true → first + length (leavesAt w a) ≤ 17 → (b : Bool) → from b + length (leavesAt w (taken b)) ≤ 17
+    taken-within c b true = first-within c b
+    taken-within c b false = second-within c b

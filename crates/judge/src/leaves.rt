@@ -38,3 +38,23 @@ pub fn leaf_at(table: &[u32], a: u32, k: u32) -> Leaf
         count: q.count + r.count,
     }
 }
+
+// The same, with the stores down to a choice or a variable passed in a loop.
+pub fn leaf_under(table: &[u32], a: u32, k: u32) -> Leaf
+    requires { ⌜ WellFormed 80000 (now table) ⌝ }
+    ensures { λ r. ⌜ r ≡ leafAt (now (table .entry)) a k ⌝ }
+{
+    let mut b = a;
+    let mut x = table::term_at(table, a);
+    while table::is_store(x) {
+        b = x.p;
+        x = table::term_at(table, b);
+    }
+    if table::is_choice(x) {
+        return leaf_at(table, b, k);
+    }
+    Leaf {
+        slot: ops::ite(k == 0, x.p, 0),
+        count: 1,
+    }
+}

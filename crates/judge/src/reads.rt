@@ -5,6 +5,7 @@ ghost use Prim.Native.Nat.{_+_, _≤_};
 ghost use lib.ListN.{length};
 ghost use Rattle.table.specs.WellFormed.{WellFormed};
 ghost use Rattle.judge.specs.Code.Leaves.{leavesAt};
+ghost use Rattle.judge.specs.Code.Reach.{passedBy, reachAt};
 ghost use Rattle.judge.specs.Code.Labelled.{truthIn, overlaid, pickedBy, storedBy, eitherOf, labelledAt};
 use crate::leaves::leaf_at;
 use table::Term;
@@ -44,10 +45,43 @@ fn overlay(front: &[u32], truths: &[u32], x: Term, j: u32, cj: bool, below: Labe
 }
 
 // Whether a store is picked by a free test: nothing beneath it counts.
-fn picked(front: &[u32], truths: &[u32], x: Term, j: u32, cj: bool) -> bool
+pub fn picked(front: &[u32], truths: &[u32], x: Term, j: u32, cj: bool) -> bool
     ensures { λ r. ⌜ r ≡ pickedBy (now (front .entry)) (now (truths .entry)) x j cj ⌝ }
 {
     truth_at(truths, x.q) & cj & (number_at(front, x.q) == j)
+}
+
+// Whether a free test passes over a store: what it holds does not count.
+fn passed(front: &[u32], truths: &[u32], x: Term, j: u32) -> bool
+    ensures { λ r. ⌜ r ≡ passedBy (now (front .entry)) (now (truths .entry)) x j ⌝ }
+{
+    truth_at(truths, x.q) & (number_at(front, x.q) != j)
+}
+
+// Where free tests lead a read of the array term `a` at a free index `j`: past the stores at other indexes, into the
+// branches that are picked, to a variable, a store that is picked or a test that is not free. The array's number falls.
+pub fn reach(table: &[u32], front: &[u32], truths: &[u32], a: u32, j: u32) -> u32
+    requires { ⌜ WellFormed 80000 (now table) ⌝ }
+    ensures { λ r. ⌜ r
+        ≡ reachAt (now (table .entry)) (now (front .entry)) (now (truths .entry)) j a ⌝ }
+{
+    let x = table::term_at(table, a);
+    if table::is_store(x) {
+        if passed(front, truths, x, j) {
+            return reach(table, front, truths, x.p, j);
+        }
+        return a;
+    }
+    if !table::is_choice(x) {
+        return a;
+    }
+    if !truth_at(truths, x.p) {
+        return a;
+    }
+    if number_at(front, x.p) == 1 {
+        return reach(table, front, truths, x.q, j);
+    }
+    reach(table, front, truths, x.r, j)
 }
 
 // What a store holds.
@@ -108,10 +142,14 @@ pub fn read(
     }
     let second = first + leaf_at(table, x.q, 0).count;
     if truth_at(truths, x.p) {
-        if number_at(front, x.p) == 1 {
-            return read(table, front, truths, cells, x.q, j, cj, first);
-        }
-        return read(table, front, truths, cells, x.r, j, cj, second);
+        let taken = number_at(front, x.p) == 1;
+        let branch = ops::ite(taken, x.q, x.r);
+        let from = ops::ite(taken, first, second);
+        let picked = read(table, front, truths, cells, branch, j, cj, from);
+        return Labelled {
+            value: picked.value,
+            free: picked.free,
+        };
     }
     let q = read(table, front, truths, cells, x.q, j, cj, first);
     let r = read(table, front, truths, cells, x.r, j, cj, second);

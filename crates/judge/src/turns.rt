@@ -1,15 +1,20 @@
 // What a term of a judgement asks, one cell at a turn.
 ghost use mathlib.Core.Path.{_≡_};
-ghost use Prim.Native.Nat.{_+_, _≤_};
+ghost use Prim.Native.Nat.{_+_, _≤_, _<_};
 ghost use lib.ListN.{length};
 ghost use Rattle.table.specs.WellFormed.{WellFormed};
-ghost use Rattle.judge.specs.Code.Turns.{alone, turnOf, turnHere, firstTurn};
-use crate::leaves::leaf_at;
+ghost use Rattle.judge.specs.Code.Turns as turns;
+ghost use Rattle.judge.specs.Code.Turns.{asksOf, asksFirst, asksMore, turnHere, firstTurn};
+use crate::leaves::Leaf;
+use crate::leaves::leaf_under;
+use crate::reads::picked;
+use crate::reads::reach;
 use crate::reads::truth_at;
 use table::number_at;
 
-// Whether there is a term at, and the cell that it asks for: among count cells, by slot and index, else the other. Of a read: how
-// many of its variables' cells are had, in cells, and whether it will ask for more after this one.
+// Whether there is a term at, and the cell that it asks for: among count cells, by slot and index, else the other. Of a
+// read at a free index: the array that it reaches, how many of the cells of its variables are had, in cells, and
+// whether it will ask for more after this one.
 pub struct Turn {
     pub pending: bool,
     pub at: u32,
@@ -19,12 +24,13 @@ pub struct Turn {
     pub other: u32,
     pub met: u32,
     pub more: bool,
+    pub array: u32,
     pub cells: [u32; 17],
 }
 
 // A term that asks once, as in evaluating.
-fn alone(t: evaluate::Turn, cells: [u32; 17]) -> Turn
-    ensures { λ r. ⌜ r ≡ alone t cells ⌝ }
+fn alone(t: evaluate::Turn) -> Turn
+    ensures { λ r. ⌜ r ≡ turns.alone t ⌝ }
 {
     Turn {
         pending: t.pending,
@@ -35,11 +41,84 @@ fn alone(t: evaluate::Turn, cells: [u32; 17]) -> Turn
         other: t.other,
         met: 0,
         more: false,
+        array: 0,
+        cells: [0u32; 17],
+    }
+}
+
+// A read that a store answers: it asks for nothing.
+fn held(pending: bool, at: u32, array: u32) -> Turn
+    ensures { λ r. ⌜ r ≡ turns.held pending at array ⌝ }
+{
+    Turn {
+        pending,
+        at,
+        count: 0,
+        slot: 0,
+        index: 0,
+        other: 0,
+        met: 0,
+        more: false,
+        array,
+        cells: [0u32; 17],
+    }
+}
+
+// A read that asks for the cell of a variable of its array, the one of number `met`; cells holds those before it.
+fn asks_for(
+    values: &[u32],
+    leaf: Leaf,
+    pending: bool,
+    at: u32,
+    count: usize,
+    index: u32,
+    array: u32,
+    met: u32,
+    cells: [u32; 17],
+) -> Turn
+    requires { ⌜ met ≤ 17 ⌝ }
+    ensures { λ r. ⌜ r ≡ asksOf (now (values .entry)) leaf pending at count index array met cells ⌝ }
+{
+    Turn {
+        pending,
+        at,
+        count,
+        slot: leaf.slot,
+        index,
+        other: number_at(values, leaf.slot),
+        met,
+        more: met + 1 < leaf.count,
+        array,
         cells,
     }
 }
 
-// A read whose index is free asks for the cells of the variables that it meets; any other term asks as in evaluating.
+// The next cell that a read asks for, after an answer.
+pub fn asks_more(table: &[u32], values: &[u32], turn: Turn, answer: u32) -> Turn
+    requires { ⌜ WellFormed 80000 (now table) ⌝ }
+    requires { ⌜ turn .met < 17 ⌝ }
+    ensures { λ r. ⌜ r ≡ asksMore (now (table .entry)) (now (values .entry)) turn answer ⌝ }
+{
+    let mut cells = turn.cells;
+    let k = turn.met as usize;
+    cells[k] = answer;
+    let met = turn.met + 1;
+    let leaf = leaf_under(table, turn.array, met);
+    asks_for(
+        values,
+        leaf,
+        turn.pending,
+        turn.at,
+        turn.count,
+        turn.index,
+        turn.array,
+        met,
+        cells,
+    )
+}
+
+// A read whose index is free asks for the cells of the variables of the array that it reaches, unless a store answers;
+// any other term asks as in evaluating.
 fn turn_at(
     table: &[u32],
     values: &[u32],
@@ -47,34 +126,35 @@ fn turn_at(
     terms: u32,
     front: &[u32],
     truths: &[u32],
-    cells: [u32; 17],
     at: u32,
-    met: u32,
 ) -> Turn
     requires { ⌜ WellFormed 80000 (now table) ⌝ }
-    requires { ⌜ met ≤ 17 ⌝ }
-    ensures { λ r. ⌜ r ≡ turnOf (now (table .entry)) (now (values .entry)) count terms (now (front .entry))
-        (now (truths .entry)) cells at met ⌝ }
+    ensures { λ r. ⌜ r ≡ asksFirst (now (table .entry)) (now (values .entry)) count terms (now (front .entry))
+        (now (truths .entry)) at ⌝ }
 {
     let x = table::term_at(table, at);
     if !(table::is_read(x) & truth_at(truths, x.q)) {
-        return alone(
-            evaluate::turn_at(table, values, count, terms, front, at),
-            cells,
-        );
+        return alone(evaluate::turn_at(table, values, count, terms, front, at));
     }
-    let met_here = leaf_at(table, x.p, met);
-    Turn {
-        pending: at < terms,
+    let pending = at < terms;
+    let index = number_at(front, x.q);
+    let array = reach(table, front, truths, x.p, index);
+    let y = table::term_at(table, array);
+    if table::is_store(y) & picked(front, truths, y, index, true) {
+        return held(pending, at, array);
+    }
+    let leaf = leaf_under(table, array, 0);
+    asks_for(
+        values,
+        leaf,
+        pending,
         at,
         count,
-        slot: met_here.slot,
-        index: number_at(front, x.q),
-        other: number_at(values, met_here.slot),
-        met,
-        more: met + 1 < met_here.count,
-        cells,
-    }
+        index,
+        array,
+        0,
+        [0u32; 17],
+    )
 }
 
 // The same at a place of the room: the numbers stand at its front, the truths from number terms on.
@@ -84,15 +164,11 @@ pub fn turn_here(
     count: usize,
     terms: u32,
     room: &[u32],
-    cells: [u32; 17],
     at: u32,
-    met: u32,
 ) -> Turn
     requires { ⌜ WellFormed 80000 (now table) ⌝ }
     requires { ⌜ (at ≤ terms) × (terms + at ≤ length (now room)) ⌝ }
-    requires { ⌜ met ≤ 17 ⌝ }
-    ensures { λ r. ⌜ r
-        ≡ turnHere (now (table .entry)) (now (values .entry)) count terms (now (room .entry)) cells at met ⌝ }
+    ensures { λ r. ⌜ r ≡ turnHere (now (table .entry)) (now (values .entry)) count terms (now (room .entry)) at ⌝ }
 {
     let end = at as usize;
     let start = terms as usize;
@@ -104,26 +180,14 @@ pub fn turn_here(
         terms,
         &room[..end],
         &room[start..last],
-        cells,
         at,
-        met,
     )
 }
 
-// The first of all, before which the room has nothing.
+// The first of all, before which the room has nothing and no index is free.
 pub fn first_turn(table: &[u32], values: &[u32], count: usize, terms: u32) -> Turn
     requires { ⌜ WellFormed 80000 (now table) ⌝ }
     ensures { λ r. ⌜ r ≡ firstTurn (now (table .entry)) (now (values .entry)) count terms ⌝ }
 {
-    turn_at(
-        table,
-        values,
-        count,
-        terms,
-        &table[..0],
-        &table[..0],
-        [0u32; 17],
-        0,
-        0,
-    )
+    alone(evaluate::turn_at(table, values, count, terms, &table[..0], 0))
 }

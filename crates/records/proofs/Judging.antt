@@ -20,7 +20,7 @@ use Rattle.evaluate.specs.Evaluation.{evaluates}
 use Rattle.evaluate.specs.Values.{numbers}
 use Rattle.judge.specs.Conditions.{truths}
 use Rattle.judge.specs.Judgement.{ruleIn, ruleCondition, verdictBy, roomIn}
-use Rattle.judge.specs.Code.Turns.{turnHere, gathered, nextAt, nextMet, nextRoom}
+use Rattle.judge.specs.Code.Turns.{nextRoom, nextTurn}
 use Rattle.judge.proofs.Fills as fills
 use Rattle.judge.proofs.Rooms.{laid-all}
 use Rattle.judge.proofs.Verdicts.{stands, room-kept, room-filled, rule-read, condition-read}
@@ -86,8 +86,8 @@ module _ (marked : Term → Bool) (admitted : Acceptance) (w values : List ℕ) 
         room-left = fills.room-left w marked values (recordAt cells) (length cells) n begin 80000 well (all runs) (enough runs) room turn (h .running runs) on
 
         pub turned : (answer : ℕ) → answer ≡ lookFrom (recordAt cells) (turn .count) 0 (turn .slot) (turn .index) (turn .other) → (next : List ℕ) (after : Turn)
-            → after ≡ turnHere w values (length cells) n next (gathered turn answer) (nextAt w n turn) (nextMet turn)
-            → next ≡ nextRoom w marked values n (gathered turn answer) turn room → Driven next after × ((n - after .at) * 18 - after .met < (n - turn .at) * 18 - turn .met)
+            → after ≡ nextTurn w values (length cells) n turn answer next
+            → next ≡ nextRoom w marked values n turn answer room → Driven next after × ((n - after .at) * 18 - after .met < (n - turn .at) * 18 - turn .met)
         turned answer answered next after t e′ =
             let f = fills.turned w marked values (recordAt cells) (length cells) n begin 80000 well (all runs) (enough runs) room turn (h .running runs) on answer answered next after e′ t in
             (driving.goes-on (λ t. t .pending) e begin Filling runs next after (f .0), f .1)

@@ -69,24 +69,38 @@ operatedLabelled w front truths x = record { value = operatedNumber w front x; f
 abbrev pub truthOf : List ℕ → (Term → Bool) → List ℕ → List ℕ → Term → Bool
 truthOf w marked front truths x = cond (isConstant x) true (cond (isVariable x) (not (marked x)) (settledBy w front truths x))
 
--- a read, whose index's condition is cj: where that is false, the read's is too, and the first of the cells is its value
-abbrev pub labelledBy : Bool → List ℕ → List ℕ → List ℕ → Term → List ℕ → Labelled
-labelledBy cj w front truths x cells = cond cj (labelledAt w front truths cells (getD front (x .q) 0) cj (x .p) 0) (record { value = getD cells 0 0; free = false })
+-- a read, whose index's condition is cj, from the array term that it reaches and the cells that it asked for: where cj is false, the
+-- read's condition is too, and the first of the cells is its value
+abbrev pub labelledBy : Bool → List ℕ → List ℕ → List ℕ → Term → ℕ → List ℕ → Labelled
+labelledBy cj w front truths x array cells = cond cj (labelledAt w front truths cells (getD front (x .q) 0) cj array 0) (record { value = getD cells 0 0; free = false })
 
--- value and truth of term x; of a read from the cells that it asked for
-unfoldable pub labelledOf : List ℕ → (Term → Bool) → List ℕ → List ℕ → List ℕ → Term → List ℕ → Labelled
-labelledOf w marked row front truths x cells =
-    cond (isRead x) (labelledBy (truthIn truths (x .q)) w front truths x cells)
-    (record { value = numberOf w row front x 0; free = truthOf w marked front truths x })
+abbrev pub readLabelled : List ℕ → List ℕ → List ℕ → Term → ℕ → List ℕ → Labelled
+readLabelled w front truths x array cells = labelledBy (truthIn truths (x .q)) w front truths x array cells
+
+-- any other term
+abbrev pub plainLabelled : List ℕ → (Term → Bool) → List ℕ → List ℕ → List ℕ → Term → Labelled
+plainLabelled w marked row front truths x = record { value = numberOf w row front x 0; free = truthOf w marked front truths x }
+
+unfoldable pub labelledOf : List ℕ → (Term → Bool) → List ℕ → List ℕ → List ℕ → Term → ℕ → List ℕ → Labelled
+labelledOf w marked row front truths x array cells = cond (isRead x) (readLabelled w front truths x array cells) (plainLabelled w marked row front truths x)
 
 -- what a turn at term at reads: the numbers before it stand at the front of the room, the truths from number terms on
-abbrev pub labelledHere : List ℕ → (Term → Bool) → List ℕ → ℕ → List ℕ → ℕ → List ℕ → Labelled
-labelledHere w marked row terms room at cells = labelledOf w marked row (take at room) (take at (drop terms room)) (termAt w at) cells
+abbrev pub readHere : List ℕ → ℕ → List ℕ → ℕ → ℕ → List ℕ → Labelled
+readHere w terms room at array cells = readLabelled w (take at room) (take at (drop terms room)) (termAt w at) array cells
+
+abbrev pub plainHere : List ℕ → (Term → Bool) → List ℕ → ℕ → List ℕ → ℕ → Labelled
+plainHere w marked row terms room at = plainLabelled w marked row (take at room) (take at (drop terms room)) (termAt w at)
+
+abbrev pub labelledHere : List ℕ → (Term → Bool) → List ℕ → ℕ → List ℕ → ℕ → ℕ → List ℕ → Labelled
+labelledHere w marked row terms room at array cells = labelledOf w marked row (take at room) (take at (drop terms room)) (termAt w at) array cells
 
 -- and writes: its value, and its truth
 abbrev pub entered : Labelled → ℕ → List ℕ → ℕ → List ℕ
 entered r terms room at = set (set room at (r .value)) (terms + at) (bit (r .free))
 
--- term at notes its value and its truth: of a read from the cells, for which no other term asks
-abbrev pub noted : List ℕ → (Term → Bool) → List ℕ → ℕ → List ℕ → List ℕ → ℕ → List ℕ
-noted w marked row terms cells room at = entered (labelledHere w marked row terms room at cells) terms room at
+-- term at notes its value and its truth, a read those from its cells
+abbrev pub noted : List ℕ → (Term → Bool) → List ℕ → ℕ → ℕ → List ℕ → List ℕ → ℕ → List ℕ
+noted w marked row terms array cells room at = entered (labelledHere w marked row terms room at array cells) terms room at
+
+abbrev pub plainNoted : List ℕ → (Term → Bool) → List ℕ → ℕ → List ℕ → ℕ → List ℕ
+plainNoted w marked row terms room at = entered (plainHere w marked row terms room at) terms room at

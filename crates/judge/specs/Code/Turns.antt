@@ -4,7 +4,7 @@ use mathlib.Core.Bool.{Bool, true, false, cond, _&&_}
 use mathlib.Core.List.{List, []}
 use Prim.Native.Nat.{ℕ, suc, _+_}
 use lib.Dec.{ltb}
-use lib.ListN.{length, getD, take, drop, set, replicate}
+use lib.ListN.{getD, take, drop, set, replicate}
 use Rattle.table.specs.declared.words.Term.{Term}
 use Rattle.table.specs.Terms.{termAt}
 use Rattle.table.specs.Faults.{isRead}
@@ -12,58 +12,76 @@ use Rattle.evaluate.specs.declared.turns.Turn.{Turn as Asked}
 use Rattle.evaluate.specs.Code.Turns as evaluating
 use Rattle.evaluate.specs.Code.Turns.{nextRead, onward}
 use Rattle.judge.specs.declared.turns.Turn.{Turn}
-use Rattle.judge.specs.Code.Leaves.{leavesAt}
-use Rattle.judge.specs.Code.Labelled.{truthIn, noted}
+use Rattle.judge.specs.declared.leaves.Leaf.{Leaf}
+use Rattle.judge.specs.Code.Leaves.{leafAt}
+use Rattle.judge.specs.Code.Labelled.{truthIn, noted, plainNoted}
+use Rattle.judge.specs.Code.Reach.{reachAt, heldAt}
 
 -- a term that asks once, as in evaluating
-abbrev pub alone : Asked → List ℕ → Turn
-alone t cells =
-    record { pending = t .pending; at = t .at; count = t .count; slot = t .slot; index = t .index; other = t .other; met = 0; more = false; cells = cells }
+abbrev pub alone : Asked → Turn
+alone t =
+    record { pending = t .pending; at = t .at; count = t .count; slot = t .slot; index = t .index; other = t .other; met = 0; more = false; array = 0; cells = replicate 17 0 }
 
--- a read whose index is free asks for the cell there of each variable that it meets, by which its value and its truth are found: met
--- says how many are had, in cells; one whose index is not free has a false condition and asks for its value alone, as in evaluating,
--- and so does any other term
+-- a read that a store answers: it asks for nothing
+abbrev pub held : Bool → ℕ → ℕ → Turn
+held pending at array = record { pending = pending; at = at; count = 0; slot = 0; index = 0; other = 0; met = 0; more = false; array = array; cells = replicate 17 0 }
+
+-- a read that asks for the cell of a variable of its array, the one of number met; cells holds those before it
+abbrev pub asksOf : List ℕ → Leaf → Bool → ℕ → ℕ → ℕ → ℕ → ℕ → List ℕ → Turn
+asksOf row leaf pending at count index array met cells =
+    record {
+      pending = pending;
+      at = at;
+      count = count;
+      slot = leaf .slot;
+      index = index;
+      other = getD row (leaf .slot) 0;
+      met = met;
+      more = ltb (met + 1) (leaf .count);
+      array = array;
+      cells = cells;
+    }
+
+abbrev pub asksFor : List ℕ → List ℕ → Bool → ℕ → ℕ → ℕ → ℕ → ℕ → List ℕ → Turn
+asksFor w row pending at count index array met cells = asksOf row (leafAt w array met) pending at count index array met cells
+
+-- a read whose index is free asks for the cells there of the variables of the array that it reaches, by which its value and its truth are
+-- found: met says how many are had, in cells; one whose index is not free has a false condition and asks for its value alone, as in
+-- evaluating, and so does any other term
 unfoldable pub turnOf : List ℕ → List ℕ → ℕ → ℕ → List ℕ → List ℕ → List ℕ → ℕ → ℕ → Turn
 turnOf w row count terms front truths cells at met =
     let x = termAt w at in
-    let slots = leavesAt w (x .p) in
-    let slot = getD slots met 0 in
-    let asked : Turn =
-    record {
-      pending = ltb at terms;
-      at = at;
-      count = count;
-      slot = slot;
-      index = getD front (x .q) 0;
-      other = getD row slot 0;
-      met = met;
-      more = ltb (met + 1) (length slots);
-      cells = cells;
-    } in
-    cond (isRead x && truthIn truths (x .q)) asked (alone (evaluating.turnOf w row count terms front at) cells)
+    let index = getD front (x .q) 0 in
+    let array = reachAt w front truths index (x .p) in
+    let asked = cond (heldAt w front truths index array) (held (ltb at terms) at array) (asksFor w row (ltb at terms) at count index array met cells) in
+    cond (isRead x && truthIn truths (x .q)) asked (alone (evaluating.turnOf w row count terms front at))
+
+-- what a term asks first
+abbrev pub asksFirst : List ℕ → List ℕ → ℕ → ℕ → List ℕ → List ℕ → ℕ → Turn
+asksFirst w row count terms front truths at = turnOf w row count terms front truths (replicate 17 0) at 0
 
 -- the same at a place of the room: the numbers before it stand at its front, the truths from number terms on
-abbrev pub turnHere : List ℕ → List ℕ → ℕ → ℕ → List ℕ → List ℕ → ℕ → ℕ → Turn
-turnHere w row count terms room cells at met = turnOf w row count terms (take at room) (take at (drop terms room)) cells at met
+abbrev pub turnHere : List ℕ → List ℕ → ℕ → ℕ → List ℕ → ℕ → Turn
+turnHere w row count terms room at = asksFirst w row count terms (take at room) (take at (drop terms room)) at
 
 -- the first of all
 abbrev pub firstTurn : List ℕ → List ℕ → ℕ → ℕ → Turn
-firstTurn w row count terms = turnOf w row count terms [] [] (replicate 17 0) 0 0
+firstTurn w row count terms = asksFirst w row count terms [] [] 0
 
--- After an answer: the cells that are had. Where the read asks for more the turn is of the same term and the room stays; else its
+-- After an answer: the cells that are had. Where the read asks for more, the turn is of the same term and the room stays; else its
 -- term and those after it, up to the next read, note their values and truths, and the turn is of that read.
 abbrev pub gathered : Turn → ℕ → List ℕ
 gathered turn answer = set (turn .cells) (turn .met) answer
 
-abbrev pub noteOn : List ℕ → (Term → Bool) → List ℕ → ℕ → List ℕ → List ℕ → ℕ → List ℕ
-noteOn w marked row terms cells room at = onward w (noted w marked row terms cells) terms (noted w marked row terms cells room at) (at + 1)
+abbrev pub asksMore : List ℕ → List ℕ → Turn → ℕ → Turn
+asksMore w row turn answer = asksFor w row (turn .pending) (turn .at) (turn .count) (turn .index) (turn .array) (turn .met + 1) (gathered turn answer)
 
-abbrev pub nextAt : List ℕ → ℕ → Turn → ℕ
-nextAt w terms turn = cond (turn .more) (turn .at) (nextRead w terms (turn .at + 1))
+abbrev pub noteOn : List ℕ → (Term → Bool) → List ℕ → ℕ → ℕ → List ℕ → List ℕ → ℕ → List ℕ
+noteOn w marked row terms array cells room at = onward w (plainNoted w marked row terms) terms (noted w marked row terms array cells room at) (at + 1)
 
-abbrev pub nextMet : Turn → ℕ
-nextMet turn = cond (turn .more) (turn .met + 1) 0
+abbrev pub nextRoom : List ℕ → (Term → Bool) → List ℕ → ℕ → Turn → ℕ → List ℕ → List ℕ
+nextRoom w marked row terms turn answer room =
+    cond (turn .more) room (noteOn w marked row terms (turn .array) (gathered turn answer) room (turn .at))
 
-abbrev pub nextRoom : List ℕ → (Term → Bool) → List ℕ → ℕ → List ℕ → Turn → List ℕ → List ℕ
-nextRoom w marked row terms cells turn room =
-    cond (turn .more) room (noteOn w marked row terms cells room (turn .at))
+abbrev pub nextTurn : List ℕ → List ℕ → ℕ → ℕ → Turn → ℕ → List ℕ → Turn
+nextTurn w row count terms turn answer room = cond (turn .more) (asksMore w row turn answer) (turnHere w row count terms room (nextRead w terms (turn .at + 1)))

@@ -61,7 +61,7 @@ use Rattle.setting.proofs.cells.Cell as T
 use Rattle.evaluate.specs.declared.Evaluation.{Evaluation}
 use Rattle.evaluate.specs.Evaluation.{evaluates}
 use Rattle.judge.specs.declared.turns.Turn.{Turn}
-use Rattle.judge.specs.Code.Turns.{turnHere, gathered, nextAt, nextMet, nextRoom}
+use Rattle.judge.specs.Code.Turns.{nextRoom, nextTurn}
 use Rattle.judge.specs.declared.Judgement.{Judgement}
 use Rattle.evaluate.proofs.Evaluation as Ev
 use Rattle.evaluate.proofs.Evaluation.Laws as Ev′
@@ -328,10 +328,10 @@ module _ {M : Type 1} (𝓤 : URA M) (H : Heap 𝓤) (A : Atoms 𝓤) (W : Given
 
   -- the two clauses of `step`
   abbrev next-turn : ℕ → Turn → ℕ → Turn → List ℕ → Type 0
-  next-turn n t v r z = r ≡ turnHere w values (length cells) n z (gathered t v) (nextAt w n t) (nextMet t)
+  next-turn n t v r z = r ≡ nextTurn w values (length cells) n t v z
 
   abbrev next-work : ℕ → List ℕ → Turn → ℕ → List ℕ → Type 0
-  next-work n l t v z = z ≡ nextRoom w marked values n (gathered t v) t l
+  next-work n l t v z = z ≡ nextRoom w marked values n t v l
 
   abbrev sl₀ : Ty
   sl₀ = sliceTy (tyRef (named 0) imm (tyInt w32))

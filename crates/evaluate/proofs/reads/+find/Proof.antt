@@ -1,15 +1,19 @@
 use Prim.Native.Nat.{ℕ, _<_}
-use mathlib.Core.Path.{_≡_, sym, subst, _∙_}
+use mathlib.Core.Path.{_≡_, sym, ap, subst, _∙_}
+use mathlib.Core.Bool.{cond}
 use borrow.Author.Needs.{needs}
 use borrow.Author.Tests.{not-true, not-false}
 use borrow.Fn.Kinds.{In}
 use borrow.Fn.PlainCycle.{Measures, is, falls, and}
+use Rattle.ops.specs.Meaning.{holds}
+use Rattle.ops.proofs.ite.Reads as ite-reads
 use Rattle.table.proofs.SoundTerms.{stacked}
 use Rattle.table.proofs.is_choice.Reads as is-choice-reads
 use Rattle.table.proofs.is_store.Reads as is-store-reads
 use Rattle.table.proofs.number_at.Reads as number-at-reads
 use Rattle.table.proofs.term_at.Reads as term-at-reads
-use Rattle.evaluate.proofs.Trees.{beneath, first-below, second-below, found-end, found-hit, found-miss, found-first, found-second}
+use Rattle.evaluate.specs.Code.Reads.{foundAt}
+use Rattle.evaluate.proofs.Trees.{beneath, found-end, found-hit, found-miss, picked-below, found-picked}
 use Rattle.evaluate.proofs.reads.find.Reads as find
 use Rattle.evaluate.proofs.reads.find.Kinds as find-kinds
 use Rattle.evaluate.proofs.reads.+find.Lts-find as find-lts
@@ -38,6 +42,8 @@ pub +find-spec : {M : Type 1} → statement M
   find.Post,
   is-choice-reads.Asked,
   is-choice-reads.Learnt,
+  ite-reads.Asked,
+  ite-reads.Learnt,
 )
     (find-at t)
     find.Post
@@ -51,7 +57,6 @@ pub +find-spec : {M : Type 1} → statement M
     (λ c κs. search needs)
     (λ c. let s = c .before .before .before .before .before .before .before in let x = c .before .before .before .before .term-at in let t = s .args .table .now in found-end t (stacked 80000 t (s .pre .1)) (s .args .front .now) (s .args .j) (s .args .a) (x .result) (x .ensures) (sym (c .before .before .before .is-store .ensures) ∙ c .before .before .if1 .left) (sym (c .before .is-choice .ensures) ∙ not-true _ (c .if3 .taken)))
     (λ c κs. search needs)
-    (λ c κs. let s = c .before .before .before .before .before .before .before .before .before in let x = c .before .before .before .before .before .before .term-at in let t = s .args .table .now in (subst (λ (n : ℕ). x .result .q < n) (s .pre .0) (first-below t (stacked 80000 t (s .pre .1)) (s .args .front .now) (s .args .j) (s .args .a) (x .result) (x .ensures) (sym (c .before .before .before .is-choice .ensures) ∙ not-false _ (c .before .before .if3 .left))), s .pre .1))
-    (λ c. c .find2 .ensures ∙ (let s = c .before .before .before .before .before .before .before .before .before .before in let x = c .before .before .before .before .before .before .before .term-at in let t = s .args .table .now in found-first t (stacked 80000 t (s .pre .1)) (s .args .front .now) (s .args .j) (s .args .a) (x .result) (x .ensures) (sym (c .before .before .before .before .is-choice .ensures) ∙ not-false _ (c .before .before .before .if3 .left)) (sym (c .before .before .number-at3 .ensures) ∙ c .before .if4 .taken)))
-    (λ c κs. let s = c .before .before .before .before .before .before .before .before .before in let x = c .before .before .before .before .before .before .term-at in let t = s .args .table .now in (subst (λ (n : ℕ). x .result .r < n) (s .pre .0) (second-below t (stacked 80000 t (s .pre .1)) (s .args .front .now) (s .args .j) (s .args .a) (x .result) (x .ensures) (sym (c .before .before .before .is-choice .ensures) ∙ not-false _ (c .before .before .if3 .left))), s .pre .1))
-    (λ c. c .find3 .ensures ∙ (let s = c .before .before .before .before .before .before .before .before .before .before in let x = c .before .before .before .before .before .before .before .term-at in let t = s .args .table .now in found-second t (stacked 80000 t (s .pre .1)) (s .args .front .now) (s .args .j) (s .args .a) (x .result) (x .ensures) (sym (c .before .before .before .before .is-choice .ensures) ∙ not-false _ (c .before .before .before .if3 .left)) (λ e. c .before .if4 .left (c .before .before .number-at3 .ensures ∙ e))))
+    (λ c κs. search needs)
+    (λ c κs. let s = c .before .before .before .before .before .before .before .before .before in let x = c .before .before .before .before .before .before .term-at in let t = s .args .table .now in (subst (λ (n : ℕ). c .ite .result < n) (s .pre .0) (subst (λ (k : ℕ). k < s .args .a) (sym (c .ite .ensures)) (picked-below t (stacked 80000 t (s .pre .1)) (s .args .front .now) (s .args .j) (s .args .a) (x .result) (x .ensures) (sym (c .before .before .before .is-choice .ensures) ∙ not-false _ (c .before .before .if3 .left)) (holds (c .before .number-at3 .result)))), s .pre .1))
+    (λ c. let s = c .before .before .before .before .before .before .before .before .before .before in let x = c .before .before .before .before .before .before .before .term-at in let t = s .args .table .now in c .find2 .ensures ∙ ap (λ (k : ℕ). foundAt t (s .args .front .now) k (s .args .j)) (c .before .ite .ensures ∙ ap (λ (n : ℕ). cond (holds n) (x .result .q) (x .result .r)) (c .before .before .number-at3 .ensures)) ∙ found-picked t (stacked 80000 t (s .pre .1)) (s .args .front .now) (s .args .j) (s .args .a) (x .result) (x .ensures) (sym (c .before .before .before .before .is-choice .ensures) ∙ not-false _ (c .before .before .before .if3 .left)))

@@ -1,100 +1,46 @@
-use Prim.Native.Nat.{ℕ, _+_, _-_, _≤_}
-use mathlib.Core.Path.{_≡_, refl, sym, ap, subst, _∙_}
-use mathlib.Core.Bool.{Bool, false, not, _&&_}
+use Prim.Native.Nat.{ℕ, _+_, _≤_}
+use mathlib.Core.Path.{_≡_, sym, ap, ap₂, subst, _∙_}
 use mathlib.Core.List.{List}
 use native.Mathlib.Omega.{arith}
-use lib.Dec.{eqb}
 use lib.ListN.{length}
 use borrow.Author.Needs.{needs}
-use Rattle.table.specs.Faults.{isRead}
-use Rattle.table.specs.Folds.{firstFrom}
-use Rattle.evaluate.specs.Code.Turns.{onFrom}
-use Rattle.evaluate.proofs.Onward.{Going, set-out, go-on, stopped, passed}
-use Rattle.judge.specs.declared.reads.Labelled.{Labelled}
+use Rattle.evaluate.specs.Code.Turns.{nextRead, onward}
 use Rattle.sheets.specs.Code.Said.{marksBy}
-use Rattle.judge.specs.Code.Labelled.{entered, noted}
-use Rattle.judge.proofs.Steps.{stopsAfter, step-next, step-room}
+use Rattle.judge.specs.Code.Labelled.{plainNoted}
+use Rattle.judge.specs.Code.Turns.{gathered}
+use Rattle.judge.proofs.Steps.{run-within, run-next, run-room}
 use Rattle.judge.proofs.terms.run.Statement.{statement}
 use Rattle.judge.proofs.terms.run.Tie as tie
 
-abbrev Inv-loop : tie.InvT-loop
-Inv-loop table said values terms work₀ at cells i₀ work i = Going (stopsAfter table terms at) (noted table (marksBy said) values terms cells) terms at work₀ i work × (length work ≡ length work₀)
-
-abbrev μ-loop : tie.MeasureT-loop
-μ-loop table said values terms work₀ at cells i₀ work i = terms - i
-
-loop-holds : tie.Need-loop-holds Inv-loop μ-loop
-loop-holds c =
-    let s = c .before .before .before .before in
+advance-requires : tie.Need-advance-requires
+advance-requires c κs =
+    let s = c .before .before .before .before .before .before .before .before .before .before .before in
     let a = s .args in
-    (set-out (stopsAfter (a .table .now) (a .terms) (a .at)) (noted (a .table .now) (marksBy (a .said .now)) (a .values .now) (a .terms) (a .cells .now)) (a .terms) (a .at) (a .work .now) (omega (arith, s .pre .1 .1 .0)), refl)
+    let noted = c .before .before .before .note-read in
+    let within = run-within (a .table .now) (marksBy (a .said .now)) (a .values .now) (a .terms) (a .turn .array) (gathered (a .turn) (a .answer)) (a .work .now) (a .turn .at) (s .pre .1 .1 .0 .0) in
+    (s .pre .0, (s .pre .1 .0, (subst (λ (k : ℕ). k ≤ a .terms) (sym (noted .ensures .0)) within, subst (λ (k : ℕ). a .terms + a .terms ≤ k) (sym (noted .kept .1 .1 .0)) (s .pre .1 .1 .0 .1))))
 
--- the room is long enough
-enough : (c : tie.In-loop Inv-loop μ-loop) → c .before .before .before .before .before .before .args .terms + c .before .before .before .before .before .before .args .terms ≤ length (c .before .loop .work)
-enough c = omega (arith, c .before .loop .inv .1, c .before .before .before .before .before .before .pre .1 .1 .1)
-
-labelled-here-requires : tie.Need-labelled-here-requires Inv-loop μ-loop
-labelled-here-requires c κs =
-    let s = c .before .before .before .before .before .before .before .before .before .before in
-    let inside = c .before .before .before .before .loop-test .taken in
-    (s .pre .0, (s .pre .1 .0, (inside, omega (arith, enough (c .before .before .before .before), inside))))
-
-note-requires : tie.Need-note-requires Inv-loop μ-loop
-note-requires c κs = (c .before .before .before .before .before .before .loop-test .taken, enough (c .before .before .before .before .before .before))
-
-loop-less : tie.Need-loop-less Inv-loop μ-loop
-loop-less c = omega (arith, c .before .before .before .before .before .before .before .before .before .loop-test .taken)
-
-loop-again : tie.Need-loop-again Inv-loop μ-loop
-loop-again c =
-    let a = c .before .before .before .before .before .before .before .before .before .before .before .before .before .before .before .args in
-    let l = c .before .before .before .before .before .before .before .before .before .before .loop in
-    let plain : stopsAfter (a .table .now) (a .terms) (a .at) (l .i) ≡ false = sym (ap (λ (b : Bool). not (eqb (l .i) (a .at)) && b) (c .before .before .before .before .before .before .before .is-read .ensures ∙ ap isRead (c .before .before .before .before .before .before .before .before .term-at .ensures))) ∙ c .before .before .before .before .before .before .if1 .left in
-    let wrote = c .before .before .note .ensures ∙ ap (λ (r : Labelled). entered r (a .terms) (l .work) (l .i)) (c .before .before .before .before .labelled-here .ensures) in (
-      subst (Going (stopsAfter (a .table .now) (a .terms) (a .at)) (noted (a .table .now) (marksBy (a .said .now)) (a .values .now) (a .terms) (a .cells .now)) (a .terms) (a .at) (a .work .now) _) (sym wrote) (go-on (stopsAfter (a .table .now) (a .terms) (a .at)) (noted (a .table .now) (marksBy (a .said .now)) (a .values .now) (a .terms) (a .cells .now)) (a .terms) (a .at) (a .work .now) (l .i) (l .work) (l .inv .0) (c .before .before .before .before .before .before .before .before .before .loop-test .taken) plain),
-      c .before .before .note .kept .0 ∙ l .inv .1,
-    )
-
-same-length : tie.Need-same-length Inv-loop μ-loop
-same-length c = c .before .loop .inv .1
-
--- past the last term
-returns : tie.Need-returns Inv-loop μ-loop
+returns : tie.Need-returns
 returns c =
-    let s = c .before .before .before .before .before .before in
+    let s = c .before .before .before .before .before .before .before .before .before .before .before .before .before .before in
     let a = s .args in
-    let l = c .before .loop in
-    let there = passed (stopsAfter (a .table .now) (a .terms) (a .at)) (noted (a .table .now) (marksBy (a .said .now)) (a .values .now) (a .terms) (a .cells .now)) (a .terms) (a .at) (a .work .now) (l .i) (l .work) (l .inv .0) (c .loop-test .left) in
-    (there .0 ∙ step-next (a .table .now) (a .terms) (a .at) (s .pre .1 .1 .0), there .1 ∙ step-room (a .table .now) (a .terms) (a .at) (noted (a .table .now) (marksBy (a .said .now)) (a .values .now) (a .terms) (a .cells .now)) (a .work .now) (s .pre .1 .1 .0))
-
-same-length-2 : tie.Need-same-length-2 Inv-loop μ-loop
-same-length-2 c = c .before .before .before .before .loop .inv .1
-
--- at a read
-returns-2 : tie.Need-returns-2 Inv-loop μ-loop
-returns-2 c =
-    let s = c .before .before .before .before .before .before .before .before .before in
-    let a = s .args in
-    let l = c .before .before .before .before .loop in
-    let stops = sym (ap (λ (b : Bool). not (eqb (l .i) (a .at)) && b) (c .before .is-read .ensures ∙ ap isRead (c .before .before .term-at .ensures))) ∙ c .if1 .taken in
-    let there = stopped (stopsAfter (a .table .now) (a .terms) (a .at)) (noted (a .table .now) (marksBy (a .said .now)) (a .values .now) (a .terms) (a .cells .now)) (a .terms) (a .at) (a .work .now) (l .i) (l .work) (l .inv .0) (c .before .before .before .loop-test .taken) stops in
-    (there .0 ∙ step-next (a .table .now) (a .terms) (a .at) (s .pre .1 .1 .0), there .1 ∙ step-room (a .table .now) (a .terms) (a .at) (noted (a .table .now) (marksBy (a .said .now)) (a .values .now) (a .terms) (a .cells .now)) (a .work .now) (s .pre .1 .1 .0))
+    let w = a .table .now in
+    let write = plainNoted w (marksBy (a .said .now)) (a .values .now) (a .terms) in
+    let noted = c .before .before .before .before .before .before .note-read .ensures in
+    let on = c .before .before .advance .ensures in (
+      on .0 ∙ ap (nextRead w (a .terms)) (noted .0) ∙ run-next w (marksBy (a .said .now)) (a .values .now) (a .terms) (a .turn .array) (gathered (a .turn) (a .answer)) (a .work .now) (a .turn .at) (s .pre .1 .1 .0 .0),
+      on .1 ∙ ap₂ (λ (l : List ℕ) (k : ℕ). onward w write (a .terms) l k) (noted .1) (noted .0) ∙ run-room w (marksBy (a .said .now)) (a .values .now) (a .terms) (a .turn .array) (gathered (a .turn) (a .answer)) (a .work .now) (a .turn .at) (s .pre .1 .1 .0 .0),
+    )
 
 pub run-spec : {M : Type 1} → statement M
 run-spec =
     tie.close
     (tie.spec
-    Inv-loop
-    μ-loop
-    loop-holds
-    (λ c κs. search needs)
-    (λ c κs. search needs)
-    labelled-here-requires
-    note-requires
     (λ c. search needs)
-    loop-less
-    loop-again
-    same-length
-    returns
-    same-length-2
-    returns-2)
+    (λ c. search needs)
+    (λ c. search needs)
+    (λ c. search needs)
+    (λ c κs. search needs)
+    advance-requires
+    (λ c. search needs)
+    returns)

@@ -1,39 +1,68 @@
+use Prim.Native.Nat.{ℕ}
 use mathlib.Core.Path.{_≡_, sym, ap, ap₂, _∙_}
-use mathlib.Core.Bool.{Bool, true, false, _&&_}
+use mathlib.Core.Bool.{Bool, _&&_}
 use native.Mathlib.Omega.{arith}
+use lib.Dec.{ltb}
+use lib.ListN.{replicate}
 use borrow.Author.Needs.{needs}
 use borrow.Author.Tests.{not-true, not-false}
 use Rattle.table.specs.declared.words.Term.{Term}
 use Rattle.table.specs.Faults.{isRead}
+use Rattle.evaluate.specs.declared.turns.Turn.{Turn as Asked}
+use Rattle.judge.specs.declared.leaves.Leaf.{Leaf}
 use Rattle.judge.specs.Code.Labelled.{truthIn}
-use Rattle.judge.specs.Code.Turns.{turnOf}
+use Rattle.judge.specs.Code.Turns.{alone, held, asksOf, asksFor}
+use Rattle.judge.proofs.Asking.{index-is, reached-is, held-is, free-asks, held-asks, plain-asks}
 use Rattle.judge.proofs.turns.turn_at.Statement.{statement}
 use Rattle.judge.proofs.turns.turn_at.Tie as tie
 
-turn-at-requires : tie.Need-turn-at-requires
-turn-at-requires c κs = c .before .before .before .before .before .before .before .before .pre .0
-
-leaf-at-requires : tie.Need-leaf-at-requires
-leaf-at-requires c κs = c .before .before .before .before .before .before .before .before .pre .0
-
 returns : tie.Need-returns
-unfolding turnOf
 returns c =
     let a = c .before .before .before .before .before .before .before .before .before .before .args in
     let x = c .before .before .before .before .before .term-at in
     let test = ap₂ _&&_ (c .before .before .before .before .is-read .ensures) (c .before .before .before .truth-at .ensures) ∙ ap (λ (y : Term). isRead y && truthIn (a .truths .now) (y .q)) (x .ensures) in
-    c .alone .ensures ∙ rw (c .before .turn-at .ensures, sym test ∙ not-true _ (c .before .before .if1 .taken))
+    c .alone .ensures ∙ ap (λ (t : Asked). alone t) (c .before .turn-at .ensures)
+    ∙ sym (plain-asks (a .table .now) (a .values .now) (a .front .now) (a .truths .now) (replicate 17 0) (a .count) (a .terms) (a .at) 0 (sym test ∙ not-true _ (c .before .before .if1 .taken)))
 
-add : tie.Need-add-t19
-add c = omega (arith, c .before .before .before .before .before .before .before .before .before .before .before .pre .1)
+reach-requires : tie.Need-reach-requires
+reach-requires c κs = c .before .before .before .before .before .before .before .before .before .pre
 
+-- a store answers
 returns-2 : tie.Need-returns-2
-unfolding turnOf
 returns-2 c =
-    let a = c .before .before .before .before .before .before .before .before .before .before .before .before .args in
-    let x = c .before .before .before .before .before .before .before .term-at in
-    let test = ap₂ _&&_ (c .before .before .before .before .before .before .is-read .ensures) (c .before .before .before .before .before .truth-at .ensures) ∙ ap (λ (y : Term). isRead y && truthIn (a .truths .now) (y .q)) (x .ensures) in
-    rw (c .before .number-at2 .ensures, c .before .before .number-at .ensures, c .before .before .before .leaf-at .ensures, x .ensures, sym test ∙ not-false _ (c .before .before .before .before .if1 .left))
+    let a = c .before .before .before .before .before .before .before .before .before .before .before .before .before .before .before .args in
+    let w = a .table .now in
+    let x = c .before .before .before .before .before .before .before .before .before .before .term-at in
+    let n = c .before .before .before .before .before .before .number-at in
+    let to = c .before .before .before .before .before .reach in
+    let y = c .before .before .before .before .term-at2 in
+    let free = ap₂ _&&_ (c .before .before .before .before .before .before .before .before .before .is-read .ensures) (c .before .before .before .before .before .before .before .before .truth-at .ensures) ∙ ap (λ (z : Term). isRead z && truthIn (a .truths .now) (z .q)) (x .ensures) in
+    let stops = ap₂ _&&_ (c .before .before .before .is-store .ensures) (c .before .before .picked .ensures) ∙ held-is w (a .front .now) (a .truths .now) (a .at) (x .result) (n .result) (to .result) (y .result) (x .ensures) (n .ensures) (to .ensures) (y .ensures) in
+    c .held .ensures
+    ∙ ap (held (ltb (a .at) (a .terms)) (a .at)) (reached-is w (a .front .now) (a .truths .now) (a .at) (x .result) (n .result) (to .result) (y .result) (x .ensures) (n .ensures) (to .ensures) (y .ensures))
+    ∙ sym (held-asks w (a .values .now) (a .front .now) (a .truths .now) (replicate 17 0) (a .count) (a .terms) (a .at) 0 (sym free ∙ not-false _ (c .before .before .before .before .before .before .before .if1 .left)) (sym stops ∙ c .before .if2 .taken))
+
+leaf-under-requires : tie.Need-leaf-under-requires
+leaf-under-requires c κs = c .before .before .before .before .before .before .before .before .before .before .before .before .before .before .pre
+
+asks-for-requires : tie.Need-asks-for-requires
+asks-for-requires c κs = omega arith
+
+-- it asks for cells
+returns-3 : tie.Need-returns-3
+returns-3 c =
+    let a = c .before .before .before .before .before .before .before .before .before .before .before .before .before .before .before .before .args in
+    let w = a .table .now in
+    let x = c .before .before .before .before .before .before .before .before .before .before .before .term-at in
+    let n = c .before .before .before .before .before .before .before .number-at in
+    let to = c .before .before .before .before .before .before .reach in
+    let y = c .before .before .before .before .before .term-at2 in
+    let free = ap₂ _&&_ (c .before .before .before .before .before .before .before .before .before .before .is-read .ensures) (c .before .before .before .before .before .before .before .before .before .truth-at .ensures) ∙ ap (λ (z : Term). isRead z && truthIn (a .truths .now) (z .q)) (x .ensures) in
+    let stops = ap₂ _&&_ (c .before .before .before .before .is-store .ensures) (c .before .before .before .picked .ensures) ∙ held-is w (a .front .now) (a .truths .now) (a .at) (x .result) (n .result) (to .result) (y .result) (x .ensures) (n .ensures) (to .ensures) (y .ensures) in
+    c .asks-for .ensures
+    ∙ ap (λ (l : Leaf). asksOf (a .values .now) l (ltb (a .at) (a .terms)) (a .at) (a .count) (n .result) (to .result) 0 (replicate 17 0)) (c .before .leaf-under .ensures)
+    ∙ ap₂ (λ (j k : ℕ). asksFor w (a .values .now) (ltb (a .at) (a .terms)) (a .at) (a .count) j k 0 (replicate 17 0)) (index-is w (a .front .now) (a .truths .now) (a .at) (x .result) (n .result) (to .result) (y .result) (x .ensures) (n .ensures) (to .ensures) (y .ensures)) (reached-is w (a .front .now) (a .truths .now) (a .at) (x .result) (n .result) (to .result) (y .result) (x .ensures) (n .ensures) (to .ensures) (y .ensures))
+    ∙ sym (free-asks w (a .values .now) (a .front .now) (a .truths .now) (replicate 17 0) (a .count) (a .terms) (a .at) 0 (sym free ∙ not-false _ (c .before .before .before .before .before .before .before .before .if1 .left), sym stops ∙ c .before .before .if2 .left))
 
 pub turn-at-spec : {M : Type 1} → statement M
 turn-at-spec =
@@ -42,11 +71,16 @@ turn-at-spec =
     (λ c κs. search needs)
     (λ c κs. search needs)
     (λ c κs. search needs)
-    turn-at-requires
+    (λ c κs. search needs)
     (λ c κs. search needs)
     returns
-    leaf-at-requires
+    (λ c κs. search needs)
+    reach-requires
     (λ c κs. search needs)
     (λ c κs. search needs)
-    add
-    returns-2)
+    (λ c κs. search needs)
+    (λ c κs. search needs)
+    returns-2
+    leaf-under-requires
+    asks-for-requires
+    returns-3)

@@ -4,7 +4,7 @@ use native.Mathlib.Omega.{arith}
 use lib.ListN.{take, drop}
 use lib.Seq.{length-take-le}
 use borrow.Author.Needs.{needs}
-use Rattle.judge.specs.Code.Turns.{turnOf}
+use Rattle.judge.specs.Code.Turns.{asksFirst}
 use Rattle.judge.proofs.turns.turn_here.Statement.{statement}
 use Rattle.judge.proofs.turns.turn_here.Tie as tie
 
@@ -17,7 +17,7 @@ returns : tie.Need-returns
 returns c =
     let a = c .before .before .before .before .before .before .args in
     let e : a .terms + a .at - a .terms ≡ a .at = omega arith in
-    c .turn-at .ensures ∙ ap (λ (n : ℕ). turnOf (a .table .now) (a .values .now) (a .count) (a .terms) (take (a .at) (a .room .now)) (take n (drop (a .terms) (a .room .now))) (a .cells) (a .at) (a .met)) e
+    c .turn-at .ensures ∙ ap (λ (n : ℕ). asksFirst (a .table .now) (a .values .now) (a .count) (a .terms) (take (a .at) (a .room .now)) (take n (drop (a .terms) (a .room .now))) (a .at)) e
 
 pub turn-here-spec : {M : Type 1} → statement M
 turn-here-spec =

@@ -34,8 +34,8 @@ fn size_within(table: &[u32], k: u32, left: u32) -> u32
     q + r + 1
 }
 
-// The size of array term `k`: its stores and choices. Of any other term it is 0. The stores down to a choice or a
-// variable are counted in a loop.
+// The size of array term `k`: its stores and choices. Of any other term it is 0. The stores are counted in a loop,
+// which ends at a variable; from a choice on `size_within` counts.
 pub fn size(table: &[u32], k: u32) -> u32
     ensures { λ r. ⌜ r ≡ size (now (table .entry)) k ⌝ }
 {
@@ -44,6 +44,9 @@ pub fn size(table: &[u32], k: u32) -> u32
     while count < 17 {
         let x = term_at(table, at);
         if !is_store(x) {
+            if !is_choice(x) {
+                return count;
+            }
             break;
         }
         at = x.p;

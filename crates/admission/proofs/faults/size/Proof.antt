@@ -2,9 +2,9 @@ use Prim.Native.Nat.{ℕ, _+_, _-_, _≤_, _<_}
 use mathlib.Core.Path.{_≡_, sym, ap, _∙_}
 use native.Mathlib.Omega.{arith}
 use borrow.Author.Needs.{needs}
-use borrow.Author.Tests.{not-false}
+use borrow.Author.Tests.{not-false, not-true}
 use Rattle.table.specs.Faults.{sizeWithin, size}
-use Rattle.table.proofs.Sizes.{size-below, size-fits, store-sized}
+use Rattle.table.proofs.Sizes.{size-below, store-sized, none-sized}
 use Rattle.admission.proofs.faults.size.Statement.{statement}
 use Rattle.admission.proofs.faults.size.Tie as tie
 
@@ -17,6 +17,16 @@ abbrev μ-loop : tie.MeasureT-loop
 
 loop-holds : tie.Need-loop-holds Inv-loop μ-loop
 loop-holds c = (omega arith, omega arith)
+
+-- neither store nor choice: nothing is left to count
+returns : tie.Need-returns Inv-loop μ-loop
+returns c =
+    let l = c .before .before .before .before .before .before .loop in
+    let x = c .before .before .before .before .term-at in
+    let t = c .before .before .before .before .before .before .before .before .args .table .now in
+    let inside : l .count < 17 = c .before .before .before .before .before .loop-test .taken in
+    let none = none-sized t (l .at) (17 - l .count) (x .result) (x .ensures) (λ e. omega arith) (sym (c .before .before .before .is-store .ensures) ∙ not-true _ (c .before .before .if1 .taken)) (sym (c .before .is-choice .ensures) ∙ not-true _ (c .if2 .taken)) in
+    omega (arith, l .inv .1, none)
 
 loop-again : tie.Need-loop-again Inv-loop μ-loop
 loop-again c =
@@ -35,8 +45,8 @@ add-result c =
     let t = c .before .before .before .before .args .table .now in
     omega (arith, l .inv .0, size-below 17 t (c .before .before .before .before .args .k), l .inv .1, c .size-within .ensures)
 
-returns : tie.Need-returns Inv-loop μ-loop
-returns c =
+returns-2 : tie.Need-returns-2 Inv-loop μ-loop
+returns-2 c =
     let l = c .before .before .loop in
     omega (arith, l .inv .1, c .size-within .ensures)
 
@@ -49,10 +59,12 @@ size-spec =
     loop-holds
     (λ c κs. search needs)
     (λ c κs. search needs)
+    (λ c κs. search needs)
+    returns
     (λ c. omega (arith, c .before .before .before .loop-test .taken))
     (λ c. omega (arith, c .before .before .before .loop-test .taken))
     loop-again
     (λ c. omega (arith, c .before .loop .inv .0))
     (λ c κs. omega arith)
     add-result
-    returns)
+    returns-2)

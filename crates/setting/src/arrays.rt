@@ -11,11 +11,14 @@ use table::Term;
 // An entry for each slot.
 pub const ENTRIES: usize = 256;
 
-// An array variable of a slot up to 255.
+// An array variable of a slot up to 255. Most terms are no variables: they are passed over by one comparison.
 fn array_variable(x: Term) -> bool
     ensures { λ r. ⌜ r ≡ arrayVariable x ⌝ }
 {
-    table::is_variable(x) & table::array(x.sort) & (x.p <= 255)
+    if !table::is_variable(x) {
+        return false;
+    }
+    table::array(x.sort) & (x.p <= 255)
 }
 
 // Fills in, for each slot, the number of its latest array variable and one.

@@ -43,7 +43,7 @@ fn sizes(table: &[u32]) -> u32
     let terms = table::count(table);
     let mut sum = 0u32;
     for i in 0..terms {
-        sum += size_of(table, table::term_at(table, i));
+        sum += size_of(table, table::term_in(table, i));
     }
     sum
 }

@@ -31,7 +31,7 @@ pub fn read_group(
     ensures { λ r. ⌜ now (room .exit)
         ≡ placedAll (now (room .entry)) b (planAt (now (table .entry)) ownMarks a .readGroup b j cj) ⌝ }
 {
-    let x = table::term_at(table, a);
+    let x = table::term_in(table, a);
     if table::is_store(x) {
         let below = read_group(table, conditions, room, b, x.p, j, cj);
         let ci = number_at(conditions, x.q);

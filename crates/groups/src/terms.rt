@@ -105,7 +105,7 @@ pub fn write_group(
     ensures { λ r. ⌜ now (room .exit)
         ≡ placedAll (now (room .entry)) b (planAt (now (table .entry)) ownMarks i .group) ⌝ }
 {
-    let x = table::term_at(table, i);
+    let x = table::term_in(table, i);
     if table::is_choice(x) {
         return taken(0, b);
     }

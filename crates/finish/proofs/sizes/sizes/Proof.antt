@@ -20,8 +20,12 @@ count-requires c κs = omega (arith, c .before .pre .few)
 loop-holds : tie.Need-loop-holds Inv-loop μ-loop
 loop-holds c = none-counted (c .before .before .args .table .now) (c .count .result)
 
+-- the table has term i whole
+term-in-requires : tie.Need-term-in-requires Inv-loop μ-loop
+term-in-requires c κs = omega (arith, c .loop-test .taken, c .before .before .count .ensures)
+
 added : (c : tie.After-size-of Inv-loop μ-loop) → c .size-of .result ≡ sizeOf (c .before .before .before .before .before .before .args .table .now) (termAt (c .before .before .before .before .before .before .args .table .now) (c .before .before .before .loop .i))
-added c = c .size-of .ensures ∙ ap (sizeOf (c .before .before .before .before .before .before .args .table .now)) (c .before .term-at .ensures)
+added c = c .size-of .ensures ∙ ap (sizeOf (c .before .before .before .before .before .before .args .table .now)) (c .before .term-in .ensures)
 
 add-sum : tie.Need-add-sum Inv-loop μ-loop
 add-sum c =
@@ -49,7 +53,7 @@ sizes-spec =
     μ-loop
     count-requires
     loop-holds
-    (λ c κs. search needs)
+    term-in-requires
     (λ c κs. search needs)
     add-sum
     (λ c. omega arith)

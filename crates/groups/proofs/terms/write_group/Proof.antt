@@ -3,6 +3,7 @@ use mathlib.Core.Path.{_≡_, refl, sym, ap, _∙_}
 use mathlib.Core.Bool.{true, false}
 use mathlib.Core.List.{List}
 use native.Mathlib.Nat.{le-trans}
+use native.Mathlib.Omega.{arith}
 use lib.Dec.{lit≤}
 use Rattle.table.specs.declared.words.Term.{Term}
 use Rattle.ops.specs.Numbers.{opOf}
@@ -20,11 +21,11 @@ use Rattle.groups.proofs.terms.write_group.Statement.{statement}
 use Rattle.groups.proofs.terms.write_group.Tie as tie
 
 -- what is known once the term is: e
-abbrev begin : tie.After-term-at → tie.Start
+abbrev begin : tie.After-term-in → tie.Start
 begin e = e .before .before .before .before
 
-here-as : (e : tie.After-term-at) (kind : GroupKind) → kind ≡ kindOf (opOf (e .term-at .result .op))
-    → Here (begin e .args .table .now) (begin e .args .conditions .now) (begin e .args .b) (begin e .args .i) (begin e .args .yes) (e .term-at .result) kind
+here-as : (e : tie.After-term-in) (kind : GroupKind) → kind ≡ kindOf (opOf (e .term-in .result .op))
+    → Here (begin e .args .table .now) (begin e .args .conditions .now) (begin e .args .b) (begin e .args .i) (begin e .args .yes) (e .term-in .result) kind
 here-as e kind is =
     let s = begin e in
     record {
@@ -34,19 +35,23 @@ here-as e kind is =
       inside = s .pre .1 .1 .0 .1 .0;
       yes-is = s .pre .1 .1 .0 .1 .1;
       b-is = s .pre .1 .1 .1 .0;
-      is = e .term-at .ensures;
+      is = e .term-in .ensures;
       kind-is = is;
     }
 
 -- and once its kind is: d
-abbrev term : tie.After-kind-of → tie.After-term-at
+abbrev term : tie.After-kind-of → tie.After-term-in
 term d = d .before .before .before .before .before
 
 abbrev start : tie.After-kind-of → tie.Start
 start d = begin (term d)
 
-here : (d : tie.After-kind-of) → Here (start d .args .table .now) (start d .args .conditions .now) (start d .args .b) (start d .args .i) (start d .args .yes) (term d .term-at .result) (d .kind-of .result)
+here : (d : tie.After-kind-of) → Here (start d .args .table .now) (start d .args .conditions .now) (start d .args .b) (start d .args .i) (start d .args .yes) (term d .term-in .result) (d .kind-of .result)
 here d = here-as (term d) (d .kind-of .result) (d .kind-of .ensures)
+
+-- the table has term i whole
+term-in-requires : tie.Need-term-in-requires
+term-in-requires c κs = omega (arith, c .before .before .before .pre .1 .1 .0 .1 .0)
 
 ones-requires : tie.Need-ones-requires
 ones-requires c κs = width-most (here (c .before .before .before))
@@ -69,7 +74,7 @@ read-group-requires c κs = let d = c .before .before .before in read-ready (her
 returns : tie.Need-returns
 returns c =
     let e = c .before .before .before in
-    choice-stays (here-as e (kindOf (opOf (e .term-at .result .op))) refl) (sym (c .before .before .is-choice .ensures) ∙ c .before .if1 .taken) (begin e .args .room .now) (c .taken .ensures)
+    choice-stays (here-as e (kindOf (opOf (e .term-in .result .op))) refl) (sym (c .before .before .is-choice .ensures) ∙ c .before .if1 .taken) (begin e .args .room .now) (c .taken .ensures)
 
 returns-2 : tie.Need-returns-2
 unfolding planBy
@@ -88,7 +93,7 @@ unfolding planBy
 returns-5 c =
     let d = c .before .before .before .before .before .before in
     let s = start d in
-    let x = term d .term-at .result in
+    let x = term d .term-in .result in
     binary (here d) Strict (c .before .before .before .before .enum-told4 .given .1) (λ m n. strictGroup m n) refl refl
     (d .before .before .number-at .ensures) (d .before .number-at2 .ensures) (s .args .room .now) (c .before .before .strict .ensures)
 
@@ -97,7 +102,7 @@ unfolding planBy
 returns-6 c =
     let d = c .before .before .before .before .before .before in
     let s = start d in
-    let x = term d .term-at .result in
+    let x = term d .term-in .result in
     binary (here d) Conjunction (c .before .before .before .before .enum-told5 .given .1) (λ m n. andGroup (s .args .b) (x .p) (x .q) m n) refl refl
     (d .before .before .number-at .ensures) (d .before .number-at2 .ensures) (s .args .room .now) (c .before .before .conjunction .ensures)
 
@@ -106,7 +111,7 @@ unfolding planBy
 returns-7 c =
     let d = c .before .before .before .before .before .before in
     let s = start d in
-    let x = term d .term-at .result in
+    let x = term d .term-in .result in
     binary (here d) Disjunction (c .before .before .before .before .enum-told6 .given .1) (λ m n. orGroup (s .args .b) (x .p) (x .q) m n) refl refl
     (d .before .before .number-at .ensures) (d .before .number-at2 .ensures) (s .args .room .now) (c .before .before .disjunction .ensures)
 
@@ -115,7 +120,7 @@ unfolding planBy
 returns-8 c =
     let d = c .before .before .before .before .before .before in
     let s = start d in
-    let x = term d .term-at .result in
+    let x = term d .term-in .result in
     binary (here d) Implication (c .before .before .before .before .enum-told7 .given .1) (λ m n. impliesGroup (s .args .b) (x .p) (x .q) m n) refl refl
     (d .before .before .number-at .ensures) (d .before .number-at2 .ensures) (s .args .room .now) (c .before .before .implication .ensures)
 
@@ -124,7 +129,7 @@ unfolding planBy
 returns-9 c =
     let d = c .before .before .before .before .before .before in
     let s = start d in
-    let x = term d .term-at .result in
+    let x = term d .term-in .result in
     binary (here d) Zero (c .before .before .before .before .enum-told8 .given .1) (λ m n. absorbingGroup (s .args .b) (x .sort .n) 0 (x .p) (x .q) m n) refl refl
     (d .before .before .number-at .ensures) (d .before .number-at2 .ensures) (s .args .room .now) (c .before .before .absorbing .ensures)
 
@@ -133,7 +138,7 @@ unfolding planBy
 returns-10 c =
     let d = c .before .before .before .before .before .before .before in
     let s = start d in
-    let x = term d .term-at .result in
+    let x = term d .term-in .result in
     let group : ℕ → ℕ → ℕ → List Term = λ v m n. absorbingGroup (s .args .b) (x .sort .n) v (x .p) (x .q) m n in
     grows (here d) Ones (c .before .before .before .before .before .enum-told9 .given .1)
     (ap (λ (v : ℕ). group v (d .before .before .number-at .result) (d .before .number-at2 .result)) (c .before .before .before .ones .ensures)
@@ -145,7 +150,7 @@ unfolding planBy
 returns-11 c =
     let d = c .before .before .before .before .before .before in
     let s = start d in
-    let x = term d .term-at .result in
+    let x = term d .term-in .result in
     binary (here d) Bounds (c .before .before .before .before .enum-told10 .given .1) (λ m n. lessGroup (s .args .b) (sortAt (s .args .table .now) (x .p) .n) false x m n) refl refl
     (d .before .before .number-at .ensures) (d .before .number-at2 .ensures) (s .args .room .now) (c .before .before .less .ensures)
 
@@ -154,7 +159,7 @@ unfolding planBy
 returns-12 c =
     let d = c .before .before .before .before .before .before in
     let s = start d in
-    let x = term d .term-at .result in
+    let x = term d .term-in .result in
     binary (here d) SignedBounds (c .before .before .before .before .enum-told11 .given .1) (λ m n. lessGroup (s .args .b) (sortAt (s .args .table .now) (x .p) .n) true x m n) refl refl
     (d .before .before .number-at .ensures) (d .before .number-at2 .ensures) (s .args .room .now) (c .before .before .less2 .ensures)
 
@@ -163,7 +168,7 @@ unfolding planBy
 returns-13 c =
     let d = c .before .before .before .before .before .before .before in
     let s = start d in
-    let x = term d .term-at .result in
+    let x = term d .term-in .result in
     let group : ℕ → ℕ → ℕ → List Term = λ v m n. boundsGroup (s .args .b) (x .sort .n) 0 v (x .p) (x .p) m m n in
     grows (here d) Fixed (c .before .before .before .before .before .enum-told12 .given .1)
     (ap (λ (v : ℕ). group v (d .before .before .number-at .result) (d .before .number-at2 .result)) (c .before .before .before .ones2 .ensures)
@@ -175,7 +180,7 @@ unfolding planBy
 returns-14 c =
     let d = c .before .before .before .before .before .before in
     let s = start d in
-    let x = term d .term-at .result in
+    let x = term d .term-in .result in
     binary (here d) Shift (c .before .before .before .before .enum-told13 .given .1) (λ m n. shiftGroup (s .args .b) (x .sort .n) (x .q) m n) refl refl
     (d .before .before .number-at .ensures) (d .before .number-at2 .ensures) (s .args .room .now) (c .before .before .shift .ensures)
 
@@ -200,7 +205,7 @@ pub write-group-spec : {M : Type 1} → statement M
 write-group-spec =
     tie.close
     (tie.spec
-    (λ c κs. search needs)
+    term-in-requires
     (λ c κs. search needs)
     (λ c κs. search needs)
     returns

@@ -22,37 +22,32 @@ pub enum GroupKind {
     Write, // store
 }
 
-// The operators' kinds, in the order of their numbers.
-const KINDS: [GroupKind; 21] = [
-    GroupKind::Literal,
-    GroupKind::Input,
-    GroupKind::Unary,
-    GroupKind::Conjunction,
-    GroupKind::Disjunction,
-    GroupKind::Implication,
-    GroupKind::Strict,
-    GroupKind::Choice,
-    GroupKind::Unary,
-    GroupKind::Zero,
-    GroupKind::Ones,
-    GroupKind::Strict,
-    GroupKind::Zero,
-    GroupKind::Shift,
-    GroupKind::Bounds,
-    GroupKind::Read,
-    GroupKind::Write,
-    GroupKind::Unary,
-    GroupKind::Strict,
-    GroupKind::SignedBounds,
-    GroupKind::Fixed,
-];
-
+// The operators' kinds by their numbers. A constant array would be copied to the stack at each use.
 pub fn kind_of(op: u32) -> GroupKind
     ensures { λ r. ⌜ r ≡ kindOf (opOf op) ⌝ }
 {
-    if op <= ops::LAST_OP {
-        KINDS[op as usize]
-    } else {
-        GroupKind::Write
+    match op {
+        0 => GroupKind::Literal,
+        1 => GroupKind::Input,
+        2 => GroupKind::Unary,
+        3 => GroupKind::Conjunction,
+        4 => GroupKind::Disjunction,
+        5 => GroupKind::Implication,
+        6 => GroupKind::Strict,
+        7 => GroupKind::Choice,
+        8 => GroupKind::Unary,
+        9 => GroupKind::Zero,
+        10 => GroupKind::Ones,
+        11 => GroupKind::Strict,
+        12 => GroupKind::Zero,
+        13 => GroupKind::Shift,
+        14 => GroupKind::Bounds,
+        15 => GroupKind::Read,
+        16 => GroupKind::Write,
+        17 => GroupKind::Unary,
+        18 => GroupKind::Strict,
+        19 => GroupKind::SignedBounds,
+        20 => GroupKind::Fixed,
+        _ => GroupKind::Write,
     }
 }

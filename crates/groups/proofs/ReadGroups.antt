@@ -176,6 +176,14 @@ module _ (w conditions : List ℕ) (b a j cj : ℕ) (ready : Ready w conditions 
     pub store-falls : (x .p < a) × (size w a ≡ suc (size w (x .p)))
     store-falls = (subst (λ (t : Term). t .p < a) (sym here) (store-places .0), sized ∙ rw s)
 
+    -- conditions has the numbers of its index's and its value's
+    pub store-inside : (x .q < length conditions) × (x .r < length conditions)
+    store-inside =
+        let inside : a < length conditions = ready .1 .1 .0 in
+        let q : x .q < a = subst (λ (t : Term). t .q < a) (sym here) (store-places .1) in
+        let r : x .r < a = subst (λ (t : Term). t .r < a) (sym here) (store-places .2) in
+        (omega arith, omega arith)
+
     abbrev nine : ℕ → ℕ → Written → List Term
     nine ci ce y = storeGroup (y .next) (x .sort .n) (x .p) (x .q) (x .r) j ci ce cj (y .condition)
 
@@ -209,6 +217,13 @@ module _ (w conditions : List ℕ) (b a j cj : ℕ) (ready : Ready w conditions 
     -- they are earlier terms, and smaller by one together
     pub choice-falls : (x .q < a) × (x .r < a) × (size w a ≡ suc (size w (x .q) + size w (x .r)))
     choice-falls = (subst (λ (t : Term). t .q < a) (sym here) (choice-places .1), subst (λ (t : Term). t .r < a) (sym here) (choice-places .2), sized ∙ rw (choice-no-store x c, c))
+
+    -- conditions has the number of its test's
+    pub choice-inside : x .p < length conditions
+    choice-inside =
+        let inside : a < length conditions = ready .1 .1 .0 in
+        let test : x .p < a = subst (λ (t : Term). t .p < a) (sym here) (choice-places .0) in
+        omega arith
 
     abbrev eight : ℕ → Written → Written → List Term
     eight cc q r = arrayChoiceGroup (r .next) (x .sort .n) (x .p) (x .q) (x .r) j cc (q .condition) (r .condition)

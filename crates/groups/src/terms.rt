@@ -35,6 +35,17 @@ fn taken(c: u32, b: u32) -> Written
     }
 }
 
+// What a call answers, field by field: joined with the other kinds' answers as a whole it would stand in memory, and
+// each term would wait for it.
+fn apart(w: Written) -> Written
+    ensures { λ r. ⌜ r ≡ w ⌝ }
+{
+    Written {
+        condition: w.condition,
+        next: w.next,
+    }
+}
+
 // The number of a variable's condition: F if marked, else T, whose number is yes.
 fn input(x: Term, yes: u32) -> u32
     requires { ⌜ yes ≤ 512 ⌝ }
@@ -120,14 +131,14 @@ pub fn write_group(
         GroupKind::Conjunction => conjunction(room, b, x.p, x.q, cp, cq),
         GroupKind::Disjunction => disjunction(room, b, x.p, x.q, cp, cq),
         GroupKind::Implication => implication(room, b, x.p, x.q, cp, cq),
-        GroupKind::Zero => absorbing(room, b, n, 0, x.p, x.q, cp, cq),
-        GroupKind::Ones => absorbing(room, b, n, ops::ones(n), x.p, x.q, cp, cq),
-        GroupKind::Bounds => less(table, room, b, x, cp, cq, false),
-        GroupKind::SignedBounds => less(table, room, b, x, cp, cq, true),
-        GroupKind::Fixed => bounds(room, b, n, 0, ops::ones(n), x.p, x.p, cp, cp, cq),
+        GroupKind::Zero => apart(absorbing(room, b, n, 0, x.p, x.q, cp, cq)),
+        GroupKind::Ones => apart(absorbing(room, b, n, ops::ones(n), x.p, x.q, cp, cq)),
+        GroupKind::Bounds => apart(less(table, room, b, x, cp, cq, false)),
+        GroupKind::SignedBounds => apart(less(table, room, b, x, cp, cq, true)),
+        GroupKind::Fixed => apart(bounds(room, b, n, 0, ops::ones(n), x.p, x.p, cp, cp, cq)),
         GroupKind::Shift => shift(room, b, n, x.q, cp, cq),
         GroupKind::Choice => choice(room, b, x.p, x.q, x.r, cp, cq, number_at(conditions, x.r)),
-        GroupKind::Read => read_group(table, conditions, room, b, x.p, x.q, cq),
+        GroupKind::Read => apart(read_group(table, conditions, room, b, x.p, x.q, cq)),
         GroupKind::Write => taken(0, b),
     }
 }

@@ -9,6 +9,7 @@ use Rattle.table.specs.declared.words.Term.{Term}
 use Rattle.ops.specs.Numbers.{opOf}
 use Rattle.ops.specs.Meaning.{ones}
 use Rattle.table.specs.Terms.{sortAt}
+use Rattle.groups.specs.declared.groups.Written.{Written}
 use Rattle.groups.specs.declared.kinds.GroupKind.{GroupKind}
 use Rattle.groups.specs.declared.kinds.GroupKind.the-variants.{Literal, Input, Unary, Strict, Conjunction, Disjunction, Implication, Zero, Ones, Bounds, SignedBounds, Fixed, Shift, Read, Write}
 use Rattle.groups.specs.Groups.{strictGroup, andGroup, orGroup, impliesGroup, absorbingGroup, boundsGroup, shiftGroup}
@@ -71,6 +72,10 @@ bounds-requires c κs = let s = start (c .before .before .before .before) in le-
 read-group-requires : tie.Need-read-group-requires
 read-group-requires c κs = let d = c .before .before .before in read-ready (here d) (c .before .enum-told15 .given .1) (start d .pre .1 .1 .1 .1)
 
+-- what was written is what the call answered, field by field
+answered : {r w v : Written} {B : Type 0} → r ≡ w → (w ≡ v) × B → (r ≡ v) × B
+answered e (answer, wrote) = (e ∙ answer, wrote)
+
 returns : tie.Need-returns
 returns c =
     let e = c .before .before .before in
@@ -127,53 +132,53 @@ returns-8 c =
 returns-9 : tie.Need-returns-9
 unfolding planBy
 returns-9 c =
-    let d = c .before .before .before .before .before .before in
+    let d = c .before .before .before .before .before .before .before in
     let s = start d in
     let x = term d .term-in .result in
-    binary (here d) Zero (c .before .before .before .before .enum-told8 .given .1) (λ m n. absorbingGroup (s .args .b) (x .sort .n) 0 (x .p) (x .q) m n) refl refl
-    (d .before .before .number-at .ensures) (d .before .number-at2 .ensures) (s .args .room .now) (c .before .before .absorbing .ensures)
+    binary (here d) Zero (c .before .before .before .before .before .enum-told8 .given .1) (λ m n. absorbingGroup (s .args .b) (x .sort .n) 0 (x .p) (x .q) m n) refl refl
+    (d .before .before .number-at .ensures) (d .before .number-at2 .ensures) (s .args .room .now) (answered (c .apart .ensures) (c .before .before .before .absorbing .ensures))
 
 returns-10 : tie.Need-returns-10
 unfolding planBy
 returns-10 c =
-    let d = c .before .before .before .before .before .before .before in
+    let d = c .before .before .before .before .before .before .before .before in
     let s = start d in
     let x = term d .term-in .result in
     let group : ℕ → ℕ → ℕ → List Term = λ v m n. absorbingGroup (s .args .b) (x .sort .n) v (x .p) (x .q) m n in
-    grows (here d) Ones (c .before .before .before .before .before .enum-told9 .given .1)
-    (ap (λ (v : ℕ). group v (d .before .before .number-at .result) (d .before .number-at2 .result)) (c .before .before .before .ones .ensures)
+    grows (here d) Ones (c .before .before .before .before .before .before .enum-told9 .given .1)
+    (ap (λ (v : ℕ). group v (d .before .before .number-at .result) (d .before .number-at2 .result)) (c .before .before .before .before .ones .ensures)
     ∙ both-are (here d) (group (ones (x .sort .n))) (d .before .before .number-at .ensures) (d .before .number-at2 .ensures)) refl
-    (s .args .room .now) (c .before .before .absorbing2 .ensures)
+    (s .args .room .now) (answered (c .apart2 .ensures) (c .before .before .before .absorbing2 .ensures))
 
 returns-11 : tie.Need-returns-11
 unfolding planBy
 returns-11 c =
-    let d = c .before .before .before .before .before .before in
+    let d = c .before .before .before .before .before .before .before in
     let s = start d in
     let x = term d .term-in .result in
-    binary (here d) Bounds (c .before .before .before .before .enum-told10 .given .1) (λ m n. lessGroup (s .args .b) (sortAt (s .args .table .now) (x .p) .n) false x m n) refl refl
-    (d .before .before .number-at .ensures) (d .before .number-at2 .ensures) (s .args .room .now) (c .before .before .less .ensures)
+    binary (here d) Bounds (c .before .before .before .before .before .enum-told10 .given .1) (λ m n. lessGroup (s .args .b) (sortAt (s .args .table .now) (x .p) .n) false x m n) refl refl
+    (d .before .before .number-at .ensures) (d .before .number-at2 .ensures) (s .args .room .now) (answered (c .apart3 .ensures) (c .before .before .before .less .ensures))
 
 returns-12 : tie.Need-returns-12
 unfolding planBy
 returns-12 c =
-    let d = c .before .before .before .before .before .before in
+    let d = c .before .before .before .before .before .before .before in
     let s = start d in
     let x = term d .term-in .result in
-    binary (here d) SignedBounds (c .before .before .before .before .enum-told11 .given .1) (λ m n. lessGroup (s .args .b) (sortAt (s .args .table .now) (x .p) .n) true x m n) refl refl
-    (d .before .before .number-at .ensures) (d .before .number-at2 .ensures) (s .args .room .now) (c .before .before .less2 .ensures)
+    binary (here d) SignedBounds (c .before .before .before .before .before .enum-told11 .given .1) (λ m n. lessGroup (s .args .b) (sortAt (s .args .table .now) (x .p) .n) true x m n) refl refl
+    (d .before .before .number-at .ensures) (d .before .number-at2 .ensures) (s .args .room .now) (answered (c .apart4 .ensures) (c .before .before .before .less2 .ensures))
 
 returns-13 : tie.Need-returns-13
 unfolding planBy
 returns-13 c =
-    let d = c .before .before .before .before .before .before .before in
+    let d = c .before .before .before .before .before .before .before .before in
     let s = start d in
     let x = term d .term-in .result in
     let group : ℕ → ℕ → ℕ → List Term = λ v m n. boundsGroup (s .args .b) (x .sort .n) 0 v (x .p) (x .p) m m n in
-    grows (here d) Fixed (c .before .before .before .before .before .enum-told12 .given .1)
-    (ap (λ (v : ℕ). group v (d .before .before .number-at .result) (d .before .number-at2 .result)) (c .before .before .before .ones2 .ensures)
+    grows (here d) Fixed (c .before .before .before .before .before .before .enum-told12 .given .1)
+    (ap (λ (v : ℕ). group v (d .before .before .number-at .result) (d .before .number-at2 .result)) (c .before .before .before .before .ones2 .ensures)
     ∙ both-are (here d) (group (ones (x .sort .n))) (d .before .before .number-at .ensures) (d .before .number-at2 .ensures)) refl
-    (s .args .room .now) (c .before .before .bounds .ensures)
+    (s .args .room .now) (answered (c .apart5 .ensures) (c .before .before .before .bounds .ensures))
 
 returns-14 : tie.Need-returns-14
 unfolding planBy
@@ -193,9 +198,9 @@ returns-15 c =
 returns-16 : tie.Need-returns-16
 unfolding planBy
 returns-16 c =
-    let d = c .before .before .before .before .before .before in
-    let kind = c .before .before .before .before .enum-told15 .given .1 in
-    grows (here d) Read kind (read-is (here d) kind (d .before .number-at2 .ensures)) refl (start d .args .room .now) (c .before .before .read-group .ensures)
+    let d = c .before .before .before .before .before .before .before in
+    let kind = c .before .before .before .before .before .enum-told15 .given .1 in
+    grows (here d) Read kind (read-is (here d) kind (d .before .number-at2 .ensures)) refl (start d .args .room .now) (answered (c .apart6 .ensures) (c .before .before .before .read-group .ensures))
 
 returns-17 : tie.Need-returns-17
 unfolding planBy
@@ -229,16 +234,21 @@ write-group-spec =
     (λ c κs. search needs)
     (λ c. search needs)
     (λ c κs. search needs)
+    (λ c κs. search needs)
     (λ c. search needs)
     ones-requires
     (λ c κs. search needs)
+    (λ c κs. search needs)
     (λ c. search needs)
     less-requires
+    (λ c κs. search needs)
     (λ c. search needs)
     less-requires-2
+    (λ c κs. search needs)
     (λ c. search needs)
     ones-requires-2
     bounds-requires
+    (λ c κs. search needs)
     (λ c. search needs)
     (λ c κs. search needs)
     (λ c. search needs)
@@ -246,6 +256,7 @@ write-group-spec =
     (λ c κs. search needs)
     (λ c. search needs)
     read-group-requires
+    (λ c κs. search needs)
     (λ c. search needs)
     (λ c κs. search needs)
     returns-2

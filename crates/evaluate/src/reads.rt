@@ -1,7 +1,7 @@
 // A read along its array, a tree of stores and choices over variables.
 ghost use mathlib.Core.Path.{_≡_};
 ghost use Rattle.table.specs.WellFormed.{WellFormed};
-ghost use Rattle.evaluate.specs.Code.Reads.{foundAt};
+ghost use Rattle.evaluate.specs.Code.Reads.{holderAt, foundAt};
 use table::number_at;
 
 // The value that a store holds, or else the slot of the variable at the end.
@@ -10,37 +10,37 @@ pub struct Found {
     pub number: u32,
 }
 
-// What the array term `a` holds at index `j`, the outermost store first; where its index differs, the same question
-// goes to the array beneath, and of a choice to the branch that the test picks: the array's number falls. An answer is
-// handed on field by field: read whole after its fields were written one by one, it would be waited for.
-pub fn find(table: &[u32], front: &[u32], a: u32, j: u32) -> Found
+// The store or the variable that holds what the array term `a` holds at index `j`, the outermost store first; where its
+// index differs, the same question goes to the array beneath, and of a choice to the branch that the test picks: the
+// array's number falls.
+fn holder(table: &[u32], front: &[u32], a: u32, j: u32) -> u32
     requires { ⌜ WellFormed 80000 (now table) ⌝ }
-    ensures { λ r. ⌜ r ≡ foundAt (now (table .entry)) (now (front .entry)) a j ⌝ }
+    ensures { λ r. ⌜ r ≡ holderAt (now (table .entry)) (now (front .entry)) a j ⌝ }
 {
     let x = table::term_at(table, a);
     if table::is_store(x) {
         if number_at(front, x.q) == j {
-            return Found {
-                stored: true,
-                number: number_at(front, x.r),
-            };
+            return a;
         }
-        let below = find(table, front, x.p, j);
-        return Found {
-            stored: below.stored,
-            number: below.number,
-        };
+        return holder(table, front, x.p, j);
     }
     if !table::is_choice(x) {
-        return Found {
-            stored: false,
-            number: x.p,
-        };
+        return a;
     }
     let branch = ops::ite(number_at(front, x.p) == 1, x.q, x.r);
-    let picked = find(table, front, branch, j);
+    holder(table, front, branch, j)
+}
+
+// What it holds there.
+pub fn find(table: &[u32], front: &[u32], a: u32, j: u32) -> Found
+    requires { ⌜ WellFormed 80000 (now table) ⌝ }
+    ensures { λ r. ⌜ r ≡ foundAt (now (table .entry)) (now (front .entry)) a j ⌝ }
+{
+    let x = table::term_at(table, holder(table, front, a, j));
+    let stored = table::is_store(x);
+    let held = number_at(front, x.r);
     Found {
-        stored: picked.stored,
-        number: picked.number,
+        stored,
+        number: ops::ite(stored, held, x.p),
     }
 }

@@ -191,10 +191,12 @@ module _ (limit : ℕ) (w : List ℕ) (marked : Term → Bool) (row : List ℕ) 
 
           by : (z : Bool) → truthIn T (termAt w i .q) ≡ z → Answers limit w marked row (λ slot j other. lookFrom cells count 0 slot j other) f i b z (turn .array) (gathered turn answer)
           by true z =
-              let e : freeRead w T i ≡ true = ap₂ (λ (x y : Bool). x && y) r z in
-              (array-is e, λ h m c.
-              let last : length slots ≤ met + 1 = ltb-false (met + 1) (length slots) (sym (ap (λ (t : Turn). t .more) (is (e, h))) ∙ none) in
-              ap (λ (k : ℕ). getD (gathered turn answer) k 0) (zero-add m) ∙ one-more (e, h) m (omega arith))
+              let e : freeRead w T i ≡ true = ap₂ (λ (x y : Bool). x && y) r z in (
+                array-is e,
+                λ h m c.
+                    let last : length slots ≤ met + 1 = ltb-false (met + 1) (length slots) (sym (ap (λ (t : Turn). t .more) (is (e, h))) ∙ none) in
+                    ap (λ (k : ℕ). getD (gathered turn answer) k 0) (zero-add m) ∙ one-more (e, h) m (omega arith),
+              )
           by false z =
               let e : freeRead w T i ≡ false = ap₂ (λ (x y : Bool). x && y) r z in
               let is = asks ∙ plain-asks w row N T had count n i met e in

@@ -102,14 +102,7 @@ fn plain_here(
     let start = terms as usize;
     let last = start + end;
     let x = table::term_at(table, at);
-    plain(
-        table,
-        said,
-        values,
-        &room[..end],
-        &room[start..last],
-        x,
-    )
+    plain(table, said, values, &room[..end], &room[start..last], x)
 }
 
 // Value and truth of a read, from the array that it reaches and the cells that it asked for. Where its index is not
@@ -159,14 +152,7 @@ fn read_here(
     let start = terms as usize;
     let last = start + end;
     let x = table::term_at(table, at);
-    labelled_read(
-        table,
-        &room[..end],
-        &room[start..last],
-        x,
-        array,
-        cells,
-    )
+    labelled_read(table, &room[..end], &room[start..last], x, array, cells)
 }
 
 // Writes value and truth of term `at`.

@@ -28,7 +28,7 @@ use Rattle.judge.specs.Conditions.{truths}
 use Rattle.judge.specs.Code.Leaves.{leavesAt}
 use Rattle.judge.specs.Code.Labelled.{truthIn, pickedBy}
 use Rattle.judge.specs.Code.Reach.{reachAt, heldAt}
-use Rattle.judge.specs.Code.Turns.{alone, held, asksFor, turnOf, gathered}
+use Rattle.judge.specs.Code.Turns.{alone, held, asksFor, arrayOf, turnOf, gathered}
 use Rattle.judge.proofs.LeafLaws.{few-leaves}
 use Rattle.judge.proofs.Meaning.{indexOf, Answers}
 
@@ -42,7 +42,7 @@ freeRead w ts i = isRead (termAt w i) && truthIn ts (termAt w i .q)
 
 -- the array that term i reaches, where it is such a read, and whether that is a store that is picked
 abbrev pub reached : List ℕ → List ℕ → List ℕ → ℕ → ℕ
-reached w front ts i = reachAt w front ts (getD front (termAt w i .q) 0) (termAt w i .p)
+reached = arrayOf
 
 abbrev pub heldRead : List ℕ → List ℕ → List ℕ → ℕ → Bool
 heldRead w front ts i = heldAt w front ts (getD front (termAt w i .q) 0) (reached w front ts i)
@@ -65,7 +65,7 @@ module _ (w front ts : List ℕ) (i : ℕ) (x : Term) (index to : ℕ) (y : Term
 module _ (w row front ts had : List ℕ) (count n i met : ℕ) where
   -- what such a read asks
   abbrev pub asksCell : Turn
-  asksCell = asksFor w row (ltb i n) i count (getD front (termAt w i .q) 0) (reached w front ts i) met had
+  asksCell = asksFor row (ltb i n) i count (getD front (termAt w i .q) 0) met (reached w front ts i) (length (leavesAt w (reached w front ts i))) had
 
   abbrev asksNone : Turn
   asksNone = held (ltb i n) i (reached w front ts i)
@@ -141,6 +141,7 @@ module _ (w : List ℕ) (marked : Term → Bool) (row : List ℕ) (cells : ℕ �
   pub record Gathering (met : ℕ) (had : List ℕ) : Type 0 where
     pub next : met < length (leavesAt w arrayHere)
     pub before : (m : ℕ) → m < met → getD had m 0 ≡ variableCell m
+    pub ahead : (m : ℕ) → met ≤ m → m < length (leavesAt w arrayHere) → getD had m 0 ≡ getD (leavesAt w arrayHere) m 0
 
 module _ (limit : ℕ) (w : List ℕ) (marked : Term → Bool) (row : List ℕ) (cells : ℕ → Cell) (count n : ℕ) (f : WellFormed limit w) (i : ℕ) (b : i < terms w) where
   abbrev N : List ℕ
@@ -176,8 +177,17 @@ module _ (limit : ℕ) (w : List ℕ) (marked : Term → Bool) (row : List ℕ) 
         one-more m c = ap (λ (l : List ℕ). getD l m 0) now-had ∙ go (ℕ-discrete m met)
           where
             go : Dec (m ≡ met) → getD (set had met answer) m 0 ≡ variableCell w marked row cells count i m
-            go (yes k) = ap (λ (j : ℕ). getD (set had met answer) j 0) k ∙ getD-set-same had met answer 0 small ∙ answered ∙ ap (λ (t : Turn). looked cells (asked t)) is ∙ ap (variableCell w marked row cells count i) (sym k)
+            go (yes k) =
+                ap (λ (j : ℕ). getD (set had met answer) j 0) k
+                ∙ getD-set-same had met answer 0 small
+                ∙ answered
+                ∙ ap (λ (t : Turn). looked cells (asked t)) is
+                ∙ ap (λ (slot : ℕ). lookFrom cells count 0 slot (getD N (termAt w i .q) 0) (getD row slot 0)) (going e .ahead met (omega arith) (going e .next))
+                ∙ ap (variableCell w marked row cells count i) (sym k)
             go (no k) = getD-set-other had met m answer 0 k ∙ going e .before m (omega arith)
+
+        pub still-ahead : (m : ℕ) → met + 1 ≤ m → m < length slots → getD (gathered turn answer) m 0 ≡ getD slots m 0
+        still-ahead m c d = ap (λ (l : List ℕ). getD l m 0) now-had ∙ getD-set-other had met m answer 0 (λ k. omega (arith, k, c)) ∙ going e .ahead m (omega arith) d
 
       -- where it asks for no more, all is had that the term needs
       pub answers : turn .more ≡ false → isRead (termAt w i) ≡ true → Answers limit w marked row (λ slot j other. lookFrom cells count 0 slot j other) f i b (truthIn T (termAt w i .q)) (turn .array) (gathered turn answer)

@@ -8,6 +8,7 @@ use native.Mathlib.Nat.{not-suc-le-zero}
 use native.Mathlib.Omega.{arith}
 use lib.Dec.{ltb}
 use lib.ListN.{length, take, drop, set, replicate, length-set}
+use lib.Seq.{length-sets}
 use borrow.Author.Tests.{ltb-true, ltb-false}
 use Rattle.ops.specs.Meaning.{bit}
 use Rattle.ops.proofs.Booleans.{never, and-shut}
@@ -32,10 +33,10 @@ use Rattle.judge.specs.declared.reads.Labelled.{Labelled}
 use Rattle.judge.specs.Conditions.{plain, conditionIn, conditionFrom, conditions, conditionAt, truths}
 use Rattle.judge.specs.Code.Leaves.{leavesAt}
 use Rattle.judge.specs.Code.Labelled.{truthIn, labelledOf, entered, noted, plainNoted}
-use Rattle.judge.specs.Code.Turns.{turnOf, turnHere, firstTurn, gathered, asksFor, asksMore, noteOn, nextRoom, nextTurn}
-use Rattle.judge.proofs.LeafLaws.{some-leaves}
+use Rattle.judge.specs.Code.Turns.{slotsOf, turnOf, asksFirst, turnHere, firstTurn, gathered, asksFor, asksMore, noteOn, nextRoom, nextTurn}
+use Rattle.judge.proofs.LeafLaws.{some-leaves, few-leaves, sets-read}
 use Rattle.judge.proofs.Meaning.{length-truths, Answers, labelled-is}
-use Rattle.judge.proofs.Asking.{asked, reached, Seeking, turning, free-asks, asksCell, long-cells, more-free, Gathering, room as room-for, one-more, answers}
+use Rattle.judge.proofs.Asking.{asked, reached, Seeking, turning, free-asks, asksCell, long-cells, more-free, Gathering, room as room-for, one-more, still-ahead, answers}
 use Rattle.judge.proofs.Steps.{plain-notes}
 use Rattle.judge.proofs.Rooms.{runs, laid-length, laid-front, laid-truths, laid-more, laid-none}
 
@@ -52,6 +53,10 @@ module _ (w : List ℕ) (marked : Term → Bool) (row : List ℕ) (cells : ℕ �
 
   abbrev pub asking : ℕ → ℕ → List ℕ → Turn
   asking i met had = turnOf w row count n (numbers w I i) (truths w marked I i) had i met
+
+  -- the slots of the variables of the array that it reaches
+  abbrev slotsHere : ℕ → List ℕ
+  slotsHere i = slotsOf w (reached w (numbers w I i) (truths w marked I i) i)
 
   -- the run has come to term i, and to the next of its variables
   pub record Filling (room : List ℕ) (turn : Turn) : Type 0 where
@@ -101,8 +106,8 @@ module _ (w : List ℕ) (marked : Term → Bool) (row : List ℕ) (cells : ℕ �
         within = omega arith;
         is = laid-none n begin;
         met = 0;
-        had = replicate 17 0;
-        long = refl;
+        had = slotsHere 0;
+        long = length-sets (replicate 17 0) 0 (leavesAt w (reached w (numbers w I 0) (truths w marked I 0) 0));
         asks = e;
         going = λ free. never (sym (and-shut (isRead (termAt w 0))) ∙ free .0);
       }
@@ -119,9 +124,9 @@ module _ (w : List ℕ) (marked : Term → Bool) (row : List ℕ) (cells : ℕ �
       long = laid-length (numbers w I i) (truths w marked I i) n i begin enough within (length-numbers w I i) (length-truths w marked I i)
 
       -- what term i asks there
-      turn-is : (room : List ℕ) (turn : Turn) → room ≡ filled i → turn ≡ turnHere w row count n room i → turn ≡ asking i 0 (replicate 17 0)
+      turn-is : (room : List ℕ) (turn : Turn) → room ≡ filled i → turn ≡ turnHere w row count n room i → turn ≡ asking i 0 (slotsHere i)
       turn-is room turn e t =
-          t ∙ ap (λ (l : List ℕ). turnHere w row count n l i) e ∙ ap₂ (λ (l m : List ℕ). turnOf w row count n l m (replicate 17 0) i 0) front-is truths-are
+          t ∙ ap (λ (l : List ℕ). turnHere w row count n l i) e ∙ ap₂ (λ (l m : List ℕ). asksFirst w row count n l m i) front-is truths-are
 
     -- a term notes its value and its truth
     wrote : (to : ℕ) (had : List ℕ) (i : ℕ) (b : i < terms w) → (isRead (termAt w i) ≡ true → Answers limit w marked row (λ slot j other. lookFrom cells count 0 slot j other) f i b (truthIn (truths w marked I i) (termAt w i .q)) to had)
@@ -166,12 +171,12 @@ module _ (w : List ℕ) (marked : Term → Bool) (row : List ℕ) (cells : ℕ �
             met-is : turn .met ≡ h .met
             met-is = met-of room turn h (seeks .0)
 
-            more-is : asksMore w row turn answer ≡ asking (h .i) (h .met + 1) had′
+            more-is : asksMore row turn answer ≡ asking (h .i) (h .met + 1) had′
             more-is =
-                ap (λ (t : Turn). asksFor w row (t .pending) (t .at) (t .count) (t .index) (t .array) (t .met + 1) had′) (seeks-is room turn h (seeks .0))
+                ap (λ (t : Turn). asksFor row (t .pending) (t .at) (t .count) (t .index) (t .met + 1) (t .array) (t .leaves) had′) (seeks-is room turn h (seeks .0))
                 ∙ sym (free-asks w row (numbers w I (h .i)) (truths w marked I (h .i)) had′ count n (h .i) (h .met + 1) (seeks .0))
 
-            pub gathers : (after : Turn) → after ≡ asksMore w row turn answer → Filling room after × (after .at ≡ turn .at) × (after .met ≡ turn .met + 1)
+            pub gathers : (after : Turn) → after ≡ asksMore row turn answer → Filling room after × (after .at ≡ turn .at) × (after .met ≡ turn .met + 1)
             gathers after t =
                 let same : Filling room after =
                 record {
@@ -185,6 +190,7 @@ module _ (w : List ℕ) (marked : Term → Bool) (row : List ℕ) (cells : ℕ �
                   going = λ e. record {
                     next = seeks .1;
                     before = one-more limit w marked row cells count n f (h .i) b turn (h .met) (h .had) (h .long) (h .asks) (h .going) answer answered e;
+                    ahead = still-ahead limit w marked row cells count n f (h .i) b turn (h .met) (h .had) (h .long) (h .asks) (h .going) answer answered e;
                   };
                 } in
                 (same, at-is room after same ∙ sym (at-is room turn h), met-of room after same (seeks .0) ∙ ap (λ (m : ℕ). m + 1) (sym met-is))
@@ -212,6 +218,9 @@ module _ (w : List ℕ) (marked : Term → Bool) (row : List ℕ) (cells : ℕ �
             abbrev next : ℕ
             next = nextRead w n (turn .at + 1)
 
+            abbrev arrayNext : ℕ → ℕ
+            arrayNext k = reached w (numbers w I k) (truths w marked I k) k
+
             pub goes-on : (room′ : List ℕ) (after : Turn) → room′ ≡ noteOn w marked row n (turn .array) had′ room (turn .at) → after ≡ turnHere w row count n room′ next → Filling room′ after × (turn .at + 1 ≤ after .at)
             goes-on room′ after e t =
                 let filled-next : Filling room′ after =
@@ -220,10 +229,14 @@ module _ (w : List ℕ) (marked : Term → Bool) (row : List ℕ) (cells : ℕ �
                   within = there .high;
                   is = e ∙ there .is;
                   met = 0;
-                  had = replicate 17 0;
-                  long = refl;
+                  had = slotsHere next;
+                  long = length-sets (replicate 17 0) 0 (leavesAt w (arrayNext next));
                   asks = turn-is next (there .high) room′ after (e ∙ there .is) t;
-                  going = λ _. record { next = some-leaves w (stacked limit w f) _; before = λ m c. absurd (not-suc-le-zero c) };
+                  going = λ _. record {
+                    next = some-leaves w (stacked limit w f) (arrayNext next);
+                    before = λ m c. absurd (not-suc-le-zero c);
+                    ahead = λ m c d. sets-read (replicate 17 0) (leavesAt w (arrayNext next)) m (few-leaves limit w f (arrayNext next)) d;
+                  };
                 } in
                 (filled-next, omega (arith, there .low, at-is room′ after filled-next))
 
@@ -235,7 +248,7 @@ module _ (w : List ℕ) (marked : Term → Bool) (row : List ℕ) (cells : ℕ �
           turned room′ after e t = by (turn .more) refl e t
             where
               by : (z : Bool) → turn .more ≡ z → room′ ≡ cond z room (noteOn w marked row n (turn .array) had′ room (turn .at))
-                  → after ≡ cond z (asksMore w row turn answer) (turnHere w row count n room′ (nextRead w n (turn .at + 1))) → Filling room′ after × Nearer after
+                  → after ≡ cond z (asksMore row turn answer) (turnHere w row count n room′ (nextRead w n (turn .at + 1))) → Filling room′ after × Nearer after
               by true more e t =
                   let same = gathers more after t in
                   (subst (λ (l : List ℕ). Filling l after) (sym e) (same .0), omega (arith, same .1, same .2, at-going room turn h on, room-left))

@@ -3,14 +3,12 @@
 use mathlib.Core.Path.{_≡_, refl, sym, ap, ap₂, subst, _∙_}
 use mathlib.Core.Bool.{Bool, true, false, cond, _&&_}
 use mathlib.Core.List.{List, [], _∷_, _++_}
-use Prim.Native.Nat.{ℕ, zero, suc, _+_, _-_, _≤_, _<_}
+use Prim.Native.Nat.{ℕ, zero, suc, _+_, _≤_, _<_}
 use native.Mathlib.Decide.{decLt}
-use native.Mathlib.Nat.{not-suc-le-zero}
+use native.Mathlib.Nat.{not-suc-le-zero, add-zero}
 use native.Mathlib.Omega.{arith}
-use lib.Dec.{eqb}
-use borrow.Author.Tests.{ne-eqb}
-use lib.ListN.{length, getD, length-append, List·getD-append}
-use lib.Seq.{getD-append-add}
+use lib.ListN.{length, getD, drop, set, length-append, List·getD-append}
+use lib.Seq.{sets, sets-eq}
 use Rattle.ops.specs.declared.Op.{Op}
 use Rattle.ops.specs.declared.Op.the-variants.{Constant, Variable, Apply, Ite, Select, Store, Unknown}
 use Rattle.ops.specs.Numbers.{opOf}
@@ -25,8 +23,7 @@ use Rattle.table.proofs.ArrayTerms.{array-terms}
 use Rattle.table.proofs.OperandSorts.{four, typing}
 use Rattle.table.proofs.SoundTerms.{stacked, past-end}
 use Rattle.table.proofs.Stacks.{Stacked, byShape, at-end, at-store, at-choice}
-use Rattle.judge.specs.declared.leaves.Leaf.{Leaf}
-use Rattle.judge.specs.Code.Leaves.{leavesWithin, leavesAt, leafAt}
+use Rattle.judge.specs.Code.Leaves.{leavesWithin, leavesAt}
 
 module _ (w : List ℕ) (st : Stacked w) where
   abbrev end : ℕ → List ℕ
@@ -64,40 +61,28 @@ module _ (w : List ℕ) (st : Stacked w) where
   some-leaves a = some-within (suc a) a (omega arith)
 
   -- of a term at hand, x
-  module _ (a : ℕ) (x : Term) (here : x ≡ termAt w a) (k : ℕ) where
-    pub leaf-store : isStore x ≡ true → leafAt w (x .p) k ≡ leafAt w a k
-    leaf-store =
-        subst (λ (y : Term). isStore y ≡ true → leafAt w (y .p) k ≡ leafAt w a k) (sym here)
-        (λ s. sym (ap (λ (l : List ℕ). record { slot = getD l k 0; count = length l }) (leaves-store a s)))
+  module _ (a : ℕ) (x : Term) (here : x ≡ termAt w a) where
+    pub under-store : isStore x ≡ true → leavesAt w (x .p) ≡ leavesAt w a
+    under-store = subst (λ (y : Term). isStore y ≡ true → leavesAt w (y .p) ≡ leavesAt w a) (sym here) (λ s. sym (leaves-store a s))
 
-    only : (slot n : ℕ) → getD (slot ∷ []) n 0 ≡ cond (eqb n 0) slot 0
-    only slot zero = refl
-    only slot (suc n) = sym (ap (λ (b : Bool). cond b slot 0) (ne-eqb (suc n) 0 (λ e. omega arith)))
+    pub at-variable : isStore x ≡ false → isChoice x ≡ false → x .p ∷ [] ≡ leavesAt w a
+    at-variable = subst (λ (y : Term). isStore y ≡ false → isChoice y ≡ false → y .p ∷ [] ≡ leavesAt w a) (sym here) (λ s c. sym (leaves-variable a s c))
 
-    pub leaf-end : isStore x ≡ false → isChoice x ≡ false → record { slot = cond (eqb k 0) (x .p) 0; count = 1 } ≡ leafAt w a k
-    leaf-end =
-        subst (λ (y : Term). isStore y ≡ false → isChoice y ≡ false → record { slot = cond (eqb k 0) (y .p) 0; count = 1 } ≡ leafAt w a k) (sym here)
-        (λ s c.
-        ap (λ (n : ℕ). record { slot = n; count = 1 }) (sym (only (termAt w a .p) k))
-        ∙ sym (ap (λ (l : List ℕ). record { slot = getD l k 0; count = length l }) (leaves-variable a s c)))
+    pub of-both : isChoice x ≡ true → leavesAt w (x .q) ++ leavesAt w (x .r) ≡ leavesAt w a
+    of-both = subst (λ (y : Term). isChoice y ≡ true → leavesAt w (y .q) ++ leavesAt w (y .r) ≡ leavesAt w a) (sym here) (λ c. sym (leaves-choice a c))
 
-    -- of a choice, by whether number k is one of q's
-    both : isChoice x ≡ true → leavesAt w a ≡ leavesAt w (x .q) ++ leavesAt w (x .r)
-    both = subst (λ (y : Term). isChoice y ≡ true → leavesAt w a ≡ leavesAt w (y .q) ++ leavesAt w (y .r)) (sym here) (leaves-choice a)
+    pub count-both : isChoice x ≡ true → length (leavesAt w (x .q)) + length (leavesAt w (x .r)) ≡ length (leavesAt w a)
+    count-both c = sym (length-append (leavesAt w (x .q)) (leavesAt w (x .r))) ∙ ap length (of-both c)
 
-    pub leaf-first : isChoice x ≡ true → k < length (leavesAt w (x .q)) → record { slot = getD (leavesAt w (x .q)) k 0; count = length (leavesAt w (x .q)) + length (leavesAt w (x .r)) } ≡ leafAt w a k
-    leaf-first c b =
-        ap₂ (λ (s n : ℕ). record { slot = s; count = n }) (sym (List·getD-append (leavesAt w (x .q)) (leavesAt w (x .r)) 0 k b)) (sym (length-append (leavesAt w (x .q)) (leavesAt w (x .r))))
-        ∙ sym (ap (λ (l : List ℕ). record { slot = getD l k 0; count = length l }) (both c))
+-- Numbers set one after the other
 
-    pub leaf-second : isChoice x ≡ true → (k < length (leavesAt w (x .q)) → ⊥)
-        → record { slot = getD (leavesAt w (x .r)) (k - length (leavesAt w (x .q))) 0; count = length (leavesAt w (x .q)) + length (leavesAt w (x .r)) } ≡ leafAt w a k
-    leaf-second c b =
-        let later : length (leavesAt w (x .q)) + (k - length (leavesAt w (x .q))) ≡ k = omega arith in
-        ap₂ (λ (s n : ℕ). record { slot = s; count = n })
-        (sym (getD-append-add (leavesAt w (x .q)) (leavesAt w (x .r)) (k - length (leavesAt w (x .q))) 0) ∙ ap (λ (i : ℕ). getD (leavesAt w (x .q) ++ leavesAt w (x .r)) i 0) later)
-        (sym (length-append (leavesAt w (x .q)) (leavesAt w (x .r))))
-        ∙ sym (ap (λ (l : List ℕ). record { slot = getD l k 0; count = length l }) (both c))
+pub sets-then : (l : List ℕ) (i : ℕ) (xs ys : List ℕ) → sets (sets l i xs) (i + length xs) ys ≡ sets l i (xs ++ ys)
+sets-then l i [] ys = ap (λ (k : ℕ). sets l k ys) (add-zero i)
+sets-then l i (x ∷ xs) ys = ap (λ (k : ℕ). sets (sets (set l i x) (suc i) xs) k ys) (let e : i + suc (length xs) ≡ suc i + length xs = omega arith in e) ∙ sets-then (set l i x) (suc i) xs ys
+
+pub sets-read : (l xs : List ℕ) (m : ℕ) → length xs ≤ length l → m < length xs → getD (sets l 0 xs) m 0 ≡ getD xs m 0
+sets-read l xs m b c =
+    ap (λ (k : List ℕ). getD k m 0) (sets-eq xs l 0 (omega (arith, b))) ∙ List·getD-append xs (drop (0 + length xs) l) 0 m c
 
 -- There are few: a tree with so many stores and choices has at most one variable more
 

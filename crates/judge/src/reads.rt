@@ -7,7 +7,7 @@ ghost use Rattle.table.specs.WellFormed.{WellFormed};
 ghost use Rattle.judge.specs.Code.Leaves.{leavesAt};
 ghost use Rattle.judge.specs.Code.Reach.{passedBy, reachAt};
 ghost use Rattle.judge.specs.Code.Labelled.{truthIn, overlaid, pickedBy, storedBy, eitherOf, labelledAt};
-use crate::leaves::leaf_at;
+use crate::leaves::leaf_count;
 use table::Term;
 use table::number_at;
 
@@ -140,7 +140,7 @@ pub fn read(
             free: truth_at(truths, a) & cj,
         };
     }
-    let second = first + leaf_at(table, x.q, 0).count;
+    let second = first + leaf_count(table, x.q);
     if truth_at(truths, x.p) {
         let taken = number_at(front, x.p) == 1;
         let branch = ops::ite(taken, x.q, x.r);

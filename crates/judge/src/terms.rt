@@ -9,7 +9,7 @@ ghost use Rattle.table.specs.Faults.{isRead};
 ghost use Rattle.evaluate.specs.Code.Turns.{isReadAt, nextRead, onward, Next, Behind};
 ghost use Rattle.sheets.specs.Code.Said.{marksBy};
 ghost use Rattle.judge.specs.Code.Labelled.{operatedLabelled, readLabelled, plainLabelled};
-ghost use Rattle.judge.specs.Code.Labelled.{readHere, plainHere, entered, plainNoted};
+ghost use Rattle.judge.specs.Code.Labelled.{readHere, plainHere, enteredAs, entered, plainNoted};
 ghost use Rattle.judge.specs.Code.Turns.{noteOn, gathered, nextRoom, nextTurn};
 use crate::reads::Labelled;
 use crate::reads::read;
@@ -79,7 +79,11 @@ fn plain(
             free: !sheets::marked(said, x),
         };
     }
-    operated(table, front, truths, x)
+    let r = operated(table, front, truths, x);
+    Labelled {
+        value: r.value,
+        free: r.free,
+    }
 }
 
 // The same at a place of the room: the numbers stand at its front, the truths from number terms on.
@@ -156,12 +160,11 @@ fn read_here(
 }
 
 // Writes value and truth of term `at`.
-fn note(work: &mut [u32], terms: u32, at: u32, r: Labelled)
+fn note(work: &mut [u32], terms: u32, at: u32, value: u32, free: bool)
     requires { ⌜ (at < terms) × (terms + terms ≤ length (now work)) ⌝ }
-    ensures { λ _. ⌜ now (work .exit) ≡ entered r terms (now (work .entry)) at ⌝ }
+    ensures { λ _. ⌜ now (work .exit) ≡ enteredAs value free terms (now (work .entry)) at ⌝ }
 {
-    let value = r.value;
-    let truth = ops::bit(r.free);
+    let truth = ops::bit(free);
     let first = at as usize;
     let middle = (terms as usize) + first;
     work[first] = value;
@@ -181,7 +184,7 @@ fn note_read(table: &[u32], terms: u32, work: &mut [u32], at: u32, array: u32, c
         return at;
     }
     let r = read_here(table, terms, &work[..], at, array, cells);
-    note(work, terms, at, r);
+    note(work, terms, at, r.value, r.free);
     at + 1
 }
 
@@ -208,7 +211,7 @@ fn advance(
             break;
         }
         let r = plain_here(table, said, values, terms, &work[..], i);
-        note(work, terms, i, r);
+        note(work, terms, i, r.value, r.free);
         i += 1;
     }
     i
@@ -262,7 +265,7 @@ pub fn step(
         (now (values .entry)) terms turn answer (now (work .entry)) ⌝ }
 {
     if turn.more {
-        return asks_more(table, values, turn, answer);
+        return asks_more(values, turn, answer);
     }
     let next = run(table, said, values, terms, work, turn, answer);
     turn_here(table, values, count, terms, &work[..], next)

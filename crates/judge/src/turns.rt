@@ -4,17 +4,17 @@ ghost use Prim.Native.Nat.{_+_, _≤_, _<_};
 ghost use lib.ListN.{length};
 ghost use Rattle.table.specs.WellFormed.{WellFormed};
 ghost use Rattle.judge.specs.Code.Turns as turns;
-ghost use Rattle.judge.specs.Code.Turns.{asksOf, asksFirst, asksMore, turnHere, firstTurn};
-use crate::leaves::Leaf;
-use crate::leaves::leaf_under;
+ghost use Rattle.judge.specs.Code.Turns.{asksFor, asksFirst, asksMore, turnHere, firstTurn};
+use crate::leaves::leaves;
 use crate::reads::picked;
 use crate::reads::reach;
 use crate::reads::truth_at;
 use table::number_at;
 
 // Whether there is a term at, and the cell that it asks for: among count cells, by slot and index, else the other. Of a
-// read at a free index: the array that it reaches, how many of the cells of its variables are had, in cells, and
-// whether it will ask for more after this one.
+// read at a free index: the array that it reaches, how many variables that has, how many of their cells are had, and
+// whether it will ask for more after this one. Of the variables' numbers in cells those had are their cells, the others
+// their slots.
 pub struct Turn {
     pub pending: bool,
     pub at: u32,
@@ -25,6 +25,7 @@ pub struct Turn {
     pub met: u32,
     pub more: bool,
     pub array: u32,
+    pub leaves: u32,
     pub cells: [u32; 17],
 }
 
@@ -42,6 +43,7 @@ fn alone(t: evaluate::Turn) -> Turn
         met: 0,
         more: false,
         array: 0,
+        leaves: 0,
         cells: [0u32; 17],
     }
 }
@@ -60,59 +62,59 @@ fn held(pending: bool, at: u32, array: u32) -> Turn
         met: 0,
         more: false,
         array,
+        leaves: 0,
         cells: [0u32; 17],
     }
 }
 
-// A read that asks for the cell of a variable of its array, the one of number `met`; cells holds those before it.
+// A read that asks for the cell of its array's variable of number `met`.
 fn asks_for(
     values: &[u32],
-    leaf: Leaf,
     pending: bool,
     at: u32,
     count: usize,
     index: u32,
-    array: u32,
     met: u32,
+    array: u32,
+    leaves: u32,
     cells: [u32; 17],
 ) -> Turn
     requires { ⌜ met ≤ 17 ⌝ }
-    ensures { λ r. ⌜ r ≡ asksOf (now (values .entry)) leaf pending at count index array met cells ⌝ }
+    ensures { λ r. ⌜ r ≡ asksFor (now (values .entry)) pending at count index met array leaves cells ⌝ }
 {
+    let slot = number_at(&cells[..], met);
     Turn {
         pending,
         at,
         count,
-        slot: leaf.slot,
+        slot,
         index,
-        other: number_at(values, leaf.slot),
+        other: number_at(values, slot),
         met,
-        more: met + 1 < leaf.count,
+        more: met + 1 < leaves,
         array,
+        leaves,
         cells,
     }
 }
 
 // The next cell that a read asks for, after an answer.
-pub fn asks_more(table: &[u32], values: &[u32], turn: Turn, answer: u32) -> Turn
-    requires { ⌜ WellFormed 80000 (now table) ⌝ }
+pub fn asks_more(values: &[u32], turn: Turn, answer: u32) -> Turn
     requires { ⌜ turn .met < 17 ⌝ }
-    ensures { λ r. ⌜ r ≡ asksMore (now (table .entry)) (now (values .entry)) turn answer ⌝ }
+    ensures { λ r. ⌜ r ≡ asksMore (now (values .entry)) turn answer ⌝ }
 {
     let mut cells = turn.cells;
     let k = turn.met as usize;
     cells[k] = answer;
-    let met = turn.met + 1;
-    let leaf = leaf_under(table, turn.array, met);
     asks_for(
         values,
-        leaf,
         turn.pending,
         turn.at,
         turn.count,
         turn.index,
+        turn.met + 1,
         turn.array,
-        met,
+        turn.leaves,
         cells,
     )
 }
@@ -143,18 +145,9 @@ fn turn_at(
     if table::is_store(y) & picked(front, truths, y, index, true) {
         return held(pending, at, array);
     }
-    let leaf = leaf_under(table, array, 0);
-    asks_for(
-        values,
-        leaf,
-        pending,
-        at,
-        count,
-        index,
-        array,
-        0,
-        [0u32; 17],
-    )
+    let mut slots = [0u32; 17];
+    let met = leaves(table, array, &mut slots[..]);
+    asks_for(values, pending, at, count, index, 0, array, met, slots)
 }
 
 // The same at a place of the room: the numbers stand at its front, the truths from number terms on.

@@ -59,6 +59,7 @@ pub fn first_judged(table: &[u32], values: &[u32], count: usize, terms: u32) -> 
         met: 0,
         more: false,
         array: 0,
+        leaves: 0,
         cells: [0u32; 17],
     }
 }

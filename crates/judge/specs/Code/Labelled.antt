@@ -95,8 +95,11 @@ abbrev pub labelledHere : List ℕ → (Term → Bool) → List ℕ → ℕ → 
 labelledHere w marked row terms room at array cells = labelledOf w marked row (take at room) (take at (drop terms room)) (termAt w at) array cells
 
 -- and writes: its value, and its truth
+abbrev pub enteredAs : ℕ → Bool → ℕ → List ℕ → ℕ → List ℕ
+enteredAs value free terms room at = set (set room at value) (terms + at) (bit free)
+
 abbrev pub entered : Labelled → ℕ → List ℕ → ℕ → List ℕ
-entered r terms room at = set (set room at (r .value)) (terms + at) (bit (r .free))
+entered r terms room at = enteredAs (r .value) (r .free) terms room at
 
 -- term at notes its value and its truth, a read those from its cells
 abbrev pub noted : List ℕ → (Term → Bool) → List ℕ → ℕ → ℕ → List ℕ → List ℕ → ℕ → List ℕ

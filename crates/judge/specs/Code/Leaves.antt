@@ -3,10 +3,8 @@
 use mathlib.Core.Bool.{cond}
 use mathlib.Core.List.{List, [], _∷_, _++_}
 use Prim.Native.Nat.{ℕ, zero, suc}
-use lib.ListN.{length, getD}
 use Rattle.table.specs.Terms.{termAt}
 use Rattle.table.specs.Faults.{isStore, isChoice}
-use Rattle.judge.specs.declared.leaves.Leaf.{Leaf}
 
 -- their slots, of array term a, through at most left terms: of a choice those of q, then those of r
 unfoldable pub leavesWithin : ℕ → List ℕ → ℕ → List ℕ
@@ -20,7 +18,3 @@ leavesWithin (suc left) w a =
 -- an array's number falls along it, so its own is terms enough
 abbrev pub leavesAt : List ℕ → ℕ → List ℕ
 leavesAt w a = leavesWithin (suc a) w a
-
--- the slot of number k of them, and how many there are
-abbrev pub leafAt : List ℕ → ℕ → ℕ → Leaf
-leafAt w a k = record { slot = getD (leavesAt w a) k 0; count = length (leavesAt w a) }

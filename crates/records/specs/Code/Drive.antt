@@ -26,7 +26,7 @@ firstTurn w values count terms = firstBy (ltb 0 terms) w values count terms
 abbrev pub firstJudgedBy : Bool → List ℕ → List ℕ → ℕ → ℕ → Judging
 firstJudgedBy true w values count terms = judging.firstTurn w values count terms
 firstJudgedBy false w values count terms =
-    record { pending = false; at = 0; count = 0; slot = 0; index = 0; other = 0; met = 0; more = false; array = 0; cells = replicate 17 0 }
+    record { pending = false; at = 0; count = 0; slot = 0; index = 0; other = 0; met = 0; more = false; array = 0; leaves = 0; cells = replicate 17 0 }
 
 abbrev pub firstJudged : List ℕ → List ℕ → ℕ → ℕ → Judging
 firstJudged w values count terms = firstJudgedBy (ltb 0 terms) w values count terms

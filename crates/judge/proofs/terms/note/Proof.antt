@@ -12,7 +12,7 @@ slice-write-work-2 c = simp length-set (omega (arith, c .before .before .pre))
 returns : tie.Need-returns
 returns c =
     let a = c .before .before .args in
-    ap (set (set (a .work .now) (a .at) (a .r .value)) (a .terms + a .at)) (c .bit .ensures)
+    ap (set (set (a .work .now) (a .at) (a .value)) (a .terms + a .at)) (c .bit .ensures)
 
 pub note-spec : {M : Type 1} → statement M
 note-spec =

@@ -1,4 +1,6 @@
 // Evaluating a table in a setting (paper 01, "Results"; 22 and 23).
+#![tactic(auto)]
+
 mod reads; // a read along its array
 mod room; // filling the work room
 mod spend; // steps, the room's length and the allowance
@@ -17,13 +19,13 @@ use table::{Acceptance, Refusal, accepts};
 pub use turns::{Turn, advance, step, turn_at, variable_number};
 
 // The steps that were spent, and the allowance that is left.
-#[derive(Drop)]
+#[derive(Clone, Copy)]
 pub struct Spent {
     pub steps: u64,
     pub left: u64,
 }
 
-#[derive(Drop)]
+#[derive(Clone, Copy)]
 pub enum Evaluation {
     Evaluated(Spent),
     NotEvaluated(Refusal),

@@ -1,4 +1,6 @@
 // Finishing a table: the condition as terms (paper 01, "The condition of each term", "A finished table is"; 21).
+#![tactic(auto)]
+
 mod room; // writing the finished table
 mod sizes; // how many terms it has
 
@@ -11,14 +13,14 @@ ghost use Rattle.finish.specs.Laws.{FinishingPromise};
 use table::{Acceptance, Refusal, WORDS};
 
 // The count of terms, the number of C(rule), the number of the last term.
-#[derive(Drop)]
+#[derive(Clone, Copy)]
 pub struct Extent {
     pub terms: u32,
     pub condition: u32,
     pub last: u32,
 }
 
-#[derive(Drop)]
+#[derive(Clone, Copy)]
 pub enum Finishing {
     Finished(Extent),
     NotFinished(Refusal),

@@ -1,4 +1,6 @@
 // Judging a setting under a mark sheet (paper 01, "Results"; demand 3; paper 02, request 06).
+#![tactic(auto)]
+
 mod leaves; // the variables that a read meets
 mod reads; // a read along its array: value and truth
 mod room; // filling the work room
@@ -16,7 +18,7 @@ pub use terms::step;
 pub use turns::{Turn, first_turn};
 
 // Rule and condition, the steps that were spent, and the allowance that is left.
-#[derive(Drop)]
+#[derive(Clone, Copy)]
 pub struct Verdict {
     pub rule: bool,
     pub condition: bool,
@@ -24,7 +26,7 @@ pub struct Verdict {
     pub left: u64,
 }
 
-#[derive(Drop)]
+#[derive(Clone, Copy)]
 pub enum Judgement {
     Judged(Verdict),
     NotJudged(Refusal),

@@ -1,4 +1,6 @@
 // Rules typed as SMT-LIB (Req 02).
+#![tactic(auto)]
+
 mod expressions; // expressions and their operands
 mod names; // names that are declared
 mod reader; // the text with a place in it
@@ -20,7 +22,7 @@ pub use rules::rule;
 use table::{Acceptance, Refusal, WORDS};
 pub use words::{Token, Word, all_symbolic, token_at, white, word_of};
 
-#[derive(Drop)]
+#[derive(Clone, Copy)]
 pub enum Parsing {
     // The numbers of the table.
     Parsed(u64),

@@ -1,4 +1,6 @@
 // A table as SMT-LIB text for a solver (Req 01).
+#![tactic(auto)]
+
 mod lines; // names, bodies and lines
 mod slots; // the first use of each slot
 mod text; // the whole text
@@ -11,7 +13,7 @@ ghost use Rattle.printer.specs.Meaning.{PrintingPromise};
 
 use table::{Acceptance, Refusal};
 
-#[derive(Drop)]
+#[derive(Clone, Copy)]
 pub enum Printing {
     // The bytes of the text.
     Printed(u64),

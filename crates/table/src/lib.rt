@@ -1,5 +1,7 @@
 // Tables of terms, and what refuses them (paper 01, "Refused because of the input", 1 to 10): the definitions of all,
 // the code of 4 to 7.
+#![tactic(auto)]
+
 mod operands; // refusals 5 to 7, by rank
 mod ranks; // the operators by what they ask of their fields and sorts
 mod sorts; // Boolean, vector, array
@@ -16,13 +18,13 @@ pub use ranks::{
 pub use sorts::{array, boolean, same_sort, scalar, sorted, vector, vector_of};
 pub use words::{Sort, Term, WORDS, copy, number_at, put, sort_at, sort_in, term_at, term_in};
 
-#[derive(Drop)]
+#[derive(Clone, Copy)]
 pub struct Refusal {
     pub number: u32,
     pub place: u64,
 }
 
-#[derive(Drop)]
+#[derive(Clone, Copy)]
 pub enum Acceptance {
     Accepted,
     Refused(Refusal),

@@ -17,7 +17,7 @@ returns-2 : tie.Need-returns-2
 returns-2 c =
     let a = c.before.before.before.before.before.before.before.before.before.before.before.args in
     let reads = sym (c.before.before.before.before.before.before.before.is_read.ensures ∙ ap (λ (y : Term). is_read y) c.before.before.before.before.before.before.before.before.term-at.ensures) ∙ not-false _ c.before.before.before.before.before.before.if1.false in
-    (rw reads, c.before.before.note.ensures ∙ ap (λ (r : Labelled). entered r a.terms a.work.now a.at) c.before.before.before.before.read_here_lem.ensures ∙ rw reads)
+    (rw reads, c.before.before.note.ensures ∙ ap (λ (r : Labelled). entered r a.terms a.work.now a.at) c.before.before.before.before.read_here.ensures ∙ rw reads)
 
 pub note-read-spec : {M : Type 1} → statement M
 note-read-spec =

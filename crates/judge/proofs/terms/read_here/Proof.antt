@@ -6,8 +6,8 @@ use lib.Seq.{length-take-le}
 use borrow.Author.Rules.{rules}
 use Rattle.table.specs.declared.words.Term.{Term}
 use Rattle.judge.specs.Code.Labelled.{read_labelled}
-use Rattle.judge.proofs.terms.read_here_lem.Statement.{statement}
-use Rattle.judge.proofs.terms.read_here_lem.Tie as tie
+use Rattle.judge.proofs.terms.read_here.Statement.{statement}
+use Rattle.judge.proofs.terms.read_here.Tie as tie
 
 slice-aggregate-labelled-read : tie.Need-slice-aggregate-labelled-read
 slice-aggregate-labelled-read c =

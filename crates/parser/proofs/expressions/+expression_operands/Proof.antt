@@ -19,7 +19,7 @@ use Rattle.parser.proofs.expressions.begin_list.Reads as begin-list-reads
 use Rattle.parser.proofs.expressions.closed.Reads as closed-reads
 use Rattle.parser.proofs.expressions.head_at.Reads as head-at-reads
 use Rattle.parser.proofs.expressions.joined.Reads as joined-reads
-use Rattle.parser.proofs.expressions.operands_of_lem.Reads as operands-of-reads
+use Rattle.parser.proofs.expressions.operands_of.Reads as operands-of-reads
 use Rattle.parser.proofs.expressions.write_constant.Reads as write-constant-reads
 use Rattle.parser.proofs.expressions.write_list.Reads as write-list-reads
 use Rattle.parser.proofs.expressions.+expression_operands.{statement}
@@ -86,7 +86,7 @@ pub +expression-operands-spec : {M : Type 1} → statement M
     (λ c. let a = c.before.before.before.before.before.before.before.before.before.before.before.args in constant a.levels a.text.now a.names a.s a.room.now _ _ _ (sym c.before.before.before.before.before.before.before.before.head_at.ensures ∙ c.before.before.before.before.before.before.h2.given.1) _ c.before.before.before.write-constant.ensures _ c.added.ensures)
     (λ c. c.before.before.before.write-list.auto.0 ∙ c.before.before.before.before.before.before.before.operands.auto.1.1.1.1.1.0)
     (λ c. let a = c.before.before.before.before.before.before.before.before.before.before.before.before.before.before.before.before.before.args in listed a.levels a.text.now a.names a.s a.room.now _ _ (sym c.before.before.before.before.before.before.before.before.before.before.before.before.before.before.head_at.ensures ∙ c.before.before.before.before.before.before.before.before.before.before.before.before.h3.given.1)
-    _ c.before.before.before.before.before.before.before.before.before.before.begin-list.ensures _ c.before.before.before.before.before.before.before.before.before.operands_of_lem.ensures _ _ c.before.before.before.before.before.before.before.operands.ensures _ c.before.before.before.write-list.ensures _ c.closed.ensures))
+    _ c.before.before.before.before.before.before.before.before.before.before.begin-list.ensures _ c.before.before.before.before.before.before.before.before.before.operands_of.ensures _ _ c.before.before.before.before.before.before.before.operands.ensures _ c.before.before.before.write-list.ensures _ c.closed.ensures))
     λ t. operands-lts.spec (
       expression-below t,
       expression.Post,

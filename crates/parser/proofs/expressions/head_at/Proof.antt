@@ -10,7 +10,7 @@ returns c = rw (ne_eqb _ _ c.if1.true)
 
 returns-2 : tie.Need-returns-2
 unfolding head_of
-returns-2 c = rw (c.head_in_lem.ensures, c.before.words-at.ensures, eq-eqb _ _ c.before.before.if1.false)
+returns-2 c = rw (c.head_in.ensures, c.before.words-at.ensures, eq-eqb _ _ c.before.before.if1.false)
 
 pub head-at-spec : {M : Type 1} → statement M
 head-at-spec = tie.close (tie.spec returns (λ c κs. search rules) (λ c κs. search rules) returns-2)

@@ -1,7 +1,7 @@
 use borrow.Author.Tests.{eq-eqb, ne_eqb}
 use borrow.Author.Rules.{rules}
-use Rattle.parser.proofs.expressions.head_in_lem.Statement.{statement}
-use Rattle.parser.proofs.expressions.head_in_lem.Tie as tie
+use Rattle.parser.proofs.expressions.head_in.Statement.{statement}
+use Rattle.parser.proofs.expressions.head_in.Tie as tie
 
 returns : tie.Need-returns
 returns c = rw (c.faulty.ensures, c.before.before.enum_told.given.1, eq-eqb _ _ c.before.if1.true)

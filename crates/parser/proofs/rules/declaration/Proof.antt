@@ -11,7 +11,7 @@ returns c = rw (c.with-state.ensures, ne_eqb _ _ (rw (c.before.before.before.exp
 
 returns-2 : tie.Need-returns-2
 unfolding declaration_of
-returns-2 c = rw (c.one_more_lem.ensures, c.before.added.ensures, c.before.before.before.before.put.ensures, c.before.before.before.before.before.variable.ensures, c.before.before.before.before.before.before.marked-at.ensures, c.before.before.before.before.before.before.before.number.ensures, eq-eqb _ _ (rw (c.before.before.before.before.before.before.before.before.before.before.before.expected.ensures, c.before.before.before.before.before.before.before.before.before.before.before.before.sort.ensures, c.before.before.before.before.before.before.before.before.before.before.before.before.before.new_name_lem.ensures) at c.before.before.before.before.before.before.before.before.before.if1.false), c.before.before.before.before.before.before.before.before.before.before.before.expected.ensures, c.before.before.before.before.before.before.before.before.before.before.before.before.sort.ensures, c.before.before.before.before.before.before.before.before.before.before.before.before.before.new_name_lem.ensures, c.before.before.before.before.before.before.before.before.before.before.before.before.before.before.before.words-at.ensures) (refl, refl)
+returns-2 c = rw (c.one_more.ensures, c.before.added.ensures, c.before.before.before.before.put.ensures, c.before.before.before.before.before.variable.ensures, c.before.before.before.before.before.before.marked-at.ensures, c.before.before.before.before.before.before.before.number.ensures, eq-eqb _ _ (rw (c.before.before.before.before.before.before.before.before.before.before.before.expected.ensures, c.before.before.before.before.before.before.before.before.before.before.before.before.sort.ensures, c.before.before.before.before.before.before.before.before.before.before.before.before.before.new_name_lem.ensures) at c.before.before.before.before.before.before.before.before.before.if1.false), c.before.before.before.before.before.before.before.before.before.before.before.expected.ensures, c.before.before.before.before.before.before.before.before.before.before.before.before.sort.ensures, c.before.before.before.before.before.before.before.before.before.before.before.before.before.new_name_lem.ensures, c.before.before.before.before.before.before.before.before.before.before.before.before.before.before.before.words-at.ensures) (refl, refl)
 
 pub declaration-spec : {M : Type 1} → statement M
 declaration-spec =

@@ -1,7 +1,7 @@
 use borrow.Author.Tests.{lt-ltb, le-ltb}
 use borrow.Author.Rules.{rules}
-use Rattle.parser.proofs.rules.one_more_lem.Statement.{statement}
-use Rattle.parser.proofs.rules.one_more_lem.Tie as tie
+use Rattle.parser.proofs.rules.one_more.Statement.{statement}
+use Rattle.parser.proofs.rules.one_more.Tie as tie
 
 returns : tie.Need-returns
 returns c = rw (lt-ltb _ _ c.if1.true)

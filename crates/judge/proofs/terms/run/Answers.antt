@@ -1,0 +1,25 @@
+use Prim.Native.Nat.{ℕ, ◌+◌, ◌≤◌}
+use mathlib.Core.Path.{sym, ap, ap₂, subst, ◌∙◌}
+use mathlib.Core.List.{List}
+use Rattle.evaluate.specs.Code.Turns.{is_read_at, next_read, onward}
+use Rattle.evaluate.proofs.Onward.{begun-within, begun-next}
+use Rattle.sheets.specs.Code.Said.{marks_by}
+use Rattle.judge.specs.Code.Labelled.{plain_noted}
+use Rattle.judge.specs.Code.Turns.{gathered}
+use Rattle.judge.proofs.Steps.{run_room}
+use Rattle.judge.proofs.terms.run.Goals as goal
+
+pub advance-requires : goal.advance-requires
+advance-requires c =
+    let within = begun-within (is_read_at c.args.table.now) c.args.terms c.args.turn.at c.requires.1.1.0.0 in
+    (c.requires.0, (c.requires.1.0, (subst (λ (k : ℕ). k ≤ c.args.terms) (sym c.note_read-next.ensures.value) within, subst (λ (k : ℕ). c.args.terms + c.args.terms ≤ k) (sym c.note_read-next.auto.1.1.0) c.requires.1.1.0.1)))
+
+pub returns : goal.returns
+returns c =
+    let w = c.args.table.now in
+    let write = plain_noted w (marks_by c.args.said.now) c.args.values.now c.args.terms in
+    let noted = c.note_read-next.ensures in
+    let on = c.advance.ensures in (
+      on.0 ∙ ap (next_read w c.args.terms) noted.0 ∙ begun-next (is_read_at w) c.args.terms c.args.turn.at c.requires.1.1.0.0,
+      on.1 ∙ ap₂ (λ (l : List ℕ) (k : ℕ). onward w write c.args.terms l k) noted.1 noted.0 ∙ run_room w (marks_by c.args.said.now) c.args.values.now c.args.terms c.args.turn.array (gathered c.args.turn c.args.answer) c.args.work.now c.args.turn.at c.requires.1.1.0.0,
+    )

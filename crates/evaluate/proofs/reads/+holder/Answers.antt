@@ -4,6 +4,7 @@ use mathlib.Core.Bool.{cond}
 use Rattle.ops.specs.Meaning.{holds}
 use Rattle.table.proofs.SoundTerms.{stacked}
 use Rattle.evaluate.proofs.Trees.{beneath, holder_end, holder_hit, holder_miss, picked-below, holder_picked}
+use Rattle.evaluate.specs.Code.Reads.{holder_at}
 use Rattle.evaluate.proofs.reads.+holder.Goals as goal
 
 pub returns-then-number_at-j : goal.returns-then-number_at-j

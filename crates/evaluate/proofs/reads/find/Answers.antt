@@ -1,5 +1,6 @@
 use mathlib.Core.Path.{ap, ◌∙◌}
 use Rattle.table.specs.Terms.{term_at}
+use Rattle.evaluate.specs.Code.Reads.{found_in}
 use Rattle.evaluate.proofs.reads.find.Goals as goal
 
 -- t1 and t2 are the table and the front, which are lent

@@ -14,10 +14,10 @@ use Rattle.evaluate.proofs.Onward.{Going, set_out, go_on, stopped, passed}
 use Rattle.evaluate.proofs.turns.advance.Goals as goal
 
 pub loop-i-init : goal.loop-i-init
-loop-i-init c = (set_out (is_read_at c.args.table.now) (numbered c.args.table.now c.args.values.now 0) c.args.terms c.args.at c.args.work.now c.requires.1.1.0, refl)
+loop-i-init c = (set_out (is_read_at c.args.table.now) (numbered c.args.table.now c.args.values.now 0) c.args.terms c.args.at c.args.work.now c.requires.at_le_terms.0, refl)
 
 pub slice_bounds-number-end : goal.slice_bounds-number-end
-slice_bounds-number-end c = omega (arith, c.loop-i.invariant.1, c.requires.1.1.1, c.loop-i-test.true)
+slice_bounds-number-end c = omega (arith, c.loop-i.invariant.1, c.requires.at_le_terms.1, c.loop-i-test.true)
 
 pub slice_bounds-number-end-in-loop-i : goal.slice_bounds-number-end-in-loop-i
 slice_bounds-number-end-in-loop-i c = sym (length-take-le c.loop-i.i c.loop-i.work (slice-reshare-prefix-number c))
@@ -25,10 +25,10 @@ slice_bounds-number-end-in-loop-i c = sym (length-take-le c.loop-i.i c.loop-i.wo
 pub number-value-requires : goal.number-value-requires
 number-value-requires c =
     let long : length (take c.loop-i.i c.loop-i.work) ≡ c.loop-i.i = sym (slice-aggregate-number c) in
-    (c.requires.0, record { inside = subst (λ (k : ℕ). k < terms c.args.table.now) (sym long) (omega (arith, c.loop-i-test.true, c.requires.1.0)); is = c.term_at-x.ensures ∙ ap (term_at c.args.table.now) (sym long) })
+    record { well_formed = c.requires.well_formed; next = record { inside = subst (λ (k : ℕ). k < terms c.args.table.now) (sym long) (omega (arith, c.loop-i-test.true, c.requires.terms_value)); is = c.term_at-x.ensures ∙ ap (term_at c.args.table.now) (sym long) } }
 
 pub bounds-work-k : goal.bounds-work-k
-bounds-work-k c = omega (arith, c.loop-i.invariant.1, c.requires.1.1.1, c.loop-i-test.true)
+bounds-work-k c = omega (arith, c.loop-i.invariant.1, c.requires.at_le_terms.1, c.loop-i-test.true)
 
 pub loop-i-smaller : goal.loop-i-smaller
 loop-i-smaller c = omega (arith, c.loop-i-test.true)
@@ -44,13 +44,13 @@ loop-i-preserved c =
     )
 
 pub slice_bounds-turn_at-end : goal.slice_bounds-turn_at-end
-slice_bounds-turn_at-end c = omega (arith, c.loop-i.invariant.1, c.loop-i.invariant.0.within, c.requires.1.1.1)
+slice_bounds-turn_at-end c = omega (arith, c.loop-i.invariant.1, c.loop-i.invariant.0.within, c.requires.at_le_terms.1)
 
 pub slice_bounds-turn_at-end-2 : goal.slice_bounds-turn_at-end-2
 slice_bounds-turn_at-end-2 c = sym (length-take-le c.loop-i.i c.loop-i.work (slice-reshare-prefix-turn-at c))
 
 pub turn_at-requires : goal.turn_at-requires
-turn_at-requires c = c.requires.0
+turn_at-requires c = c.requires.well_formed
 
 pub shape_of-work : goal.shape_of-work
 shape_of-work c = c.loop-i.invariant.1

@@ -7,10 +7,10 @@ use Rattle.setting.proofs.Latest.{none_yet, passed, noted, low_slot}
 use Rattle.setting.proofs.arrays.fill_entries.Goals as goal
 
 pub count-terms-requires : goal.count-terms-requires
-count-terms-requires c = omega (arith, c.requires.0.few)
+count-terms-requires c = omega (arith, c.requires.well_formed.few)
 
 pub loop-i-init : goal.loop-i-init
-loop-i-init c = (omega arith, subst (λ (l : List ℕ). Entries c.args.table.now 0 l) (sym c.requires.1) (none_yet c.args.table.now))
+loop-i-init c = (omega arith, subst (λ (l : List ℕ). Entries c.args.table.now 0 l) (sym c.requires.entries_value) (none_yet c.args.table.now))
 
 -- the table has term i whole
 pub term_in-x-requires : goal.term_in-x-requires

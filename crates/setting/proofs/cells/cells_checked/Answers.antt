@@ -9,7 +9,7 @@ use Rattle.setting.specs.Check.{cell_fault}
 use Rattle.setting.proofs.cells.cells_checked.Goals as goal
 
 pub fill_entries-requires : goal.fill_entries-requires
-fill_entries-requires c = (c.requires, refl)
+fill_entries-requires c = record { well_formed = c.requires; entries_value = refl }
 
 pub loop-k-init : goal.loop-k-init
 loop-k-init c = begun (λ i. cell_fault c.args.table.now (cell_at c.args.cells.now i)) (length c.args.cells.now / 3) Accepted

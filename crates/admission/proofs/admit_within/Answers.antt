@@ -15,7 +15,7 @@ unfolding admission_within
 returns-then-limit-count c = c.refused-then-limit-count.ensures ∙ rw (c.if-len.false, lt-ltb _ _ c.if-limit-count.true)
 
 pub first_fault-requires : goal.first_fault-requires
-first_fault-requires c = (one_term (length c.args.table.now) c.if-len.false, (omega arith, c.first_clash.ensures))
+first_fault-requires c = record { terms_nonzero = one_term (length c.args.table.now) c.if-len.false; words_in_bounds = omega arith; clash_value = c.first_clash.ensures }
 
 pub returns : goal.returns
 unfolding admission_within

@@ -17,7 +17,7 @@ returns-then-not-accepts c =
 pub check-checked-requires : goal.check-checked-requires
 check-checked-requires c =
     let admits : accepts c.args.admitted ≡ true = sym c.accepts.ensures ∙ c.if-not-accepts.false in
-    let formed : WellFormed 80000 c.args.table.now = c.requires.0 admits in
+    let formed : WellFormed 80000 c.args.table.now = c.requires.well_formed admits in
     formed
 
 pub returns-then-not-accepts-2 : goal.returns-then-not-accepts-2
@@ -32,8 +32,8 @@ returns-then-not-accepts-2 c =
 pub afford-requires : goal.afford-requires
 afford-requires c =
     let admits : accepts c.args.admitted ≡ true = sym c.accepts.ensures ∙ c.if-not-accepts.false in
-    let formed : WellFormed 80000 c.args.table.now = c.requires.0 admits in
-    (formed, c.requires.1)
+    let formed : WellFormed 80000 c.args.table.now = c.requires.well_formed admits in
+    record { well_formed = formed; each_bound = c.requires.each_bound }
 
 pub returns : goal.returns
 returns c =

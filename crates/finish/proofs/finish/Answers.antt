@@ -48,7 +48,7 @@ returns-then-room-terms c =
 pub fill-condition-requires : goal.fill-condition-requires
 fill-condition-requires c =
     let w = c.args.table.now in
-    (admission-sound 512 w (sym c.admit-admitted.ensures ∙ is-admitted c.admit-admitted.result (sym c.accepts.ensures ∙ c.if-not-accepts.false)), subst (λ (k : ℕ). k * 6 ≤ length c.args.room.now) c.needed-terms.ensures c.if-room-terms.false)
+    record { well_formed = admission-sound 512 w (sym c.admit-admitted.ensures ∙ is-admitted c.admit-admitted.result (sym c.accepts.ensures ∙ c.if-not-accepts.false)); words_in_bounds = subst (λ (k : ℕ). k * 6 ≤ length c.args.room.now) c.needed-terms.ensures c.if-room-terms.false }
 
 pub overflow_sub-result : goal.overflow_sub-result
 overflow_sub-result c =

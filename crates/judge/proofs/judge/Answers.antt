@@ -52,7 +52,7 @@ fill-requires c =
     ∙ ap (λ (x : Acceptance). ready_by c.args.table.now x (check c.args.table.now c.args.values.now c.args.cells.now) 2 c.args.allowance (length c.args.work.now)) c.admit_under-admitted.ensures in
     let ok : Unrefused c.args.table.now c.args.sheet.now (check c.args.table.now c.args.values.now c.args.cells.now) 2 c.args.allowance (length c.args.work.now) = passed_under c.args.table.now c.args.sheet.now (check c.args.table.now c.args.values.now c.args.cells.now) 2 c.args.allowance (length c.args.work.now) (sym (ap evaluates asked) ∙ sym c.evaluates.ensures ∙ c.if-not-evaluates.false) in
     let formed : WellFormed 512 c.args.table.now = admission-sound 512 c.args.table.now ok.admitted in
-    (wider 512 80000 c.args.table.now (omega arith) formed, ok.long)
+    record { well_formed = wider 512 80000 c.args.table.now (omega arith) formed; table_in_bounds = ok.long }
 
 pub overflow_sub-last : goal.overflow_sub-last
 overflow_sub-last c =

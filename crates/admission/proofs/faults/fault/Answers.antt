@@ -31,7 +31,7 @@ short-requires c =
     let ranked-here : c.rank_fault-number.result ≡ ranked c.args.table.now c.args.i (rank (term_at c.args.table.now c.args.i)) (term_at c.args.table.now c.args.i) 0 = c.rank_fault-number.ensures
     ∙ ap (λ (r : Rank). ranked c.args.table.now c.args.i r c.term_in-x.result 0) c.rank_of.ensures
     ∙ ap (λ (y : Term). ranked c.args.table.now c.args.i (rank y) y 0) c.term_in-x.ensures in
-    ((c.requires.0, ranked_placed c.args.table.now c.args.i c.rank_fault-number.result ranked-here c.if-number-ne0.false), c.requires.1)
+    record { has_term = (c.requires.has_term, ranked_placed c.args.table.now c.args.i c.rank_fault-number.result ranked-here c.if-number-ne0.false); kept = c.requires.kept }
 
 pub returns : goal.returns
 returns c =

@@ -1,4 +1,4 @@
 use Rattle.admission.proofs.sizes.+size_within.Given as goal
 
-abbrev pub decreases-size-within : goal.decreases-size-within
-decreases-size-within l = l.?2
+abbrev pub decreases-size_within : goal.decreases-size_within
+decreases-size_within l = l.left

@@ -25,4 +25,4 @@ returns c =
     ap (set c.args.sizes.now c.args.i) c.sized-size.ensures ∙ kept_entered c.args.table.now c.args.sizes.now c.args.i entered
 
 pub overflow_cast-sizes : goal.overflow_cast-sizes
-overflow_cast-sizes c = omega (arith, c.sized-size.ensures, c.requires.1.1)
+overflow_cast-sizes c = omega (arith, c.sized-size.ensures, c.requires.kept.1)

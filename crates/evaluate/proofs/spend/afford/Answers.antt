@@ -5,7 +5,7 @@ use Rattle.ops.proofs.Widths.{product_below}
 use Rattle.evaluate.proofs.spend.afford.Goals as goal
 
 pub overflow_mul-needed : goal.overflow_mul-needed
-overflow_mul-needed c = record { fits = product_below 32 (omega (arith, c.count.ensures, c.requires.0.few)) c.ranges.each.fits }
+overflow_mul-needed c = record { fits = product_below 32 (omega (arith, c.count.ensures, c.requires.well_formed.few)) c.ranges.each.fits }
 
 pub returns-then-room-needed : goal.returns-then-room-needed
 unfolding afford

@@ -18,7 +18,7 @@ returns-then-is_variable c = c.variable_number.ensures ∙ rw (sym c.is_read.ens
 pub operated_number-requires : goal.operated_number-requires
 operated_number-requires c =
     let table = c.args.table.now in
-    (c.requires.0, (c.requires.1.inside, behind 80000 table c.args.front.now c.args.x c.requires.0 c.requires.1 (sym c.is_constant.ensures ∙ c.if-is_constant.false) (sym c.is_variable.ensures ∙ c.if-is_variable.false)))
+    record { well_formed = c.requires.well_formed; front_len_bound = (c.requires.next.inside, behind 80000 table c.args.front.now c.args.x c.requires.well_formed c.requires.next (sym c.is_constant.ensures ∙ c.if-is_constant.false) (sym c.is_variable.ensures ∙ c.if-is_variable.false)) }
 
 pub returns : goal.returns
 unfolding number_of

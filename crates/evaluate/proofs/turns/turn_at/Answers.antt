@@ -4,6 +4,7 @@ use Rattle.table.specs.declared.words.Term.{Term}
 use Rattle.table.specs.Faults.{is_read}
 use Rattle.evaluate.specs.declared.reads.Found.{Found}
 use Rattle.evaluate.specs.Code.Turns.{turn_of}
+use Rattle.evaluate.specs.Code.Reads.{found_at}
 use Rattle.evaluate.proofs.turns.turn_at.Goals as goal
 
 pub returns-then-not-is_read : goal.returns-then-not-is_read

@@ -23,10 +23,10 @@ group-is : (b : ℕ) (x : Term) (cp cq n m u v : ℕ) (signed : Bool) → n ≡ 
 group-is b x cp cq n m u v signed e f g = rw (f, g) (ap (λ (k : ℕ). less_group b k signed x cp cq) e)
 
 pub highest-requires : goal.highest-requires
-highest-requires c = most c.args.table.now c.requires.0 c.args.x.p c.sort_at-sort.ensures
+highest-requires c = most c.args.table.now c.requires.well_formed c.args.x.p c.sort_at-sort.ensures
 
 pub lowest-requires : goal.lowest-requires
-lowest-requires c = most c.args.table.now c.requires.0 c.args.x.p c.sort_at-sort.ensures
+lowest-requires c = most c.args.table.now c.requires.well_formed c.args.x.p c.sort_at-sort.ensures
 
 pub returns : goal.returns
 returns c =

@@ -51,7 +51,7 @@ answered e (answer, wrote) = (e ∙ answer, wrote)
 
 -- the table has term i whole
 pub term_in-x-requires : goal.term_in-x-requires
-term_in-x-requires c = omega (arith, c.requires.1.1.0.1.0)
+term_in-x-requires c = omega (arith, c.requires.i_value.1.0)
 
 pub ones-requires : goal.ones-requires
 ones-requires c =
@@ -59,10 +59,10 @@ ones-requires c =
     width-most here
 
 pub less-requires : goal.less-requires
-less-requires c = let s = start c in (s.pre.0, le_trans s.pre.1.1.1.1 (lit≤ tt))
+less-requires c = let s = start c in record { well_formed = s.pre.0; b_bound = le_trans s.pre.1.1.1.1 (lit≤ tt) }
 
 pub less-requires-in-SignedBounds : goal.less-requires-in-SignedBounds
-less-requires-in-SignedBounds c = let s = start c in (s.pre.0, le_trans s.pre.1.1.1.1 (lit≤ tt))
+less-requires-in-SignedBounds c = let s = start c in record { well_formed = s.pre.0; b_bound = le_trans s.pre.1.1.1.1 (lit≤ tt) }
 
 pub ones-requires-in-Fixed : goal.ones-requires-in-Fixed
 ones-requires-in-Fixed c =

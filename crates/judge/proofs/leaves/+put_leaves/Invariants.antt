@@ -1,4 +1,4 @@
 use Rattle.judge.proofs.leaves.+put_leaves.Given as goal
 
-abbrev pub decreases-put-leaves : goal.decreases-put-leaves
-decreases-put-leaves l = l.?1
+abbrev pub decreases-put_leaves : goal.decreases-put_leaves
+decreases-put_leaves l = l.?1

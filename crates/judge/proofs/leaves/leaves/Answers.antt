@@ -17,7 +17,7 @@ pub loop-b-preserved : goal.loop-b-preserved
 loop-b-preserved c = (c.term_at-x-in-loop-b.ensures, under_store c.args.t1.now (stacked 80000 c.args.t1.now c.requires) c.loop-b.b c.loop-b.x c.loop-b.invariant.0 (sym c.is_store.ensures ∙ c.loop-b-test.true) ∙ c.loop-b.invariant.1)
 
 pub put_leaves-requires : goal.put_leaves-requires
-put_leaves-requires c = (c.requires, omega (arith, few_leaves 80000 c.args.t1.now c.requires c.loop-b.b))
+put_leaves-requires c = record { well_formed = c.requires; a_bound = omega (arith, few_leaves 80000 c.args.t1.now c.requires c.loop-b.b) }
 
 pub returns-then-is_choice : goal.returns-then-is_choice
 returns-then-is_choice c =

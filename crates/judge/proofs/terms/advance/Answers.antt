@@ -12,18 +12,18 @@ use Rattle.judge.specs.Code.Labelled.{entered, plain_noted}
 use Rattle.judge.proofs.terms.advance.Goals as goal
 
 pub loop-i-init : goal.loop-i-init
-loop-i-init c = (set_out (is_read_at c.args.table.now) (plain_noted c.args.table.now (marks_by c.args.said.now) c.args.values.now c.args.terms) c.args.terms c.args.at c.args.work.now c.requires.1.1.0, refl)
+loop-i-init c = (set_out (is_read_at c.args.table.now) (plain_noted c.args.table.now (marks_by c.args.said.now) c.args.values.now c.args.terms) c.args.terms c.args.at c.args.work.now c.requires.at_le_terms.0, refl)
 
 pub plain_here-r-requires : goal.plain_here-r-requires
 plain_here-r-requires c =
-    let enough : c.args.terms + c.args.terms ≤ length c.loop-i.work = omega (arith, c.loop-i.invariant.1, c.requires.1.1.1) in
+    let enough : c.args.terms + c.args.terms ≤ length c.loop-i.work = omega (arith, c.loop-i.invariant.1, c.requires.at_le_terms.1) in
     let inside = c.loop-i-test.true in
     let plain : is_read_at c.args.table.now c.loop-i.i ≡ false = sym (c.is_read.ensures ∙ ap is_read c.term_at.ensures) ∙ c.if-is_read.false in
-    (c.requires.0, ((c.requires.1.0, plain), (inside, omega (arith, enough, inside))))
+    record { well_formed = c.requires.well_formed; terms_value = (c.requires.terms_value, plain); at_lt_terms = (inside, omega (arith, enough, inside)) }
 
 pub note-requires : goal.note-requires
 note-requires c =
-    let enough : c.args.terms + c.args.terms ≤ length c.loop-i.work = omega (arith, c.loop-i.invariant.1, c.requires.1.1.1) in
+    let enough : c.args.terms + c.args.terms ≤ length c.loop-i.work = omega (arith, c.loop-i.invariant.1, c.requires.at_le_terms.1) in
     (c.loop-i-test.true, enough)
 
 pub loop-i-smaller : goal.loop-i-smaller

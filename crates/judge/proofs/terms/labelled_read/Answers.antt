@@ -15,7 +15,7 @@ returns-then-shut c =
     rw (sym c.truth_at-free.ensures ∙ c.if-not-free.false, is-shut)
 
 pub read-r-requires : goal.read-r-requires
-read-r-requires c = (c.requires, omega (arith, few_leaves 80000 c.args.t1.now c.requires c.args.array))
+read-r-requires c = record { well_formed = c.requires; a_bound = omega (arith, few_leaves 80000 c.args.t1.now c.requires c.args.array) }
 
 pub returns : goal.returns
 returns c =

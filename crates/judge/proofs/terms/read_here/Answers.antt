@@ -8,7 +8,7 @@ use Rattle.judge.specs.Code.Labelled.{read_labelled}
 use Rattle.judge.proofs.terms.read_here.Goals as goal
 
 pub slice_bounds-labelled_read-end : goal.slice_bounds-labelled_read-end
-slice_bounds-labelled_read-end c = sym (length-take-le c.args.at c.args.room.now (omega (arith, c.requires.1)))
+slice_bounds-labelled_read-end c = sym (length-take-le c.args.at c.args.room.now (omega (arith, c.requires.at_lt_terms)))
 
 pub returns : goal.returns
 returns c =

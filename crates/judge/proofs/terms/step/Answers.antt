@@ -17,7 +17,7 @@ turn_here-requires c =
     let next = c.run-next.ensures.value in
     let kept : length c.run-next.new.1.1.1.1.0 ≡ length c.args.work.now = c.run-next.auto.1.1.1.1.0 in
     let high = (from (is_read_at c.args.table.now) (c.args.terms - (c.args.turn.at + 1)) (c.args.turn.at + 1)).high in
-    (c.requires.0, (omega (arith, next, high, c.requires.1.1.0.0), omega (arith, next, high, c.requires.1.1.0, kept)))
+    record { well_formed = c.requires.well_formed; at_le_terms = (omega (arith, next, high, c.requires.at_lt_terms.0), omega (arith, next, high, c.requires.at_lt_terms, kept)) }
 
 pub returns : goal.returns
 returns c =

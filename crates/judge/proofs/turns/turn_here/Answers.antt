@@ -7,7 +7,7 @@ use Rattle.judge.specs.Code.Turns.{asks_first}
 use Rattle.judge.proofs.turns.turn_here.Goals as goal
 
 pub slice_bounds-turn_at-end : goal.slice_bounds-turn_at-end
-slice_bounds-turn_at-end c = sym (length-take-le c.args.at c.args.room.now (omega (arith, c.requires.1)))
+slice_bounds-turn_at-end c = sym (length-take-le c.args.at c.args.room.now (omega (arith, c.requires.at_le_terms)))
 
 pub returns : goal.returns
 returns c =

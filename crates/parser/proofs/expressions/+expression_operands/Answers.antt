@@ -10,7 +10,7 @@ overflow_sub-levels t c = deeper c.args.text.now c.args.names c.args.s c.args.le
 
 pub operands-l-requires : goal.operands-l-requires
 operands-l-requires t c = let b = c.begin_list.result in
-    (subst (λ (j : ℕ). measure c.args.text.now (c.args.levels - 1) b.state.at + 1 < j) c.requires.0 (list-below c.args.text.now c.args.names c.args.s c.args.levels (sym c.head_at-h.ensures ∙ c.in-Call.is) b.state.at), tt)
+    (subst (λ (j : ℕ). measure c.args.text.now (c.args.levels - 1) b.state.at + 1 < j) c.decreases (list-below c.args.text.now c.args.names c.args.s c.args.levels (sym c.head_at-h.ensures ∙ c.in-Call.is) b.state.at), tt)
 
 pub overflow_sub-levels-in-Call : goal.overflow_sub-levels-in-Call
 overflow_sub-levels-in-Call t c = deeper c.args.text.now c.args.names c.args.s c.args.levels (sym c.head_at-h.ensures ∙ c.in-Call.is)
@@ -35,7 +35,7 @@ pub returns-then-left-eq0 : goal.returns-then-left-eq0
 returns-then-left-eq0 t c = none_left c.args.levels c.args.text.now c.args.names c.args.left c.args.l c.args.room.now c.if-left-eq0.true
 
 pub expression-e-requires : goal.expression-e-requires
-expression-e-requires t c = let m = measure c.args.text.now c.args.levels c.args.l.state.at in (subst (λ (j : ℕ). m < j) c.requires.0 (operand_below m), tt)
+expression-e-requires t c = let m = measure c.args.text.now c.args.levels c.args.l.state.at in (subst (λ (j : ℕ). m < j) c.decreases (operand_below m), tt)
 
 pub shape_of-room-then-e-ne0 : goal.shape_of-room-then-e-ne0
 shape_of-room-then-e-ne0 t c = c.expression-e.auto.1.1.1.1.0
@@ -48,7 +48,7 @@ overflow_sub-left t c = pos_of_ne-zero c.if-left-eq0.false
 
 pub operands-requires : goal.operands-requires
 operands-requires t c = (
-  subst (λ (k : ℕ). measure c.args.text.now c.args.levels c.joined-2.result.state.at + 1 < k) c.requires.0
+  subst (λ (k : ℕ). measure c.args.text.now c.args.levels c.joined-2.result.state.at + 1 < k) c.decreases
       (rest_below c.args.levels c.args.text.now c.args.names c.args.l c.args.room.now _ c.expression-e.ensures.0 c.if-e-ne0.false c.joined-2.result c.joined-2.ensures),
   tt,
 )

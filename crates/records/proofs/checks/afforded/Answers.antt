@@ -15,7 +15,7 @@ returns-then-not-accepts c = c.and_then.ensures ∙ stands c.args.admitted _ _ (
 pub variables_checked-all-requires : goal.variables_checked-all-requires
 variables_checked-all-requires c =
     let admitted : accepts c.args.admitted ≡ true = sym c.accepts.ensures ∙ c.if-not-accepts.false in
-    c.requires.0 admitted
+    c.requires.well_formed admitted
 
 pub returns-then-not-accepts-2 : goal.returns-then-not-accepts-2
 returns-then-not-accepts-2 c =
@@ -29,7 +29,7 @@ returns-then-not-accepts-2 c =
 pub afford-requires : goal.afford-requires
 afford-requires c =
     let admitted : accepts c.args.admitted ≡ true = sym c.accepts.ensures ∙ c.if-not-accepts.false in
-    (c.requires.0 admitted, c.requires.1)
+    record { well_formed = c.requires.well_formed admitted; each_bound = c.requires.each_bound }
 
 pub returns : goal.returns
 returns c =

@@ -15,7 +15,7 @@ use values::{fill, missing};
 
 // How many numbers were written at the rooms' fronts, a value a name, three numbers a cell and a line of the sheet, and
 // the allowance.
-#[derive(Drop)]
+#[derive(Clone, Copy)]
 pub struct Setting {
     pub values: u32,
     pub cells: u32,
@@ -30,7 +30,7 @@ pub struct Setting {
 // an array; 5 a value is expected; 6 a number of 2^32 or more; 7 the name is no array (at the bracket); 8 ] is expected;
 // 9 the allowance was given before; 10 an index is expected; 11 a name has no value; 12 the room has no cell more (at its
 // index); 13 the text ends in a statement; 14 the room has no line of the sheet more (at mark or keep).
-#[derive(Drop)]
+#[derive(Clone, Copy)]
 pub struct Error {
     pub kind: u32,
     pub line: u64,
@@ -39,7 +39,7 @@ pub struct Error {
     pub to: usize,
 }
 
-#[derive(Drop)]
+#[derive(Clone, Copy)]
 pub enum Reading {
     Read(Setting),
     NotRead(Error),

@@ -17,7 +17,7 @@ use table::{array, sort_at};
 // allowance, 7 mark, 8 keep), the statement's slot, index and value, the counts of cells and of lines of the sheet, the
 // allowance, and the first fault: its number (0: none) and its token; without a fault the token that the statement began
 // with.
-#[derive(Drop)]
+#[derive(Clone, Copy)]
 pub struct State {
     pub expects: u32,
     pub slot: u32,

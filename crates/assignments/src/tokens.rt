@@ -10,14 +10,14 @@ use parser::{Word, word_of};
 use smtlib::{lower, same_part};
 
 // The bytes of a token.
-#[derive(Drop)]
+#[derive(Clone, Copy)]
 pub struct Token {
     pub from: usize,
     pub to: usize,
 }
 
 // 0 no number, 1 decimal, 2 #b and digits, 3 true or false, 4 a decimal number of 2^32 or more.
-#[derive(Drop)]
+#[derive(Clone, Copy)]
 pub struct Number {
     pub kind: u32,
     pub value: u32,

@@ -7,7 +7,7 @@ use crate::bytes::{digit, ends, letter, white};
 
 // Between two bytes: whether in a comment or in a token; of the token, whether all its bytes are digits, its number
 // (or one of 2^32 or more, where it is that large), and its letters as a number.
-#[derive(Drop)]
+#[derive(Clone, Copy)]
 pub struct Lexer {
     pub comment: bool,
     pub token: bool,
@@ -17,7 +17,7 @@ pub struct Lexer {
 }
 
 // What ends at a byte. Headings: 1 table, 2 values, 3 cells, 4 allowance, 5 sheet.
-#[derive(Drop)]
+#[derive(Clone, Copy)]
 pub enum Token {
     Nothing,
     Number(u32),

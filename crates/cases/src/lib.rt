@@ -21,7 +21,7 @@ pub use places::{back_to, byte_at, column_at, line_at, lower};
 
 // The parts that are rows by their places among the numbers, of which the sheet may be missing and is then empty; the
 // place of the allowance, and how many numbers were written.
-#[derive(Drop)]
+#[derive(Clone, Copy)]
 pub struct Case {
     pub table: Run,
     pub values: Run,
@@ -33,7 +33,7 @@ pub struct Case {
 
 // What is wrong, by its number, and the token at fault: the line and column of its first byte, counted from 1, and its
 // bytes, which go from one up to another. Where there is no such token the column is 0, and from is to.
-#[derive(Drop)]
+#[derive(Clone, Copy)]
 pub struct ParseError {
     pub kind: u32,
     pub line: u64,
@@ -42,7 +42,7 @@ pub struct ParseError {
     pub to: usize,
 }
 
-#[derive(Drop)]
+#[derive(Clone, Copy)]
 pub enum Parsing {
     Parsed(Case),
     NotParsed(ParseError),

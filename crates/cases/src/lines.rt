@@ -7,7 +7,7 @@ use crate::lexer::{Token, fresh, lexed, token_at, token_at_end};
 use crate::places::feed;
 
 // A line of the table, and the count of its numbers.
-#[derive(Drop)]
+#[derive(Clone, Copy)]
 pub struct OddLine {
     pub line: u64,
     pub count: u32,

@@ -13,7 +13,7 @@ pub const TABLE_LIMIT: u32 = 480000;
 pub const OTHERS_LIMIT: u32 = 200000;
 
 // A part's numbers stand at from up to to in the row of all numbers.
-#[derive(Drop)]
+#[derive(Clone, Copy)]
 pub struct Run {
     pub given: bool,
     pub from: u32,
@@ -22,7 +22,7 @@ pub struct Run {
 
 // The part that is being read (0: none yet), how many numbers were read, the five parts, and the first fault: its
 // number (0: none) and the byte at which it was found.
-#[derive(Drop)]
+#[derive(Clone, Copy)]
 pub struct Parser {
     pub part: u32,
     pub total: u32,

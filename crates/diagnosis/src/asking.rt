@@ -10,7 +10,7 @@ use table::{Rank, Sort, Term, sort_at};
 
 // Of a part: one of the three sorts, or none of arrays; the sort of the term, or of p; a vector as wide as their
 // indexes, or their elements.
-#[derive(Drop)]
+#[derive(Clone, Copy)]
 pub enum Asking {
     Anything,
     ABool,
@@ -25,14 +25,14 @@ pub enum Asking {
     FirstElement,
 }
 
-#[derive(Drop)]
+#[derive(Clone, Copy)]
 pub struct Ask {
     pub part: u32,
     pub asking: Asking,
 }
 
 // In order.
-#[derive(Drop)]
+#[derive(Clone, Copy)]
 pub struct Asks {
     pub first: Ask,
     pub second: Ask,

@@ -3,7 +3,7 @@ ghost use Rattle.std.specs.Prelude.{◌≡◌};
 ghost use Rattle.diagnosis.specs.Spots.{word, number_of, spot_at};
 
 // A number of a part (1 table, 2 values, 3 cells, 4 allowance, 5 sheet; 0: none), or the word that begins the part.
-#[derive(Drop)]
+#[derive(Clone, Copy)]
 pub struct Spot {
     pub part: u32,
     pub heading: bool,

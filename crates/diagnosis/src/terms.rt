@@ -13,14 +13,14 @@ use crate::told::{Diagnosis, nothing, of_field, plain, sized, unless, vector_sor
 use table::{Fields, Sort, Term, is_variable, sort_at, term_at};
 
 // What a field holds: a number of its own, an operand, nothing.
-#[derive(Drop)]
+#[derive(Clone, Copy)]
 pub enum Use {
     Number,
     Operand,
     Unused,
 }
 
-#[derive(Drop)]
+#[derive(Clone, Copy)]
 pub struct Uses {
     pub p: Use,
     pub q: Use,

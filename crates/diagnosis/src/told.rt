@@ -16,7 +16,7 @@ use table::Sort;
 //  24: 14. Slot a is no array.     25, 26: 15. The index (the value) is a, at most b fits found.
 //  27: 23. The allowance is a, and b steps are needed.
 //  28 to 31: 16. The last line has a numbers; the kind is a; the slots go from a to b; the slot is a.
-#[derive(Drop)]
+#[derive(Clone, Copy)]
 pub struct Diagnosis {
     pub reason: u32,
     pub part: u32,

@@ -17,13 +17,13 @@ use table::{Acceptance, Refusal, accepts};
 pub use turns::{Turn, advance, step, turn_at, variable_number};
 
 // The steps that were spent, and the allowance that is left.
-#[derive(Drop)]
+#[derive(Clone, Copy)]
 pub struct Spent {
     pub steps: u64,
     pub left: u64,
 }
 
-#[derive(Drop)]
+#[derive(Clone, Copy)]
 pub enum Evaluation {
     Evaluated(Spent),
     NotEvaluated(Refusal),

@@ -7,7 +7,7 @@ ghost use Rattle.evaluate.specs.Code.Reads.{holder_at, found_at};
 use table::number_at;
 
 // The value that a store holds, or else the slot of the variable at the end.
-#[derive(Drop)]
+#[derive(Clone, Copy)]
 pub struct Found {
     pub stored: bool,
     pub number: u32,

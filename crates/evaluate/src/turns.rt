@@ -9,7 +9,7 @@ use crate::reads::find;
 use table::{Term, number_at};
 
 // Whether there is a term at, and the cell that it asks for: among count cells, by slot and index, else the other.
-#[derive(Drop)]
+#[derive(Clone, Copy)]
 pub struct Turn {
     pub pending: bool,
     pub at: u32,

@@ -7,7 +7,7 @@ use ops::Op;
 use table::{Term, number_at};
 
 // Free and settles the operator; free and does not; not free and would not; not free, though its value would.
-#[derive(Drop)]
+#[derive(Clone, Copy)]
 pub enum Operand {
     Settles,
     Free,

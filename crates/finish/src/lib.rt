@@ -11,14 +11,14 @@ ghost use Rattle.finish.specs.Laws.{FinishingPromise};
 use table::{Acceptance, Refusal, WORDS};
 
 // The count of terms, the number of C(rule), the number of the last term.
-#[derive(Drop)]
+#[derive(Clone, Copy)]
 pub struct Extent {
     pub terms: u32,
     pub condition: u32,
     pub last: u32,
 }
 
-#[derive(Drop)]
+#[derive(Clone, Copy)]
 pub enum Finishing {
     Finished(Extent),
     NotFinished(Refusal),

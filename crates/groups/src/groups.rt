@@ -11,7 +11,7 @@ use crate::added::{
 use table::{Term, put};
 
 // The number of a term's condition, and that of the next group's first term.
-#[derive(Drop)]
+#[derive(Clone, Copy)]
 pub struct Written {
     pub condition: u32,
     pub next: u32,

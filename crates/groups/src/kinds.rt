@@ -4,7 +4,7 @@ ghost use Rattle.std.specs.Prelude.{◌≡◌};
 ghost use Rattle.ops.specs.Numbers.{op_of};
 ghost use Rattle.groups.specs.FunctionGroups.{kind_of};
 
-#[derive(Drop)]
+#[derive(Clone, Copy)]
 pub enum GroupKind {
     Literal, // constant
     Input, // variable

@@ -16,7 +16,7 @@ pub use terms::step;
 pub use turns::{Turn, first_turn};
 
 // Rule and condition, the steps that were spent, and the allowance that is left.
-#[derive(Drop)]
+#[derive(Clone, Copy)]
 pub struct Verdict {
     pub rule: bool,
     pub condition: bool,
@@ -24,7 +24,7 @@ pub struct Verdict {
     pub left: u64,
 }
 
-#[derive(Drop)]
+#[derive(Clone, Copy)]
 pub enum Judgement {
     Judged(Verdict),
     NotJudged(Refusal),

@@ -10,7 +10,7 @@ use crate::leaves::leaf_count;
 use table::{Term, number_at};
 
 // A value, and whether it ignores the marked inputs.
-#[derive(Drop)]
+#[derive(Clone, Copy)]
 pub struct Labelled {
     pub value: u32,
     pub free: bool,

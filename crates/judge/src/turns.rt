@@ -12,7 +12,7 @@ use table::number_at;
 // read at a free index: the array that it reaches, how many variables that has, how many of their cells are had, and
 // whether it will ask for more after this one. Of the variables' numbers in cells those had are their cells, the others
 // their slots.
-#[derive(Drop)]
+#[derive(Clone, Copy)]
 pub struct Turn {
     pub pending: bool,
     pub at: u32,

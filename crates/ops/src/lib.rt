@@ -8,7 +8,7 @@ ghost use Rattle.ops.specs.Condition.{absorbed, shifted, fixed_by, chosen, condi
 ghost use Rattle.ops.specs.Fits.{fits};
 
 // The functions on numbers, by SMT-LIB's names (Core, FixedSizeBitVectors).
-#[derive(Drop)]
+#[derive(Clone, Copy)]
 pub enum Function {
     Not,
     And,
@@ -29,7 +29,7 @@ pub enum Function {
 }
 
 // What a term is: a function of its operands, one of the others, or a number that has no operator.
-#[derive(Drop)]
+#[derive(Clone, Copy)]
 pub enum Op {
     Constant,
     Variable,
@@ -378,7 +378,7 @@ fn settles_number(number: u32, n: u32, x: u32, y: u32, z: u32, c: bool, d: bool,
 }
 
 // Value and condition together.
-#[derive(Drop)]
+#[derive(Clone, Copy)]
 pub struct Outcome {
     pub value: u32,
     pub free: bool,

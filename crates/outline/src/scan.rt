@@ -8,13 +8,13 @@ use parser::{Token, Word, token_at};
 use smtlib::lower;
 
 // The bytes from one place up to another.
-#[derive(Drop)]
+#[derive(Clone, Copy)]
 pub struct Span {
     pub from: usize,
     pub to: usize,
 }
 
-#[derive(Drop)]
+#[derive(Clone, Copy)]
 pub struct Scan {
     // 0 between commands, 1 after its parenthesis, 2 declaration, 3 assert, 4 check-sat
     pub command: u32,

@@ -20,7 +20,7 @@ pub use rules::rule;
 use table::{Acceptance, Refusal, WORDS};
 pub use words::{Token, Word, all_symbolic, token_at, white, word_of};
 
-#[derive(Drop)]
+#[derive(Clone, Copy)]
 pub enum Parsing {
     // The numbers of the table.
     Parsed(u64),

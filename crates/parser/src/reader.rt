@@ -5,7 +5,7 @@ ghost use Rattle.parser.specs.Words.{token_at, words_at};
 
 use crate::words::{Token, Words, paired, token_at};
 
-#[derive(Drop)]
+#[derive(Clone, Copy)]
 pub struct Reader<'a> {
     pub text: &'a [u8],
     pub at: usize,

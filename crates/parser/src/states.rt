@@ -2,7 +2,7 @@
 
 // The place; the terms so far, 513 for more than 512; the number of the last expression's term; 0, or what refuses the
 // word at the place.
-#[derive(Drop)]
+#[derive(Clone, Copy)]
 pub struct State {
     pub at: usize,
     pub count: u32,
@@ -11,7 +11,7 @@ pub struct State {
 }
 
 // The operands of a list that were read, and how many.
-#[derive(Drop)]
+#[derive(Clone, Copy)]
 pub struct Listed {
     pub state: State,
     pub n: u32,
@@ -21,7 +21,7 @@ pub struct Listed {
 }
 
 // How an expression begins: it is done, it is a constant of a width and a value, or a list of an operator follows.
-#[derive(Drop)]
+#[derive(Clone, Copy)]
 pub enum Head {
     Done(State),
     Constant(u32, u32, usize),
@@ -30,7 +30,7 @@ pub enum Head {
 
 // How far a rule is read: how many names are declared; how many asserts there were, 2 for more; the number of the
 // joined rule's term; whether the only assert is a bare name; whether check-sat was read.
-#[derive(Drop)]
+#[derive(Clone, Copy)]
 pub struct Progress {
     pub state: State,
     pub names: usize,
@@ -41,7 +41,7 @@ pub struct Progress {
 }
 
 // A sort that was read: its widths.
-#[derive(Drop)]
+#[derive(Clone, Copy)]
 pub struct Sorted {
     pub state: State,
     pub m: u32,

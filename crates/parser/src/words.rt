@@ -6,7 +6,7 @@ ghost use Rattle.table.specs.Folds.{every};
 ghost use Rattle.parser.specs.Words.{white, inside, between, among, symbolic, symbol, private, binary, width};
 ghost use Rattle.parser.specs.Words.{tag_of, is_name, marked, plain_of, word_of, past, word_from, token_at, words_of};
 
-#[derive(Drop)]
+#[derive(Clone, Copy)]
 pub enum Word {
     Open,
     Close,
@@ -23,7 +23,7 @@ pub enum Word {
 }
 
 // A word with its place and the place after it.
-#[derive(Drop)]
+#[derive(Clone, Copy)]
 pub struct Token {
     pub word: Word,
     pub from: usize,
@@ -31,7 +31,7 @@ pub struct Token {
 }
 
 // A word and the one after it.
-#[derive(Drop)]
+#[derive(Clone, Copy)]
 pub struct Words {
     pub first: Token,
     pub second: Token,

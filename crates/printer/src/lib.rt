@@ -11,7 +11,7 @@ ghost use Rattle.printer.specs.Meaning.{PrintingPromise};
 
 use table::{Acceptance, Refusal};
 
-#[derive(Drop)]
+#[derive(Clone, Copy)]
 pub enum Printing {
     // The bytes of the text.
     Printed(u64),

@@ -11,7 +11,7 @@ use printer::Printing;
 use table::{Acceptance, Refusal};
 
 // 0 or the refusal's number; then what stands in the caller's four numbers.
-#[derive(Drop)]
+#[derive(Clone, Copy)]
 pub struct Reply {
     pub number: u32,
     pub first: u64,

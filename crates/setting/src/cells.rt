@@ -12,7 +12,7 @@ use crate::arrays::{fill_entries, slot_sort};
 use table::{Acceptance, refuse_unless};
 
 #[repr(C)]
-#[derive(Drop)]
+#[derive(Clone, Copy)]
 pub struct Cell {
     pub slot: u32,
     pub index: u32,

@@ -7,7 +7,7 @@ pub const KEEP: u32 = 0;
 
 pub const MARK: u32 = 1;
 
-#[derive(Drop)]
+#[derive(Clone, Copy)]
 pub struct Line {
     pub kind: u32,
     pub lowest: u32,

@@ -16,13 +16,13 @@ pub use ranks::{
 pub use sorts::{array, boolean, same_sort, scalar, sorted, vector, vector_of};
 pub use words::{Sort, Term, WORDS, copy, number_at, put, sort_at, sort_in, term_at, term_in};
 
-#[derive(Drop)]
+#[derive(Clone, Copy)]
 pub struct Refusal {
     pub number: u32,
     pub place: u64,
 }
 
-#[derive(Drop)]
+#[derive(Clone, Copy)]
 pub enum Acceptance {
     Accepted,
     Refused(Refusal),

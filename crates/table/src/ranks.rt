@@ -8,7 +8,7 @@ use crate::sorts::array;
 use crate::words::Term;
 
 // The lines of paper 01's table of operators, by the sorts that they ask (SMT-LIB: ranks).
-#[derive(Drop)]
+#[derive(Clone, Copy)]
 pub enum Rank {
     Literal,
     Input,
@@ -25,7 +25,7 @@ pub enum Rank {
 }
 
 // What the fields p, q, r hold: a value; a slot and a mark; one, two or three operands.
-#[derive(Drop)]
+#[derive(Clone, Copy)]
 pub enum Fields {
     Value,
     Slot,

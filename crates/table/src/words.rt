@@ -4,13 +4,13 @@ ghost use Rattle.table.specs.Terms.{HasTerm, HasSort, word_at, sort_at, term_at}
 ghost use Rattle.table.specs.Code.Writing.{placed};
 
 // Boolean (0, 0); vector (0, n); array (m, n).
-#[derive(Drop)]
+#[derive(Clone, Copy)]
 pub struct Sort {
     pub m: u32,
     pub n: u32,
 }
 
-#[derive(Drop)]
+#[derive(Clone, Copy)]
 pub struct Term {
     pub op: u32,
     pub sort: Sort,

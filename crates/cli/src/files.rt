@@ -182,7 +182,8 @@ fn answer_text(
     }
 }
 
-// Prints a table in the longest rooms, which no table is too long for.
+// Prints a table in the longest rooms, which no table is too long for; they stand in no other function's frame.
+#[inline(never)]
 fn print_long(rt: HostRuntime, command: u32, table: &[u32]) -> u32 {
     let mut room = finish_room();
     let mut text = long_text();
@@ -225,8 +226,7 @@ fn finish_long(
     }
 }
 
-// A command that needs the longest rooms. The call for a text stands twice, so that its rooms are not put into this
-// function's frame.
+// A command that needs the longest rooms.
 pub fn parts_long(
     rt: HostRuntime,
     command: u32,
@@ -236,11 +236,8 @@ pub fn parts_long(
     cells: &[u32],
     allowance: u64,
 ) -> u32 {
-    if command == arguments::PRINT {
-        return print_long(rt, arguments::PRINT, table);
-    }
-    if command == arguments::PRINT_FINISHED {
-        return print_long(rt, arguments::PRINT_FINISHED, table);
+    if arguments::FINISH < command {
+        return print_long(rt, command, table);
     }
     finish_long(rt, table, sheet, values, cells, allowance)
 }
@@ -257,6 +254,7 @@ fn case_long(rt: HostRuntime, command: u32, numbers: &[u32], case: Case) -> u32
 }
 
 // Answers a command on a text that was read before.
+#[inline(never)]
 fn answer_long(rt: HostRuntime, command: u32, text: &[u8], numbers: &mut [u32]) -> u32 {
     let parsing = cases::read_case(text, numbers);
     match parsing {
@@ -265,7 +263,8 @@ fn answer_long(rt: HostRuntime, command: u32, text: &[u8], numbers: &mut [u32]) 
     }
 }
 
-// Answers a request on a large file, whose first bytes are read.
+// Answers a request on a large file, whose first bytes are read. Its rooms stand in no other function's frame.
+#[inline(never)]
 fn answer_large(
     rt: HostRuntime,
     request: Request,
@@ -299,8 +298,7 @@ fn answer_small(rt: HostRuntime, request: Request, path: &[u8], text: &[u8]) -> 
     ends
 }
 
-// Answers a request on an open file that is no rule, whose first bytes are read. The call for a large one stands twice, so
-// that its rooms are not put into this function's frame.
+// Answers a request on an open file that is no rule, whose first bytes are read.
 fn answer_front(
     rt: HostRuntime,
     request: Request,
@@ -346,10 +344,7 @@ pub fn open(rt: HostRuntime, path: &[u8]) -> Result<Input> {
 // Answers a request on the file of a name.
 pub fn answer_file(rt: HostRuntime, request: Request, path: &[u8]) -> Answer {
     match open(rt, path) {
-        Ok(input) => {
-            let mut input = input;
-            answer_open(rt, request, path, &mut input)
-        }
+        Ok(mut input) => answer_open(rt, request, path, &mut input),
         Err(e) => status::alone(failed(rt, path, &e)),
     }
 }

@@ -293,7 +293,8 @@ fn answer_text(
     )
 }
 
-// A large setting, whose first bytes are read.
+// A large setting, whose first bytes are read. Its rooms stand in no other function's frame.
+#[inline(never)]
 fn answer_large(
     rt: HostRuntime,
     request: Request,
@@ -329,7 +330,7 @@ fn answer_large(
     )
 }
 
-// An open setting. The call for a large one stands twice, so that its rooms are not put into this function's frame.
+// An open setting.
 fn answer_open(
     rt: HostRuntime,
     request: Request,
@@ -392,10 +393,7 @@ fn answer_setting(
         return complained(told, status::ERROR);
     }
     match files::open(rt, setting) {
-        Ok(input) => {
-            let mut input = input;
-            answer_open(rt, request, path, setting, rule, names, table, &mut input)
-        }
+        Ok(mut input) => answer_open(rt, request, path, setting, rule, names, table, &mut input),
         Err(e) => failed(rt, setting, &e),
     }
 }

@@ -22,10 +22,10 @@ pub fill-requires : goal.fill-requires
 fill-requires c = tt
 
 pub shape_of-values : goal.shape_of-values
-shape_of-values c = c.fill.auto.1.1.1.0
+shape_of-values c = c.fill.auto.values
 
 pub shape_of-cells : goal.shape_of-cells
-shape_of-cells c = c.run-s.auto.1.1.1.0
+shape_of-cells c = c.run-s.auto.cells
 
 pub shape_of-sheet : goal.shape_of-sheet
-shape_of-sheet c = c.run-s.auto.1.1.1.1.0
+shape_of-sheet c = c.run-s.auto.sheet

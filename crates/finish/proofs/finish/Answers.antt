@@ -58,4 +58,4 @@ returns c =
     let last : c.needed-terms.result - 1 ≡ pred (terms (finished w)) = omega (arith, n) in
     let same : e ≡ extent w = λ i. record { terms = n i; condition = c.fill-condition.ensures.value i; last = last i } in
     let is : Finished e ≡ Finished (extent w) = ap Finished same in
-    record { value = is ∙ long-enough w c.args.room.now h full; room_after = c.fill-condition.ensures.room_after ∙ ap (λ (z : Finishing). room_after z w c.args.room.now) (sym is); finishing_promise = subst (λ (z : Finishing). FinishingPromise w c.fill-condition.new.1.0 z) (sym is) (subst (λ (l : List ℕ). FinishingPromise w l (Finished (extent w))) (sym c.fill-condition.ensures.room_after) (promise w c.args.room.now h)) }
+    record { value = is ∙ long-enough w c.args.room.now h full; room_after = c.fill-condition.ensures.room_after ∙ ap (λ (z : Finishing). room_after z w c.args.room.now) (sym is); finishing_promise = subst (λ (z : Finishing). FinishingPromise w c.fill-condition.new.room z) (sym is) (subst (λ (l : List ℕ). FinishingPromise w l (Finished (extent w))) (sym c.fill-condition.ensures.room_after) (promise w c.args.room.now h)) }

@@ -27,7 +27,10 @@ use Rattle.judge.proofs.Verdicts.{stands, room_kept, room_filled, rule_read, con
 use Rattle.judge.proofs.judge.Goals as goal
 
 pub ready-answer-requires : goal.ready-answer-requires
-ready-answer-requires c = (λ h. wider 512 80000 c.args.table.now (omega arith) (admission-sound 512 c.args.table.now (admitted_under c.args.table.now c.args.sheet.now (sym (ap accepts c.admit_under-admitted.ensures) ∙ h)).0), omega arith)
+ready-answer-requires c = record {
+  well_formed = λ h. wider 512 80000 c.args.table.now (omega arith) (admission-sound 512 c.args.table.now (admitted_under c.args.table.now c.args.sheet.now (sym (ap accepts c.admit_under-admitted.ensures) ∙ h)).0);
+  each_bound = omega arith;
+}
 
 -- a refusal
 pub returns-then-not-evaluates : goal.returns-then-not-evaluates
@@ -63,7 +66,7 @@ bounds-work-last c =
     ∙ ap (λ (x : Acceptance). ready_by c.args.table.now x (check c.args.table.now c.args.values.now c.args.cells.now) 2 c.args.allowance (length c.args.work.now)) c.admit_under-admitted.ensures in
     let ok : Unrefused c.args.table.now c.args.sheet.now (check c.args.table.now c.args.values.now c.args.cells.now) 2 c.args.allowance (length c.args.work.now) = passed_under c.args.table.now c.args.sheet.now (check c.args.table.now c.args.values.now c.args.cells.now) 2 c.args.allowance (length c.args.work.now) (sym (ap evaluates asked) ∙ sym c.evaluates.ensures ∙ c.if-not-evaluates.false) in
     let formed : WellFormed 512 c.args.table.now = admission-sound 512 c.args.table.now ok.admitted in
-    omega (arith, formed.some, ok.long, c.fill.auto.1.1.1.1.0)
+    omega (arith, formed.some, ok.long, c.fill.auto.work)
 
 pub bounds-work-terms : goal.bounds-work-terms
 bounds-work-terms c =
@@ -71,7 +74,7 @@ bounds-work-terms c =
     ∙ ap (λ (x : Acceptance). ready_by c.args.table.now x (check c.args.table.now c.args.values.now c.args.cells.now) 2 c.args.allowance (length c.args.work.now)) c.admit_under-admitted.ensures in
     let ok : Unrefused c.args.table.now c.args.sheet.now (check c.args.table.now c.args.values.now c.args.cells.now) 2 c.args.allowance (length c.args.work.now) = passed_under c.args.table.now c.args.sheet.now (check c.args.table.now c.args.values.now c.args.cells.now) 2 c.args.allowance (length c.args.work.now) (sym (ap evaluates asked) ∙ sym c.evaluates.ensures ∙ c.if-not-evaluates.false) in
     let formed : WellFormed 512 c.args.table.now = admission-sound 512 c.args.table.now ok.admitted in
-    omega (arith, formed.some, ok.long, c.fill.auto.1.1.1.1.0)
+    omega (arith, formed.some, ok.long, c.fill.auto.work)
 
 pub returns : goal.returns
 returns c =

@@ -31,7 +31,7 @@ pub overflow_step-i : goal.overflow_step-i
 overflow_step-i c = omega (arith, c.count-terms.ensures, c.requires.few, c.loop-i-test.true)
 
 pub loop-i-preserved : goal.loop-i-preserved
-loop-i-preserved c = one_written c.args.table.now c.args.room.now c.count-terms.result c.loop-i.room c.loop-i.conditions c.loop-i.condition c.loop-i.next c.loop-i.i c.requires c.count-terms.ensures c.loop-i.invariant c.loop-i-test.true c.write_group-done.result c.write_group-done.new.1.1.0 c.write_group-done.ensures.value c.write_group-done.ensures.room_after
+loop-i-preserved c = one_written c.args.table.now c.args.room.now c.count-terms.result c.loop-i.room c.loop-i.conditions c.loop-i.condition c.loop-i.next c.loop-i.i c.requires c.count-terms.ensures c.loop-i.invariant c.loop-i-test.true c.write_group-done.result c.write_group-done.new.room c.write_group-done.ensures.value c.write_group-done.ensures.room_after
 
 pub shape_of-room : goal.shape_of-room
 shape_of-room c = same_room c.args.table.now c.args.room.now c.count-terms.result c.loop-i.room c.loop-i.conditions c.loop-i.condition c.loop-i.next c.loop-i.i c.requires c.count-terms.ensures c.loop-i.invariant

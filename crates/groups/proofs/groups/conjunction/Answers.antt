@@ -69,4 +69,4 @@ pub grown-requires : goal.grown-requires
 grown-requires c = (c.requires, (lit≤ tt, lit≤ tt))
 
 pub shape_of-room : goal.shape_of-room
-shape_of-room c = c.lay_two-2.auto.0 ∙ c.lay_two.auto.0 ∙ c.lay_three.auto.0
+shape_of-room c = c.lay_two-2.auto.room ∙ c.lay_two.auto.room ∙ c.lay_three.auto.room

@@ -58,4 +58,4 @@ pub grown-requires : goal.grown-requires
 grown-requires c = (c.requires, (lit≤ tt, lit≤ tt))
 
 pub shape_of-room : goal.shape_of-room
-shape_of-room c = c.lay_three-2.auto.0 ∙ c.lay_three.auto.0
+shape_of-room c = c.lay_three-2.auto.room ∙ c.lay_three.auto.room

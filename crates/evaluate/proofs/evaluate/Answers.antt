@@ -22,10 +22,10 @@ pub returns-then-evaluates : goal.returns-then-evaluates
 returns-then-evaluates c =
     let answer : c.ready-answer.result ≡ evaluation c.args.table.now c.args.values.now c.args.cells.now c.args.allowance (length c.args.work.now) = c.ready-answer.ensures
     ∙ ap (λ (x : Acceptance). ready_by c.args.table.now x (check c.args.table.now c.args.values.now c.args.cells.now) 1 c.args.allowance (length c.args.work.now)) c.admit_within-admitted.ensures in
-    (answer, c.fill.ensures ∙ room_filled c.ready-answer.result c.args.table.now c.args.values.now c.args.cells.now c.args.work.now (sym c.evaluates.ensures ∙ c.if-evaluates.true))
+    record { value = answer; work_after = c.fill.ensures ∙ room_filled c.ready-answer.result c.args.table.now c.args.values.now c.args.cells.now c.args.work.now (sym c.evaluates.ensures ∙ c.if-evaluates.true) }
 
 pub returns-else-evaluates : goal.returns-else-evaluates
 returns-else-evaluates c =
     let answer : c.ready-answer.result ≡ evaluation c.args.table.now c.args.values.now c.args.cells.now c.args.allowance (length c.args.work.now) = c.ready-answer.ensures
     ∙ ap (λ (x : Acceptance). ready_by c.args.table.now x (check c.args.table.now c.args.values.now c.args.cells.now) 1 c.args.allowance (length c.args.work.now)) c.admit_within-admitted.ensures in
-    (answer, room_kept c.ready-answer.result c.args.table.now c.args.values.now c.args.cells.now c.args.work.now (sym c.evaluates.ensures ∙ c.if-evaluates.false))
+    record { value = answer; work_after = room_kept c.ready-answer.result c.args.table.now c.args.values.now c.args.cells.now c.args.work.now (sym c.evaluates.ensures ∙ c.if-evaluates.false) }

@@ -16,7 +16,7 @@ pub copy-requires : goal.copy-requires
 copy-requires c = enough c.args.text.now c.args.room.now c.rule.result c.rule.new.1.0 c.rule.ensures c.answer-r.result c.answer-r.ensures c.rule.auto.1.0 c.given-end.result c.given-end.ensures
 
 pub returns : goal.returns
-returns c = (parse_is c.args.text.now c.args.room.now c.rule.result c.rule.new.1.0 c.rule.ensures c.answer-r.result c.answer-r.ensures, filled c.args.text.now c.args.room.now c.rule.result c.rule.new.1.0 c.rule.ensures c.answer-r.result c.answer-r.ensures c.rule.auto.1.0 c.given-end.result c.given-end.ensures c.copy.new.1.0 c.copy.ensures)
+returns c = record { value = parse_is c.args.text.now c.args.room.now c.rule.result c.rule.new.1.0 c.rule.ensures c.answer-r.result c.answer-r.ensures; room_after = filled c.args.text.now c.args.room.now c.rule.result c.rule.new.1.0 c.rule.ensures c.answer-r.result c.answer-r.ensures c.rule.auto.1.0 c.given-end.result c.given-end.ensures c.copy.new.1.0 c.copy.ensures }
 
 pub rule-requires : goal.rule-requires
 rule-requires c = tt

@@ -22,7 +22,7 @@ returns c =
     c.if-needed-room.branch in
     let kept : length c.if-needed-room.room ≡ length c.args.room.now = ⊎_elim (λ e. ap length e.5 ∙ same_length e.2.ensures) (λ e. ap length e.1) c.if-needed-room.branch in
     let is = c.fitted.ensures ∙ ap₂ fitting needed kept in
-    (is, left_so c.args.table.now c.args.room.now _ _ is written)
+    record { value = is; room_after = left_so c.args.table.now c.args.room.now _ _ is written }
 
 pub shape_of-room : goal.shape_of-room
 shape_of-room c = ⊎_elim (λ e. ap length e.5 ∙ same_length e.2.ensures) (λ e. ap length e.1) c.if-needed-room.branch

@@ -37,7 +37,9 @@ overflow_add-sum c =
     omega (arith, small, c.loop-i.invariant.0.small, c.loop-i.invariant.0.within, c.count-terms.ensures, c.requires.few)
 
 pub keep-requires : goal.keep-requires
-keep-requires c = keep-ready 80000 c.requires c.loop-i.invariant.1 (omega (arith, c.loop-i-test.true, c.count-terms.ensures))
+keep-requires c =
+    let ready = keep-ready 80000 c.requires c.loop-i.invariant.1 (omega (arith, c.loop-i-test.true, c.count-terms.ensures)) in
+    record { has_term = ready.0; kept = ready.1 }
 
 pub loop-i-preserved : goal.loop-i-preserved
 loop-i-preserved c =

@@ -7,9 +7,8 @@ use Rattle.groups.proofs.groups.shift.Goals as goal
 pub returns : goal.returns
 unfolding placed_from
 returns c =
-    let b = c.args.b in (
-      c.grown.ensures,
-      (three_laid b 3 c.lay_three-2.ensures
+    let b = c.args.b in
+    record { value = c.grown.ensures; room_after = (three_laid b 3 c.lay_three-2.ensures
           c.and_term.ensures
           c.and_term-2.ensures
           c.or_term.ensures
@@ -17,8 +16,7 @@ returns c =
           c.constant_term.ensures
           c.less_term.ensures
           c.not_term.ensures
-          refl)),
-    )
+          refl)) }
 
 pub constant_term-requires : goal.constant_term-requires
 constant_term-requires c = record {}

@@ -37,10 +37,8 @@ pub shape_of-room-then-not-is_choice : goal.shape_of-room-then-not-is_choice
 shape_of-room-then-not-is_choice t c = c.strict.auto.0
 
 pub returns-then-not-is_choice : goal.returns-then-not-is_choice
-returns-then-not-is_choice t c = let n = c.number_in.ensures in let e = ends c.args.table.now.now c.args.conditions.now.now c.args.b c.args.a c.args.j c.args.cj c.requires c.term_in-x.result c.term_in-x.ensures (sym c.is_store.ensures ∙ c.if-is_store.false) (sym c.is_choice.ensures ∙ c.if-not-is_choice.true) in (
-  c.strict.ensures.value ∙ ap (λ (m : ℕ). after c.args.b (strict_group m c.args.cj)) n ∙ ap (after c.args.b) e,
-  c.strict.ensures.room_after ∙ ap (λ (m : ℕ). placed_all c.args.room.now c.args.b (strict_group m c.args.cj)) n ∙ ap (placed_all c.args.room.now c.args.b) e,
-)
+returns-then-not-is_choice t c = let n = c.number_in.ensures in let e = ends c.args.table.now.now c.args.conditions.now.now c.args.b c.args.a c.args.j c.args.cj c.requires c.term_in-x.result c.term_in-x.ensures (sym c.is_store.ensures ∙ c.if-is_store.false) (sym c.is_choice.ensures ∙ c.if-not-is_choice.true) in
+    record { value = c.strict.ensures.value ∙ ap (λ (m : ℕ). after c.args.b (strict_group m c.args.cj)) n ∙ ap (after c.args.b) e; room_after = c.strict.ensures.room_after ∙ ap (λ (m : ℕ). placed_all c.args.room.now c.args.b (strict_group m c.args.cj)) n ∙ ap (placed_all c.args.room.now c.args.b) e }
 
 pub read_group-q-requires : goal.read_group-q-requires
 read_group-q-requires t c = let f = choice_falls c.args.table.now.now c.args.conditions.now.now c.args.b c.args.a c.args.j c.args.cj c.requires c.term_in-x.result c.term_in-x.ensures (sym c.is_choice.ensures ∙ c.if-not-is_choice.false) in (omega (arith, f.0, f.1, f.2, c.decreases), record { well_formed = c.requires.well_formed; numbered = c.requires.numbered; a_in_bounds = (omega (arith, f.0, f.1, f.2, c.requires.a_in_bounds.0), omega (arith, f.0, f.1, f.2, c.requires.a_in_bounds.1)) })

@@ -22,13 +22,13 @@ put_leaves-requires c = record { well_formed = c.requires; a_bound = omega (arit
 pub returns-then-is_choice : goal.returns-then-is_choice
 returns-then-is_choice c =
     let wrote = c.put_leaves.ensures in
-    (wrote.0 ∙ zero-add (length (leaves_at c.args.t1.now c.loop-b.b)) ∙ ap length c.loop-b.invariant.1, wrote.1 ∙ ap (sets c.args.slots.now 0) c.loop-b.invariant.1)
+    record { value = wrote.0 ∙ zero-add (length (leaves_at c.args.t1.now c.loop-b.b)) ∙ ap length c.loop-b.invariant.1; slots_after = wrote.1 ∙ ap (sets c.args.slots.now 0) c.loop-b.invariant.1 }
 
 pub returns : goal.returns
 returns c =
     let e = at_variable c.args.t1.now (stacked 80000 c.args.t1.now c.requires) c.loop-b.b c.loop-b.x c.loop-b.invariant.0
     (sym c.is_store.ensures ∙ c.loop-b-test.false) (sym c.is_choice.ensures ∙ c.if-is_choice.false) ∙ c.loop-b.invariant.1 in
-    (ap length e, ap (sets c.args.slots.now 0) e)
+    record { value = ap length e; slots_after = ap (sets c.args.slots.now 0) e }
 
 pub loop-b-init : goal.loop-b-init
 loop-b-init c = (c.term_at-x.ensures, refl)

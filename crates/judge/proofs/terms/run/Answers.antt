@@ -19,7 +19,5 @@ returns c =
     let w = c.args.table.now in
     let write = plain_noted w (marks_by c.args.said.now) c.args.values.now c.args.terms in
     let noted = c.note_read-next.ensures in
-    let on = c.advance.ensures in (
-      on.0 ∙ ap (next_read w c.args.terms) noted.0 ∙ begun-next (is_read_at w) c.args.terms c.args.turn.at c.requires.at_lt_terms.0,
-      on.1 ∙ ap₂ (λ (l : List ℕ) (k : ℕ). onward w write c.args.terms l k) noted.1 noted.0 ∙ run_room w (marks_by c.args.said.now) c.args.values.now c.args.terms c.args.turn.array (gathered c.args.turn c.args.answer) c.args.work.now c.args.turn.at c.requires.at_lt_terms.0,
-    )
+    let on = c.advance.ensures in
+    record { value = on.0 ∙ ap (next_read w c.args.terms) noted.0 ∙ begun-next (is_read_at w) c.args.terms c.args.turn.at c.requires.at_lt_terms.0; work_after = on.1 ∙ ap₂ (λ (l : List ℕ) (k : ℕ). onward w write c.args.terms l k) noted.1 noted.0 ∙ run_room w (marks_by c.args.said.now) c.args.values.now c.args.terms c.args.turn.array (gathered c.args.turn c.args.answer) c.args.work.now c.args.turn.at c.requires.at_lt_terms.0 }

@@ -22,4 +22,4 @@ turn_here-requires c =
 pub returns : goal.returns
 returns c =
     let none = c.if-turn.false in
-    (c.turn_here.ensures ∙ ap (turn_here c.args.table.now c.args.values.now c.args.count c.args.terms c.run-next.new.1.1.1.1.0) c.run-next.ensures.value ∙ rw none, c.run-next.ensures.work_after ∙ rw none)
+    record { value = c.turn_here.ensures ∙ ap (turn_here c.args.table.now c.args.values.now c.args.count c.args.terms c.run-next.new.1.1.1.1.0) c.run-next.ensures.value ∙ rw none; work_after = c.run-next.ensures.work_after ∙ rw none }

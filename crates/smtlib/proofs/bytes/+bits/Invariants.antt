@@ -1,4 +1,3 @@
-use Rattle.smtlib.specs.Numerals as numbers
 use Rattle.smtlib.proofs.bytes.+bits.Given as goal
 
 abbrev pub decreases-bits : goal.decreases-bits

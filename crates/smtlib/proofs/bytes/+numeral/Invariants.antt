@@ -1,4 +1,3 @@
-use Rattle.smtlib.specs.Numerals as numbers
 use Rattle.smtlib.proofs.bytes.+numeral.Given as goal
 
 abbrev pub decreases-numeral : goal.decreases-numeral

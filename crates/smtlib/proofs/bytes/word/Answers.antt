@@ -1,4 +1,3 @@
-use Prim.Native.Nat.{◌-◌}
 use native.Mathlib.Omega.{arith}
 use Rattle.smtlib.specs.Writing.{page}
 use Rattle.smtlib.proofs.Pages.{same_length, none_written, one_written, all-written}

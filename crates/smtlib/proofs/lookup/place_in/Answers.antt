@@ -1,5 +1,4 @@
 use mathlib.Core.Path.{sym, ◌∙◌}
-use Prim.Native.Nat.{◌-◌}
 use native.Mathlib.Omega.{arith}
 use Rattle.smtlib.proofs.Searches.{word-found, word-passed, no-word-found}
 use Rattle.smtlib.proofs.lookup.place_in.Goals as goal

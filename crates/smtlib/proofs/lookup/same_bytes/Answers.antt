@@ -1,5 +1,4 @@
 use mathlib.Core.Path.{refl}
-use Prim.Native.Nat.{◌-◌}
 use native.Mathlib.Omega.{arith}
 use Rattle.smtlib.proofs.Searches.{unlike_lengths, byte_differs, byte_same, bytes_through}
 use Rattle.smtlib.proofs.lookup.same_bytes.Goals as goal

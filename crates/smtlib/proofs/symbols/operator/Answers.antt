@@ -12,4 +12,4 @@ pub returns : goal.returns
 returns c = said c.part.ensures (word_is c.args.op c.if-k-gt-LAST.false)
 
 pub shape_of-room : goal.shape_of-room
-shape_of-room c = same_length (returns-2 c)
+shape_of-room c = same_length c.part.ensures

@@ -17,7 +17,7 @@ use Rattle.groups.specs.declared.kinds.GroupKind.{GroupKind}
 use Rattle.groups.specs.declared.kinds.GroupKind.TheVariants.{Literal, Input, Unary, Strict, Conjunction, Disjunction, Implication, Zero, Ones, Bounds, SignedBounds, Fixed, Shift, Read, Write}
 use Rattle.groups.specs.Groups.{strict_group, and_group, or_group, implies_group, absorbing_group, bounds_group, shift_group}
 use Rattle.groups.specs.FunctionGroups.{kind_of}
-use Rattle.groups.specs.Code.Writing.{less_group}
+use Rattle.groups.specs.Code.Writing.{Numbered, less_group}
 use Rattle.groups.specs.Plans.{plan_by, next, plans}
 use Rattle.groups.proofs.TermGroups.{Here, both_are, grows, binary, stays, unary_is, choice_stays, choice_grows, read_is, read-ready, width-most}
 use Rattle.groups.proofs.terms.write_group.Goals as goal
@@ -59,7 +59,8 @@ bounds-requires c = le_trans c.requires.b_value.1 (lit≤ tt)
 pub read_group-requires : goal.read_group-requires
 read_group-requires c =
     let here = here-as c.requires.well_formed c.requires.numbered c.requires.i_value c.requires.b_value c.term_in-x.ensures c.kind_of.ensures in
-    read-ready here c.in-Read.is c.requires.b_value.1
+    let ready = read-ready here c.in-Read.is c.requires.b_value.1 in
+    record { well_formed = ready.0; numbered = ready.1.0; a_in_bounds = ready.1.1 }
 
 pub returns-then-is_choice : goal.returns-then-is_choice
 returns-then-is_choice c =

@@ -4,9 +4,7 @@ pub mod Demand
 pub mod Looks
 pub mod Backward
 pub mod Facts
-pub mod Lent
 pub mod Readiness
-pub mod Again
 pub mod Driving
 pub mod Evaluating
 pub mod Judging

@@ -1,4 +1,4 @@
-use Prim.Native.Nat.{◌+◌, ◌-◌}
+use Prim.Native.Nat.{◌+◌}
 use Rattle.parser.proofs.Cycle.{measure}
 use Rattle.parser.proofs.expressions.+expression_operands.Given as goal
 

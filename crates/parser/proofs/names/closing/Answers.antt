@@ -1,5 +1,4 @@
 use native.Mathlib.Omega.{arith}
-use Prim.Native.Nat.{◌-◌}
 use Rattle.parser.proofs.Closing.{begun, closes, goes_on, never}
 use Rattle.parser.proofs.names.closing.Goals as goal
 

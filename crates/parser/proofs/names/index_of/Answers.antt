@@ -1,5 +1,4 @@
 use native.Mathlib.Omega.{arith}
-use Prim.Native.Nat.{◌-◌}
 use mathlib.Core.Path.{sym, ◌∙◌}
 use Rattle.smtlib.specs.Bytes.{part}
 use Rattle.parser.proofs.Declared.{begun, found, passed, none}

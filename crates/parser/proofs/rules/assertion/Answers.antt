@@ -3,7 +3,7 @@ use Rattle.parser.specs.Rules.{assert_of}
 use Rattle.parser.proofs.rules.assertion.Goals as goal
 
 pub shape_of-room : goal.shape_of-room
-shape_of-room c = c.joined.auto.1.1.1.0 ∙ c.expression-v.auto.1.1.1.1.0
+shape_of-room c = c.joined.auto.room ∙ c.expression-v.auto.room
 
 pub returns : goal.returns
 unfolding assert_of

@@ -6,4 +6,7 @@ use Rattle.replies.proofs.answer_evaluated.Goals as goal
 pub returns : goal.returns
 returns c =
     let is = c.evaluation_reply.ensures in
-    (c.deliver.ensures.value ∙ ap (λ (r : Reply). r.number) is, c.deliver.ensures.answer_after ∙ ap row is)
+    record {
+      value = c.deliver.ensures.value ∙ ap (λ (r : Reply). r.number) is;
+      answer_after = c.deliver.ensures.answer_after ∙ ap row is;
+    }

@@ -1,5 +1,4 @@
 use mathlib.Core.Path.{◌≡◌}
-use Prim.Native.Nat.{◌-◌}
 use lib.ListN.{get_or}
 use Rattle.explain.specs.declared.answers.Source.TheVariants.{Nothing}
 use Rattle.explain.specs.Sources.{along}

@@ -1,6 +1,6 @@
 use mathlib.Core.Path.{sym, ap, ◌∙◌}
 use mathlib.Core.Bool.{Bool, not}
-use Prim.Native.Nat.{ℕ, ◌-◌}
+use Prim.Native.Nat.{ℕ}
 use native.Mathlib.Omega.{arith}
 use Rattle.judge.specs.Code.Labelled.{truth_in}
 use Rattle.explain.specs.Ways.{marked}
@@ -16,7 +16,7 @@ loop-x-init c = looking c.args.table.now c.args.values.now c.args.truths.now c.t
 pub overflow_add-i : goal.overflow_add-i
 overflow_add-i c =
     let b = few c.args.table.now c.args.values.now c.args.truths.now c.term_at-x.result c.args.marks.now c.loop-x.marks c.loop-x.i c.loop-x.s c.loop-x.invariant (sym c.there.ensures ∙ c.loop-x-test.true) in
-    let o = c.term_at-x.type-inv in
+    let o = c.term_at-x.type_inv in
     record { fits = omega arith }
 
 pub loop-x-smaller : goal.loop-x-smaller

@@ -5,12 +5,13 @@ ghost use Rattle.cli.specs.Outcomes.{of_judgement, of_evaluation, of_finishing, 
 use evaluate::{Evaluation, Spent};
 use finish::{Extent, Finishing};
 use judge::{Judgement, Verdict};
+use page::Page;
 use request::arguments::Request;
 use request::{arguments, status};
 use table::Refusal;
 
 // What the work of a command comes to.
-#[derive(Drop)]
+#[derive(Clone, Copy)]
 pub enum Outcome {
     OfRule(Verdict),
     OfTerms(Spent),
@@ -88,7 +89,7 @@ pub fn status_of(command: u32, outcome: Outcome) -> u32
 }
 
 // The line before an answer that is one of several.
-pub fn put_heading(page: &mut [u8], request: Request, path: &[u8], setting: &[u8]) -> usize {
+pub fn put_heading(page: &mut Page, request: Request, path: &[u8], setting: &[u8]) -> usize {
     if (request.command == arguments::JUDGE) | request.json | !request.several {
         return 0;
     }
@@ -97,7 +98,7 @@ pub fn put_heading(page: &mut [u8], request: Request, path: &[u8], setting: &[u8
 
 // A judgement: its verdict.
 fn put_verdict(
-    page: &mut [u8],
+    page: &mut Page,
     at: usize,
     request: Request,
     path: &[u8],
@@ -115,7 +116,7 @@ fn put_verdict(
 
 // A judgement: its picture, with the terms as they were typed in the text of a rule.
 fn put_picture(
-    page: &mut [u8],
+    page: &mut Page,
     at: usize,
     request: Request,
     rule: &[u8],
@@ -132,7 +133,7 @@ fn put_picture(
 
 // A judgement: its explanation.
 fn put_explanation(
-    page: &mut [u8],
+    page: &mut Page,
     at: usize,
     json: bool,
     path: &[u8],
@@ -153,7 +154,7 @@ fn put_explanation(
 }
 
 fn put_judged(
-    page: &mut [u8],
+    page: &mut Page,
     at: usize,
     request: Request,
     path: &[u8],
@@ -195,7 +196,7 @@ fn line_of(setting: &[u8], text: &[u8], names: &[u8], table: &[u32], r: Refusal)
 }
 
 fn put_refusal(
-    page: &mut [u8],
+    page: &mut Page,
     at: usize,
     json: bool,
     path: &[u8],
@@ -227,7 +228,7 @@ fn put_refusal(
 
 // The refusal of a case, and the note on its table.
 pub fn put_case_refusal(
-    page: &mut [u8],
+    page: &mut Page,
     at: usize,
     path: &[u8],
     text: &[u8],
@@ -248,7 +249,7 @@ pub fn put_case_refusal(
 // An outcome. Of a case the setting's path, the rule's text and the names are empty, and the text is the case's; of a
 // rule the text is the setting's.
 pub fn put_outcome(
-    page: &mut [u8],
+    page: &mut Page,
     at: usize,
     request: Request,
     path: &[u8],

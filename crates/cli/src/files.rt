@@ -3,15 +3,22 @@
 ghost use Rattle.std.specs.Prelude.{◌≡◌, length, replicate};
 ghost use Rattle.cases.specs.Reading.{Placed};
 
+use crate::failures::{complained, failed, written};
 use crate::{answers, printed, rules};
 use cases::{Case, Parsing};
 use finish::Finishing;
+use forms::Input;
 use printer::Printing;
 use request::arguments::Request;
 use request::status::Answer;
 use request::{arguments, status};
+use std::fs::File;
+use std::io::{Error, Result};
 
 pub const SMALL: usize = 65536;
+
+// The system's error (EILSEQ) for the name of a file that is no UTF-8.
+const ILLEGAL_BYTES: i32 = 84;
 
 fn small_text() -> [u8; SMALL]
     ensures { result ≡ replicate 65536 0 }
@@ -71,11 +78,6 @@ fn long_text() -> [u8; 7054639]
     [0u8; 7054639]
 }
 
-// The status after the page is written.
-pub fn written(page: &[u8], at: usize, ends: u32) -> u32 {
-    ops::ite(page::end(page, at), ends, status::BROKEN)
-}
-
 // Whether a request is for solver text.
 pub fn prints(request: Request) -> bool {
     arguments::FINISH < request.command
@@ -83,6 +85,7 @@ pub fn prints(request: Request) -> bool {
 
 // Prints the table of a case, in a room for its text.
 fn print_table(
+    rt: HostRuntime,
     command: u32,
     path: &[u8],
     case: &[u8],
@@ -91,11 +94,12 @@ fn print_table(
     text: &mut [u8],
 ) -> u32 {
     let answer = printed::print(command, table, room, text);
-    printed::put(path, case, table, text, answer)
+    printed::put(rt, path, case, table, text, answer)
 }
 
 // Answers a request on the parts of a case, or on a rule and the parts of its setting: see `answers::put_outcome`.
 pub fn answer_parts(
+    rt: HostRuntime,
     request: Request,
     path: &[u8],
     setting: &[u8],
@@ -111,7 +115,7 @@ pub fn answer_parts(
 ) -> u32 {
     if prints(request) {
         let mut letters = short_text();
-        return print_table(request.command, path, text, table, room, &mut letters);
+        return print_table(rt, request.command, path, text, table, room, &mut letters);
     }
     let outcome = answers::work(
         request.command,
@@ -126,17 +130,18 @@ pub fn answer_parts(
     if ends == status::SHORT {
         return ends;
     }
-    let mut page = io::buffer();
+    let mut page = page::for_output(rt.stdout());
     let at = answers::put_heading(&mut page, request, path, setting);
     let to = answers::put_outcome(
         &mut page, at, request, path, setting, rule, names, text, table, sheet, values, cells,
         allowance, room, outcome,
     );
-    written(&page, to, ends)
+    written(rt, page::end(&page, to), ends)
 }
 
 // Answers a request on a case, whose parts are runs of the numbers.
 fn answer_case(
+    rt: HostRuntime,
     request: Request,
     path: &[u8],
     text: &[u8],
@@ -152,12 +157,13 @@ fn answer_case(
     let cells = forms::part(numbers, case.cells);
     let allowance = table::number_at(numbers, case.allowance) as u64;
     answer_parts(
-        request, path, b"", b"", b"", text, table, sheet, values, cells, allowance, room,
+        rt, request, path, b"", b"", b"", text, table, sheet, values, cells, allowance, room,
     )
 }
 
 // Answers a request on a text, in rooms for its numbers and for the work.
 fn answer_text(
+    rt: HostRuntime,
     request: Request,
     path: &[u8],
     text: &[u8],
@@ -166,31 +172,39 @@ fn answer_text(
 ) -> u32 {
     let parsing = cases::read_case(text, numbers);
     match parsing {
-        Parsing::Parsed(case) => answer_case(request, path, text, numbers, case, room),
+        Parsing::Parsed(case) => answer_case(rt, request, path, text, numbers, case, room),
         Parsing::NotParsed(e) => {
             let from = e.from;
             let to = e.to;
-            forms::complain(path, e, &text[from..to]);
-            status::ERROR
+            let told = forms::complain(rt.stderr(), path, e, &text[from..to]);
+            complained(told, status::ERROR)
         }
     }
 }
 
-// Prints a table in the longest rooms, which no table is too long for.
-fn print_long(command: u32, table: &[u32]) -> u32 {
+// Prints a table in the longest rooms, which no table is too long for; they stand in no other function's frame.
+#[inline(never)]
+fn print_long(rt: HostRuntime, command: u32, table: &[u32]) -> u32 {
     let mut room = finish_room();
     let mut text = long_text();
     let answer = printed::print(command, table, &mut room, &mut text);
     match answer {
-        Printing::Printed(bytes) => printed::put_text(&text, bytes),
+        Printing::Printed(bytes) => printed::put_text(rt, &text, bytes),
         Printing::NotPrinted(_) => status::ERROR,
     }
 }
 
 // Finishes a table in the longest room, which no table is too long for.
-fn finish_long(table: &[u32], sheet: &[u32], values: &[u32], cells: &[u32], allowance: u64) -> u32 {
+fn finish_long(
+    rt: HostRuntime,
+    table: &[u32],
+    sheet: &[u32],
+    values: &[u32],
+    cells: &[u32],
+    allowance: u64,
+) -> u32 {
     let mut room = finish_room();
-    let mut page = io::buffer();
+    let mut page = page::for_output(rt.stdout());
     let answer = finish::finish(table, &mut room);
     match answer {
         Finishing::Finished(e) => {
@@ -206,15 +220,15 @@ fn finish_long(table: &[u32], sheet: &[u32], values: &[u32], cells: &[u32], allo
                 cells,
                 allowance,
             );
-            written(&page, at, status::DONE)
+            written(rt, page::end(&page, at), status::DONE)
         }
         Finishing::NotFinished(_) => status::ERROR,
     }
 }
 
-// A command that needs the longest rooms. The call for a text stands twice, so that its rooms are not put into this
-// function's frame.
+// A command that needs the longest rooms.
 pub fn parts_long(
+    rt: HostRuntime,
     command: u32,
     table: &[u32],
     sheet: &[u32],
@@ -222,16 +236,13 @@ pub fn parts_long(
     cells: &[u32],
     allowance: u64,
 ) -> u32 {
-    if command == arguments::PRINT {
-        return print_long(arguments::PRINT, table);
+    if arguments::FINISH < command {
+        return print_long(rt, command, table);
     }
-    if command == arguments::PRINT_FINISHED {
-        return print_long(arguments::PRINT_FINISHED, table);
-    }
-    finish_long(table, sheet, values, cells, allowance)
+    finish_long(rt, table, sheet, values, cells, allowance)
 }
 
-fn case_long(command: u32, numbers: &[u32], case: Case) -> u32
+fn case_long(rt: HostRuntime, command: u32, numbers: &[u32], case: Case) -> u32
     requires { Placed case (length numbers.now) }
 {
     let table = forms::part(numbers, case.table);
@@ -239,87 +250,101 @@ fn case_long(command: u32, numbers: &[u32], case: Case) -> u32
     let values = forms::part(numbers, case.values);
     let cells = forms::part(numbers, case.cells);
     let allowance = table::number_at(numbers, case.allowance) as u64;
-    parts_long(command, table, sheet, values, cells, allowance)
+    parts_long(rt, command, table, sheet, values, cells, allowance)
 }
 
 // Answers a command on a text that was read before.
-fn answer_long(command: u32, text: &[u8], numbers: &mut [u32]) -> u32 {
+#[inline(never)]
+fn answer_long(rt: HostRuntime, command: u32, text: &[u8], numbers: &mut [u32]) -> u32 {
     let parsing = cases::read_case(text, numbers);
     match parsing {
-        Parsing::Parsed(case) => case_long(command, numbers, case),
+        Parsing::Parsed(case) => case_long(rt, command, numbers, case),
         Parsing::NotParsed(_) => status::ERROR,
     }
 }
 
-// Answers a request on a large file, whose first bytes are read.
-fn answer_large(request: Request, path: &[u8], fd: i32, front: &[u8]) -> u32 {
+// Answers a request on a large file, whose first bytes are read. Its rooms stand in no other function's frame.
+#[inline(never)]
+fn answer_large(
+    rt: HostRuntime,
+    request: Request,
+    path: &[u8],
+    input: &mut Input,
+    front: &[u8],
+) -> u32 {
     let mut text = large_text();
-    let got = forms::read_rest(fd, front, &mut text);
-    if !forms::ended_well(path, fd) {
-        return status::ERROR;
+    let got = forms::read_rest(input, front, &mut text);
+    if let Err(e) = forms::ended_well(input) {
+        return failed(rt, path, &e);
     }
     let end = page::filled(&text, got);
     let mut numbers = large_numbers();
     let mut room = large_room();
-    let ends = answer_text(request, path, &text[..end], &mut numbers, &mut room);
+    let ends = answer_text(rt, request, path, &text[..end], &mut numbers, &mut room);
     if ends == status::SHORT {
-        return answer_long(request.command, &text[..end], &mut numbers);
+        return answer_long(rt, request.command, &text[..end], &mut numbers);
     }
     ends
 }
 
 // Answers a request on a small text.
-fn answer_small(request: Request, path: &[u8], text: &[u8]) -> u32 {
+fn answer_small(rt: HostRuntime, request: Request, path: &[u8], text: &[u8]) -> u32 {
     let mut numbers = small_numbers();
     let mut room = small_room();
-    let ends = answer_text(request, path, text, &mut numbers, &mut room);
+    let ends = answer_text(rt, request, path, text, &mut numbers, &mut room);
     if ends == status::SHORT {
-        return answer_long(request.command, text, &mut numbers);
+        return answer_long(rt, request.command, text, &mut numbers);
     }
     ends
 }
 
-// Answers a request on an open file that is no rule, whose first bytes are read. The call for a large one stands twice, so
-// that its rooms are not put into this function's frame.
-fn answer_front(request: Request, path: &[u8], fd: i32, front: &[u8]) -> u32 {
+// Answers a request on an open file that is no rule, whose first bytes are read.
+fn answer_front(
+    rt: HostRuntime,
+    request: Request,
+    path: &[u8],
+    input: &mut Input,
+    front: &[u8],
+) -> u32 {
     if front.len() == SMALL {
-        if fd == 0 {
-            return answer_large(request, path, 0, front);
-        }
-        return answer_large(request, path, fd, front);
+        return answer_large(rt, request, path, input, front);
     }
-    if !forms::ended_well(path, fd) {
-        return status::ERROR;
+    if let Err(e) = forms::ended_well(input) {
+        return failed(rt, path, &e);
     }
-    answer_small(request, path, front)
+    answer_small(rt, request, path, front)
 }
 
 // Answers a request on an open file. A rule takes the next file as its setting.
-fn answer_open(request: Request, path: &[u8], fd: i32) -> Answer {
+fn answer_open(rt: HostRuntime, request: Request, path: &[u8], input: &mut Input) -> Answer {
     let mut text = small_text();
-    let got = io::read_full(fd, &mut text);
+    let got = forms::read_full(input, &mut text);
     if outline::is_rule(&text[..got]) {
         let asked = arguments::of_rule(request);
-        return status::paired(rules::answer_rule(asked, path, fd, &text[..got]));
+        return status::paired(rules::answer_rule(rt, asked, path, input, &text[..got]));
     }
     if arguments::crowded(request) {
-        forms::complain_of(path, forms::CROWDED);
-        return status::paired(status::ERROR);
+        let told = forms::complain_of(rt.stderr(), path, forms::CROWDED);
+        return status::paired(complained(told, status::ERROR));
     }
-    status::alone(answer_front(request, path, fd, &text[..got]))
+    status::alone(answer_front(rt, request, path, input, &text[..got]))
 }
 
-// Answers a request on the file of a name; a hyphen is standard input.
-pub fn answer_file(request: Request, path: &[u8]) -> Answer {
+// The file of a name; a hyphen is standard input.
+pub fn open(rt: HostRuntime, path: &[u8]) -> Result<Input> {
     if arguments::hyphen(path) {
-        return answer_open(request, path, 0);
+        return Ok(Input::Standard(rt.stdin()));
     }
-    let fd = os::open_read(path);
-    if fd < 0 {
-        os::fail(path);
-        return status::alone(status::ERROR);
+    match str::from_utf8(path) {
+        Ok(name) => Ok(Input::Opened(File::open(&rt, name)?)),
+        Err(_) => Err(Error::from_raw_os_error(ILLEGAL_BYTES)),
     }
-    let answer = answer_open(request, path, fd);
-    libc::close(fd);
-    answer
+}
+
+// Answers a request on the file of a name.
+pub fn answer_file(rt: HostRuntime, request: Request, path: &[u8]) -> Answer {
+    match open(rt, path) {
+        Ok(mut input) => answer_open(rt, request, path, &mut input),
+        Err(e) => status::alone(failed(rt, path, &e)),
+    }
 }

@@ -6,10 +6,11 @@ ghost use Rattle.finish.specs.Finished.{finishing};
 ghost use Rattle.printer.specs.declared.Printing.TheVariants.{NotPrinted};
 
 use crate::answers;
+use crate::failures::{complained, written};
 use finish::Finishing;
-use libc::{STDERR_FILENO, STDOUT_FILENO};
 use printer::Printing;
 use request::{arguments, status};
+use std::io::Print;
 use table::{Refusal, WORDS};
 
 // Finishes a table in a room, and prints what is there.
@@ -46,33 +47,34 @@ fn refused(r: Refusal) -> u32
 }
 
 // A text, and the status after it.
-pub fn put_text(text: &[u8], bytes: u64) -> u32 {
+pub fn put_text(rt: HostRuntime, text: &[u8], bytes: u64) -> u32 {
     let count = page::filled(text, bytes as usize);
-    ops::ite(
-        io::write_all(STDOUT_FILENO, &text[..count]),
-        status::DONE,
-        status::BROKEN,
-    )
+    written(rt, rt.stdout().write_all(&text[..count]), status::DONE)
 }
 
 // A refusal, of the table alone, and the status after it; where a room was short, nothing.
-fn put_refusal(path: &[u8], case: &[u8], table: &[u32], r: Refusal) -> u32 {
+fn put_refusal(rt: HostRuntime, path: &[u8], case: &[u8], table: &[u32], r: Refusal) -> u32 {
     let none = &table[..0];
     let ends = refused(r);
     if ends == status::SHORT {
         return ends;
     }
-    let mut page = io::large_buffer();
+    let mut page = page::for_errors(rt.stderr());
     let at = answers::put_case_refusal(&mut page, 0, path, case, table, none, none, none, 0, r);
-    let count = page::filled(&page, at);
-    io::write_all(STDERR_FILENO, &page[..count]);
-    ends
+    complained(page::end(&page, at), ends)
 }
 
 // Puts what a command printed into its room.
-pub fn put(path: &[u8], case: &[u8], table: &[u32], text: &[u8], answer: Printing) -> u32 {
+pub fn put(
+    rt: HostRuntime,
+    path: &[u8],
+    case: &[u8],
+    table: &[u32],
+    text: &[u8],
+    answer: Printing,
+) -> u32 {
     match answer {
-        Printing::Printed(bytes) => put_text(text, bytes),
-        Printing::NotPrinted(r) => put_refusal(path, case, table, r),
+        Printing::Printed(bytes) => put_text(rt, text, bytes),
+        Printing::NotPrinted(r) => put_refusal(rt, path, case, table, r),
     }
 }

@@ -2,13 +2,16 @@
 ghost use Rattle.std.specs.Prelude.{◌≡◌, length, replicate};
 ghost use Rattle.cases.specs.Reading.{Placed};
 
+use crate::failures::{complained, failed, failed_name, written};
 use crate::{answers, files};
 use assignments::Reading;
 use cases::Case;
-use libc::STDERR_FILENO;
+use forms::Input;
+use page::Page;
 use parser::Parsing;
 use request::arguments::Request;
 use request::{arguments, status};
+use std::rt::Env;
 use table::Refusal;
 
 // The table of a rule, of up to 512 terms; its names, which are shorter than its text.
@@ -56,7 +59,7 @@ fn variables(table: &[u32]) -> u32 {
 }
 
 fn put_told(
-    page: &mut [u8],
+    page: &mut Page,
     at: usize,
     json: bool,
     path: &[u8],
@@ -74,6 +77,7 @@ fn put_told(
 
 // The refusal of a rule, on standard output; on standard error where that is another program's input.
 fn put_refusal(
+    rt: HostRuntime,
     request: Request,
     path: &[u8],
     setting: &[u8],
@@ -82,13 +86,12 @@ fn put_refusal(
     table: &[u32],
     r: Refusal,
 ) -> u32 {
-    let mut page = io::large_buffer();
     if files::prints(request) {
+        let mut page = page::for_errors(rt.stderr());
         let at = report::put_rule_refusal(&mut page, 0, path, names, rule, table, r);
-        let count = page::filled(&page, at);
-        io::write_all(STDERR_FILENO, &page[..count]);
-        return status::REFUSED;
+        return complained(page::end(&page, at), status::REFUSED);
     }
+    let mut page = page::for_output(rt.stdout());
     let at = answers::put_heading(&mut page, request, path, setting);
     let to = put_told(
         &mut page,
@@ -101,11 +104,18 @@ fn put_refusal(
         table,
         r,
     );
-    files::written(&page, to, status::REFUSED)
+    written(rt, page::end(&page, to), status::REFUSED)
 }
 
 // Refuses a rule, whose table is built again to tell the reason.
-fn refuse(request: Request, path: &[u8], setting: &[u8], rule: &[u8], r: Refusal) -> u32 {
+fn refuse(
+    rt: HostRuntime,
+    request: Request,
+    path: &[u8],
+    setting: &[u8],
+    rule: &[u8],
+    r: Refusal,
+) -> u32 {
     let mut table = rule_table();
     let mut names = rule_names();
     let progress = parser::rule(rule, &mut table);
@@ -113,6 +123,7 @@ fn refuse(request: Request, path: &[u8], setting: &[u8], rule: &[u8], r: Refusal
     let count = page::filled(&names, known);
     let terms = show::front((progress.state.count % 1024) * 6, &table);
     put_refusal(
+        rt,
         request,
         path,
         setting,
@@ -125,6 +136,7 @@ fn refuse(request: Request, path: &[u8], setting: &[u8], rule: &[u8], r: Refusal
 
 // Answers a request on a rule and the parts of its setting, whose text is given.
 fn answer_given(
+    rt: HostRuntime,
     request: Request,
     path: &[u8],
     setting: &[u8],
@@ -139,16 +151,17 @@ fn answer_given(
     room: &mut [u32],
 ) -> u32 {
     let ends = files::answer_parts(
-        request, path, setting, rule, names, text, table, sheet, values, cells, allowance, room,
+        rt, request, path, setting, rule, names, text, table, sheet, values, cells, allowance, room,
     );
     if ends == status::SHORT {
-        return files::parts_long(request.command, table, sheet, values, cells, allowance);
+        return files::parts_long(rt, request.command, table, sheet, values, cells, allowance);
     }
     ends
 }
 
 // A setting in parts, which are runs of the numbers.
 fn answer_placed(
+    rt: HostRuntime,
     request: Request,
     path: &[u8],
     setting: &[u8],
@@ -167,12 +180,13 @@ fn answer_placed(
     let cells = forms::part(numbers, case.cells);
     let allowance = table::number_at(numbers, case.allowance) as u64;
     answer_given(
-        request, path, setting, rule, names, text, table, sheet, values, cells, allowance, room,
+        rt, request, path, setting, rule, names, text, table, sheet, values, cells, allowance, room,
     )
 }
 
 // A setting in parts, after whose own bytes the word table stands.
 fn answer_in_parts(
+    rt: HostRuntime,
     request: Request,
     path: &[u8],
     setting: &[u8],
@@ -187,17 +201,18 @@ fn answer_in_parts(
     let parsing = cases::read_case(text, numbers);
     match parsing {
         cases::Parsing::Parsed(case) => answer_placed(
-            request, path, setting, rule, names, text, table, numbers, case, room,
+            rt, request, path, setting, rule, names, text, table, numbers, case, room,
         ),
         cases::Parsing::NotParsed(e) => {
-            forms::complain_of_setting(setting, e, text, own);
-            status::ERROR
+            let told = forms::complain_of_setting(rt.stderr(), setting, e, text, own);
+            complained(told, status::ERROR)
         }
     }
 }
 
 // A setting by name, in a room for its cells.
 fn answer_by_name(
+    rt: HostRuntime,
     request: Request,
     path: &[u8],
     setting: &[u8],
@@ -217,6 +232,7 @@ fn answer_by_name(
             let stop = show::front(s.cells, cells);
             let last = show::front(s.sheet, &sheet);
             answer_given(
+                rt,
                 request,
                 path,
                 setting,
@@ -233,14 +249,24 @@ fn answer_by_name(
         }
         Reading::NotRead(e) => {
             let word = errors::between(text, e.from, e.to);
-            forms::complain_of_name(setting, names, e.kind, e.line, e.column, e.from, word);
-            status::ERROR
+            let told = forms::complain_of_name(
+                rt.stderr(),
+                setting,
+                names,
+                e.kind,
+                e.line,
+                e.column,
+                e.from,
+                word,
+            );
+            complained(told, status::ERROR)
         }
     }
 }
 
 // A setting, after whose own bytes the word table stands. One in parts that is too large is told by the reader of cases.
 fn answer_text(
+    rt: HostRuntime,
     request: Request,
     path: &[u8],
     setting: &[u8],
@@ -255,39 +281,42 @@ fn answer_text(
     let given = errors::between(text, 0, own);
     if assignments::by_parts(given) {
         return answer_in_parts(
-            request, path, setting, rule, names, table, text, own, numbers, room,
+            rt, request, path, setting, rule, names, table, text, own, numbers, room,
         );
     }
     if cases::BYTE_LIMIT < own {
-        forms::complain_of_size(setting, given);
-        return status::ERROR;
+        let told = forms::complain_of_size(rt.stderr(), setting, given);
+        return complained(told, status::ERROR);
     }
     answer_by_name(
-        request, path, setting, rule, names, table, given, numbers, room,
+        rt, request, path, setting, rule, names, table, given, numbers, room,
     )
 }
 
-// A large setting, whose first bytes are read.
+// A large setting, whose first bytes are read. Its rooms stand in no other function's frame.
+#[inline(never)]
 fn answer_large(
+    rt: HostRuntime,
     request: Request,
     path: &[u8],
     setting: &[u8],
     rule: &[u8],
     names: &[u8],
     table: &[u32],
-    fd: i32,
+    input: &mut Input,
     front: &[u8],
 ) -> u32 {
     let mut text = large_setting();
-    let got = forms::read_rest(fd, front, &mut text);
-    if !forms::ended_well(setting, fd) {
-        return status::ERROR;
+    let got = forms::read_rest(input, front, &mut text);
+    if let Err(e) = forms::ended_well(input) {
+        return failed(rt, setting, &e);
     }
     let end = forms::put_table_word(&mut text, got);
     let count = page::filled(&text, end);
     let mut numbers = files::large_numbers();
     let mut room = files::large_room();
     answer_text(
+        rt,
         request,
         path,
         setting,
@@ -301,32 +330,41 @@ fn answer_large(
     )
 }
 
-// An open setting. The call for a large one stands twice, so that its rooms are not put into this function's frame.
+// An open setting.
 fn answer_open(
+    rt: HostRuntime,
     request: Request,
     path: &[u8],
     setting: &[u8],
     rule: &[u8],
     names: &[u8],
     table: &[u32],
-    fd: i32,
+    input: &mut Input,
 ) -> u32 {
     let mut text = small_setting();
-    let got = io::read_full(fd, &mut text);
+    let got = forms::read_full(input, &mut text);
     if files::SMALL <= got {
-        if fd == 0 {
-            return answer_large(request, path, setting, rule, names, table, 0, &text[..got]);
-        }
-        return answer_large(request, path, setting, rule, names, table, fd, &text[..got]);
+        return answer_large(
+            rt,
+            request,
+            path,
+            setting,
+            rule,
+            names,
+            table,
+            input,
+            &text[..got],
+        );
     }
-    if !forms::ended_well(setting, fd) {
-        return status::ERROR;
+    if let Err(e) = forms::ended_well(input) {
+        return failed(rt, setting, &e);
     }
     let end = forms::put_table_word(&mut text, got);
     let count = page::filled(&text, end);
     let mut numbers = files::small_numbers();
     let mut room = files::small_room();
     answer_text(
+        rt,
         request,
         path,
         setting,
@@ -342,6 +380,7 @@ fn answer_open(
 
 // The setting of a name; a hyphen is standard input, of which only one of the two is read.
 fn answer_setting(
+    rt: HostRuntime,
     request: Request,
     path: &[u8],
     setting: &[u8],
@@ -349,77 +388,88 @@ fn answer_setting(
     names: &[u8],
     table: &[u32],
 ) -> u32 {
-    let input = arguments::hyphen(setting);
-    if input & arguments::hyphen(path) {
-        forms::complain_of(path, forms::INPUT_TWICE);
-        return status::ERROR;
+    if arguments::hyphen(setting) & arguments::hyphen(path) {
+        let told = forms::complain_of(rt.stderr(), path, forms::INPUT_TWICE);
+        return complained(told, status::ERROR);
     }
-    let fd = if input { 0 } else { os::open_read(setting) };
-    if fd < 0 {
-        os::fail(setting);
-        return status::ERROR;
+    match files::open(rt, setting) {
+        Ok(mut input) => answer_open(rt, request, path, setting, rule, names, table, &mut input),
+        Err(e) => failed(rt, setting, &e),
     }
-    let ends = answer_open(request, path, setting, rule, names, table, fd);
-    if !input {
-        libc::close(fd);
-    }
-    ends
 }
 
 // A rule without a setting: what needs none.
-fn answer_alone(request: Request, path: &[u8], rule: &[u8], names: &[u8], table: &[u32]) -> u32 {
+fn answer_alone(
+    rt: HostRuntime,
+    request: Request,
+    path: &[u8],
+    rule: &[u8],
+    names: &[u8],
+    table: &[u32],
+) -> u32 {
     if request.command < arguments::FINISH {
-        forms::complain_of(path, forms::NO_SETTING);
-        return status::ERROR;
+        let told = forms::complain_of(rt.stderr(), path, forms::NO_SETTING);
+        return complained(told, status::ERROR);
     }
     let mut room = files::small_room();
     let none = &table[..0];
     answer_given(
-        request, path, b"", rule, names, rule, table, none, none, none, 0, &mut room,
+        rt, request, path, b"", rule, names, rule, table, none, none, none, 0, &mut room,
     )
 }
 
 // A rule that was read, of a table.
-fn answer_table(request: Request, path: &[u8], setting: &[u8], rule: &[u8], table: &[u32]) -> u32 {
+fn answer_table(
+    rt: HostRuntime,
+    request: Request,
+    path: &[u8],
+    setting: &[u8],
+    rule: &[u8],
+    table: &[u32],
+) -> u32 {
     let mut names = rule_names();
     let known = outline::put_names(rule, variables(table), &mut names);
     let count = page::filled(&names, known);
     if setting.len() == 0 {
-        return answer_alone(request, path, rule, &names[..count], table);
+        return answer_alone(rt, request, path, rule, &names[..count], table);
     }
-    answer_setting(request, path, setting, rule, &names[..count], table)
+    answer_setting(rt, request, path, setting, rule, &names[..count], table)
 }
 
 // A rule, which is parsed, and the file of its setting, whose name is empty where there is none.
-fn answer_pair(request: Request, path: &[u8], setting: &[u8], rule: &[u8]) -> u32 {
+fn answer_pair(rt: HostRuntime, request: Request, path: &[u8], setting: &[u8], rule: &[u8]) -> u32 {
     let mut table = rule_table();
     let parsing = parser::parse(rule, &mut table);
     match parsing {
         Parsing::Parsed(numbers) => {
             let end = show::front((numbers % 4294967296) as u32, &table);
-            answer_table(request, path, setting, rule, &table[..end])
+            answer_table(rt, request, path, setting, rule, &table[..end])
         }
-        Parsing::NotParsed(r) => refuse(request, path, setting, rule, r),
+        Parsing::NotParsed(r) => refuse(rt, request, path, setting, rule, r),
     }
 }
 
 // Answers a request on a rule whose first bytes are read.
-pub fn answer_rule(request: Request, path: &[u8], fd: i32, rule: &[u8]) -> u32 {
+pub fn answer_rule(
+    rt: HostRuntime,
+    request: Request,
+    path: &[u8],
+    input: &mut Input,
+    rule: &[u8],
+) -> u32 {
     if rule.len() == files::SMALL {
-        forms::complain_of(path, forms::LONG_RULE);
-        return status::ERROR;
+        let told = forms::complain_of(rt.stderr(), path, forms::LONG_RULE);
+        return complained(told, status::ERROR);
     }
-    if !forms::ended_well(path, fd) {
-        return status::ERROR;
+    if let Err(e) = forms::ended_well(input) {
+        return failed(rt, path, &e);
     }
     if request.next == 0 {
-        return answer_pair(request, path, b"", rule);
+        return answer_pair(rt, request, path, b"", rule);
     }
     let mut word = io::buffer();
-    let length = os::arg(request.next, &mut word);
-    if os::errno() != 0 {
-        os::fail(b"hiranthok: a file name");
-        return status::ERROR;
+    match rt.arg(request.next, &mut word) {
+        Ok(length) => answer_pair(rt, request, path, &word[..length], rule),
+        Err(e) => failed_name(rt, e),
     }
-    answer_pair(request, path, &word[..length], rule)
 }

@@ -1,7 +1,6 @@
 // What stands in a text: a line with a caret under a place, a term as it was typed.
 use crate::contexts::between;
-use page::{put, put_all};
-use std::num::{wrapping_add_usize, wrapping_sub_usize};
+use page::{Page, put, put_all};
 
 // A byte as it is shown, or a blank in its place.
 pub fn shown(b: u8, blank: bool) -> u8 {
@@ -16,7 +15,7 @@ pub fn shown(b: u8, blank: bool) -> u8 {
     }
 }
 
-fn put_shown(page: &mut [u8], at: usize, bytes: &[u8], blank: bool) -> usize {
+fn put_shown(page: &mut Page, at: usize, bytes: &[u8], blank: bool) -> usize {
     let mut to = at;
     for i in 0..bytes.len() {
         to = put(page, to, shown(bytes[i], blank));
@@ -26,12 +25,12 @@ fn put_shown(page: &mut [u8], at: usize, bytes: &[u8], blank: bool) -> usize {
 
 // Where a line's part that is shown begins: of a line of over 120 bytes at most 60 before the place.
 fn begins(start: usize, end: usize, place: usize) -> usize {
-    let short = wrapping_sub_usize(end, start) <= 120;
-    let near = wrapping_sub_usize(place, start) <= 60;
+    let short = end.wrapping_sub(start) <= 120;
+    let near = place.wrapping_sub(start) <= 60;
     if short | near {
         start
     } else {
-        wrapping_sub_usize(place, 60)
+        place.wrapping_sub(60)
     }
 }
 
@@ -48,13 +47,13 @@ fn returned(bytes: &[u8]) -> bool {
 fn ends(text: &[u8], from: usize, end: usize) -> usize {
     let whole = between(text, from, end);
     if returned(whole) {
-        return smtlib::lower(wrapping_sub_usize(end, 1), wrapping_add_usize(from, 120));
+        return smtlib::lower(end.wrapping_sub(1), from.wrapping_add(120));
     }
-    smtlib::lower(end, wrapping_add_usize(from, 120))
+    smtlib::lower(end, from.wrapping_add(120))
 }
 
 // The line of a place, and a caret under it.
-pub fn put_excerpt(page: &mut [u8], at: usize, text: &[u8], place: usize) -> usize {
+pub fn put_excerpt(page: &mut Page, at: usize, text: &[u8], place: usize) -> usize {
     let end = outline::line_end(text, place);
     let from = begins(outline::line_start(text, place), end, place);
     let to = ends(text, from, end);
@@ -65,7 +64,7 @@ pub fn put_excerpt(page: &mut [u8], at: usize, text: &[u8], place: usize) -> usi
 }
 
 // Some bytes after others, white space as one space, up to one more than `most` in all.
-fn squeeze(own: &mut [u8], at: usize, bytes: &[u8], most: usize) -> usize {
+fn squeeze(own: &mut Page, at: usize, bytes: &[u8], most: usize) -> usize {
     let mut to = at;
     let mut before = false;
     for i in 0..bytes.len() {
@@ -80,31 +79,31 @@ fn squeeze(own: &mut [u8], at: usize, bytes: &[u8], most: usize) -> usize {
 }
 
 // So many bytes, up to `most`; of more the first, and three dots.
-fn put_cut(page: &mut [u8], at: usize, own: &[u8], count: usize, most: usize) -> usize {
+fn put_cut(page: &mut Page, at: usize, own: &[u8], count: usize, most: usize) -> usize {
     if count <= most {
         return put_all(page, at, between(own, 0, count));
     }
-    let start = put_all(page, at, between(own, 0, wrapping_sub_usize(most, 3)));
+    let start = put_all(page, at, between(own, 0, most.wrapping_sub(3)));
     put_all(page, start, b"...")
 }
 
 // A term as it was typed, white space as one space, in up to 200 bytes.
-pub fn put_expression(page: &mut [u8], at: usize, text: &[u8], term: u32) -> usize {
-    let mut own = [0u8; 256];
+pub fn put_expression(page: &mut Page, at: usize, text: &[u8], term: u32) -> usize {
+    let mut own = page::draft();
     let span = outline::span_of(text, term);
     let count = squeeze(&mut own, 0, between(text, span.from, span.to), 200);
-    put_cut(page, at, &own, count, 200)
+    put_cut(page, at, page::text(&own, count), count, 200)
 }
 
 // A term with its number, its line and column, and as it was typed, in a line of up to 80 bytes.
-pub fn put_typed(page: &mut [u8], at: usize, text: &[u8], term: u32) -> usize {
-    let mut own = [0u8; 128];
+pub fn put_typed(page: &mut Page, at: usize, text: &[u8], term: u32) -> usize {
+    let mut own = page::draft();
     let span = outline::span_of(text, term);
     let line = outline::line_of(text, span.from);
     let column = outline::column_of(text, span.from);
     let numbers = page::five(term as u64, line, column, 0, 0);
     let start = page::fill(&mut own, 0, b"", b"    t#  #:#  ", b"", 0, numbers);
     let count = squeeze(&mut own, start, between(text, span.from, span.to), 80);
-    let line_end = put_cut(page, at, &own, count, 80);
+    let line_end = put_cut(page, at, page::text(&own, count), count, 80);
     put(page, line_end, 10)
 }

@@ -1,4 +1,6 @@
 // What is wrong with a rule, in words, and its line with a caret.
+#![tactic(auto)]
+
 mod choices; // which reason is told
 mod contexts; // what is expected at a place, and what stands there
 mod excerpts; // a line with a caret, a term as it was typed

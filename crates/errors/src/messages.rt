@@ -1,12 +1,12 @@
 // The reasons in words.
 use crate::contexts::{between, expected_at, kind, reason_at};
 use crate::excerpts::shown;
-use page::{Numbers, put, put_all};
+use page::{Numbers, Page, put, put_all};
 use parser::{Token, Word, token_at};
 
 // Line `n` is reason `n`; 30 and more: what is expected where the text ends. Of the words + shows the first is the one
 // that stands there, the second a number sign.
-fn say(page: &mut [u8], at: usize, words: &[u8], n: u32, numbers: Numbers) -> usize {
+fn say(page: &mut Page, at: usize, words: &[u8], n: u32, numbers: Numbers) -> usize {
     page::fill(
         page,
         at,
@@ -65,7 +65,7 @@ nothing
 }
 
 // The first 65 bytes of a word, a line feed, and a number sign.
-fn put_word(own: &mut [u8], word: &[u8]) -> usize {
+fn put_word(own: &mut Page, word: &[u8]) -> usize {
     let mut to = 0;
     for i in 0..word.len() {
         if 65 <= i {
@@ -100,7 +100,7 @@ fn operator_before(text: &[u8], at: usize) -> u32 {
 }
 
 // Parentheses that are open, and operands that began outside of them.
-#[derive(Drop)]
+#[derive(Clone, Copy)]
 struct Listed {
     open: u64,
     operands: u64,
@@ -109,10 +109,10 @@ struct Listed {
 // After one word more, by its kind: 2 is an opening parenthesis, 3 a closing one.
 fn one_more(l: Listed, kind: u32) -> Listed {
     let outside = (l.open == 0) & (kind != 3);
-    let opened = std::num::wrapping_add_u64(l.open, if kind == 2 { 1 } else { 0 });
+    let opened = l.open.wrapping_add(if kind == 2 { 1 } else { 0 });
     Listed {
-        open: std::num::wrapping_sub_u64(opened, if kind == 3 { 1 } else { 0 }),
-        operands: std::num::wrapping_add_u64(l.operands, if outside { 1 } else { 0 }),
+        open: opened.wrapping_sub(if kind == 3 { 1 } else { 0 }),
+        operands: l.operands.wrapping_add(if outside { 1 } else { 0 }),
     }
 }
 
@@ -160,7 +160,7 @@ fn declared_line(text: &[u8], t: Token) -> u64 {
 // The numbers that a reason tells.
 fn numbers_of(text: &[u8], n: u32, t: Token) -> Numbers {
     if n == 13 {
-        return page::one(std::num::wrapping_add_u32(30, expected_at(text, t.from)));
+        return page::one(30u32.wrapping_add(expected_at(text, t.from)));
     }
     if n == 18 {
         return page::one(1);
@@ -175,21 +175,27 @@ fn numbers_of(text: &[u8], n: u32, t: Token) -> Numbers {
 }
 
 // The reason for a refusal of the text, 31 to 35, or by 2 or 7, at a byte of it.
-pub fn put_reason(page: &mut [u8], at: usize, text: &[u8], number: u32, place: usize) -> usize {
+pub fn put_reason(page: &mut Page, at: usize, text: &[u8], number: u32, place: usize) -> usize {
     let n = reason_at(text, number, place);
     let t = token_at(text, place);
-    let mut own = [0u8; 80];
+    let mut own = page::draft();
     let end = put_word(&mut own, between(text, t.from, t.next));
-    let count = page::filled(&own, end);
-    say(page, at, &own[..count], n, numbers_of(text, n, t))
+    say(page, at, page::text(&own, end), n, numbers_of(text, n, t))
 }
 
 // The word after the parenthesis at a byte of the text: an operator, or assert.
-pub fn put_head(page: &mut [u8], at: usize, text: &[u8], place: usize) -> usize {
+pub fn put_head(page: &mut Page, at: usize, text: &[u8], place: usize) -> usize {
     let open = token_at(text, place);
     let t = token_at(text, open.next);
-    let mut own = [0u8; 80];
+    let mut own = page::draft();
     let end = put_word(&mut own, between(text, t.from, t.next));
-    let count = page::filled(&own, end);
-    page::fill(page, at, &own[..count], b"+: ", b"", 0, page::none())
+    page::fill(
+        page,
+        at,
+        page::text(&own, end),
+        b"+: ",
+        b"",
+        0,
+        page::none(),
+    )
 }

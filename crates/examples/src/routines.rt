@@ -6,6 +6,7 @@ use crate::shows::{
 };
 use lines::parts;
 use lines::parts::{ALLOWANCE, CELLS, FINISHED, LIMIT, ROOM, SHEET, VALUES, WRONG, row};
+use std::io::{Result, Stdout};
 use table::number_at;
 
 // A room of 256 numbers.
@@ -24,71 +25,94 @@ fn within(count: u32) -> usize
     if count < 256 { count as usize } else { 256 }
 }
 
-fn evaluate(numbers: &[u32], table: &[u32], room: &mut [u32]) {
+fn evaluate(output: Stdout, numbers: &[u32], table: &[u32], room: &mut [u32]) -> Result<()> {
     let values = row(numbers, VALUES);
     let cells = row(numbers, CELLS);
     let allowance = number_at(numbers, 64 * ALLOWANCE) as u64;
-    show_evaluation(evaluate::evaluate(table, values, cells, allowance, room));
-    show_room(room);
+    let answer = evaluate::evaluate(table, values, cells, allowance, room);
+    show_evaluation(output, answer)?;
+    show_room(output, room)
 }
 
-fn judge(numbers: &[u32], table: &[u32], room: &mut [u32]) {
+fn judge(output: Stdout, numbers: &[u32], table: &[u32], room: &mut [u32]) -> Result<()> {
     let values = row(numbers, VALUES);
     let cells = row(numbers, CELLS);
     let allowance = number_at(numbers, 64 * ALLOWANCE) as u64;
     let sheet = row(numbers, SHEET);
-    show_judgement(judge::judge(table, sheet, values, cells, allowance, room));
-    show_room(room);
+    let answer = judge::judge(table, sheet, values, cells, allowance, room);
+    show_judgement(output, answer)?;
+    show_room(output, room)
 }
 
 // Finishes the table, and prints the room or not.
-fn finish(table: &[u32], room: &mut [u32], shown: bool) {
-    show_finishing(finish::finish(table, room));
+fn finish(output: Stdout, table: &[u32], room: &mut [u32], shown: bool) -> Result<()> {
+    show_finishing(output, finish::finish(table, room))?;
     if shown {
-        show_room(room);
+        show_room(output, room)?;
     }
+    Ok(())
 }
 
 // Calls a routine by its number.
-fn call(numbers: &[u32], table: &[u32], routine: u32, room: &mut [u32]) {
+fn call(
+    output: Stdout,
+    numbers: &[u32],
+    table: &[u32],
+    routine: u32,
+    room: &mut [u32],
+) -> Result<()> {
     match routine {
-        10 => show_admission(admission::admit(table)),
-        11 => show_admission(admission::admit_within(table, number_at(numbers, 64 * LIMIT))),
-        12 => evaluate(numbers, table, room),
-        13 => judge(numbers, table, room),
-        14 => finish(table, room, true),
-        _ => finish(table, room, false),
+        10 => show_admission(output, admission::admit(table)),
+        11 => {
+            let limit = number_at(numbers, 64 * LIMIT);
+            show_admission(output, admission::admit_within(table, limit))
+        }
+        12 => evaluate(output, numbers, table, room),
+        13 => judge(output, numbers, table, room),
+        14 => finish(output, table, room, true),
+        _ => finish(output, table, room, false),
     }
 }
 
 // The same with what finish leaves of the table in a room.
-fn call_finished(numbers: &[u32], routine: u32, finished: &mut [u32], room: &mut [u32]) {
+fn call_finished(
+    output: Stdout,
+    numbers: &[u32],
+    routine: u32,
+    finished: &mut [u32],
+    room: &mut [u32],
+) -> Result<()> {
     finish::finish(parts::table(numbers), finished);
-    call(numbers, finished, routine, room);
+    call(output, numbers, finished, routine, room)
 }
 
 // With the table as it is, where no numbers are for the finished one.
-fn call_either(numbers: &[u32], routine: u32, count: u32, room: &mut [u32]) {
+fn call_either(
+    output: Stdout,
+    numbers: &[u32],
+    routine: u32,
+    count: u32,
+    room: &mut [u32],
+) -> Result<()> {
     if count == 0 {
-        call(numbers, parts::table(numbers), routine, room);
-        return;
+        return call(output, numbers, parts::table(numbers), routine, room);
     }
     let mut finished = sevens();
     let lent = within(count);
-    call_finished(numbers, routine, &mut finished[..lent], room);
+    call_finished(output, numbers, routine, &mut finished[..lent], room)
 }
 
 // Runs an example and prints its line. A room of more than 256 numbers is wrong.
-pub fn run(numbers: &[u32], routine: u32, name: &[u8]) -> u32 {
+pub fn run(output: Stdout, numbers: &[u32], routine: u32, name: &[u8]) -> Result<u32> {
     let length = number_at(numbers, 64 * ROOM);
     let count = number_at(numbers, 64 * FINISHED);
     if (routine == WRONG) | (256 < length) | (256 < count) {
-        return WRONG;
+        return Ok(WRONG);
     }
     let mut room = sevens();
     let lent = within(length);
-    say(name);
-    call_either(numbers, routine, count, &mut room[..lent]);
-    say(b"\n");
-    0
+    say(output, name)?;
+    call_either(output, numbers, routine, count, &mut room[..lent])?;
+    say(output, b"\n")?;
+    Ok(0)
 }

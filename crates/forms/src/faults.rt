@@ -1,11 +1,11 @@
 // What is wrong with a file that is no case, on standard error.
 use cases::ParseError;
-use libc::STDERR_FILENO;
-use page::Numbers;
+use page::{Numbers, Page};
+use std::io::{Result, Stderr};
 
 // Line `n` is fault `n`; 6 cannot occur: the room for the numbers is never too short. Line 21 and `n` is fault `n` of a
 // setting by name, 36 that of a name with an equals sign in it; + shows a line of the names.
-fn fill(page: &mut [u8], at: usize, names: &[u8], n: u32, numbers: Numbers) -> usize {
+fn fill(page: &mut Page, at: usize, names: &[u8], n: u32, numbers: Numbers) -> usize {
     page::fill(
         page,
         at,
@@ -64,7 +64,7 @@ fn shown(byte: u8) -> u8 {
 }
 
 // The first 24 bytes of a word.
-fn put_start(page: &mut [u8], at: usize, word: &[u8]) -> usize {
+fn put_start(page: &mut Page, at: usize, word: &[u8]) -> usize {
     let mut to = at;
     for i in 0..word.len() {
         if 24 <= i {
@@ -76,7 +76,7 @@ fn put_start(page: &mut [u8], at: usize, word: &[u8]) -> usize {
 }
 
 // A word, of which at most 24 bytes are shown.
-fn put_word(page: &mut [u8], at: usize, word: &[u8]) -> usize {
+fn put_word(page: &mut Page, at: usize, word: &[u8]) -> usize {
     let to = put_start(page, at, word);
     if 24 < word.len() {
         return fill(page, to, b"", 20, page::none());
@@ -86,37 +86,37 @@ fn put_word(page: &mut [u8], at: usize, word: &[u8]) -> usize {
 
 // The line, the column and the word, then line `n`.
 fn put_at_word(
-    page: &mut [u8],
+    page: &mut Page,
+    at: usize,
     names: &[u8],
     line: u64,
     column: u64,
     n: u32,
     word: &[u8],
 ) -> usize {
-    let start = fill(page, 0, b"", 18, page::five(line, column, 0, 0, 0));
+    let start = fill(page, at, b"", 18, page::five(line, column, 0, 0, 0));
     let to = put_word(page, start, word);
     fill(page, to, names, 19, page::one(n))
 }
 
 // The line, the column and the word, where there is one, then the fault.
-fn put_fault(page: &mut [u8], e: ParseError, word: &[u8]) -> usize {
+fn put_fault(page: &mut Page, at: usize, e: ParseError, word: &[u8]) -> usize {
     let kind = e.kind as u64;
     if e.kind == 15 {
-        return fill(page, 0, b"", 17, page::five(e.line, e.column, kind, 0, 0));
+        return fill(page, at, b"", 17, page::five(e.line, e.column, kind, 0, 0));
     }
     if e.column == 0 {
-        return fill(page, 0, b"", 16, page::five(e.line, kind, 0, 0, 0));
+        return fill(page, at, b"", 16, page::five(e.line, kind, 0, 0, 0));
     }
-    put_at_word(page, b"", e.line, e.column, e.kind, word)
+    put_at_word(page, at, b"", e.line, e.column, e.kind, word)
 }
 
 // The fault of a file, whose word at fault is given.
-pub fn complain(path: &[u8], e: ParseError, word: &[u8]) {
-    let mut page = [0u8; 256];
-    let at = put_fault(&mut page, e, word);
-    let count = page::filled(&page, at);
-    io::write_all(STDERR_FILENO, path);
-    io::write_all(STDERR_FILENO, &page[..count]);
+pub fn complain(errors: Stderr, path: &[u8], e: ParseError, word: &[u8]) -> Result<()> {
+    let mut page = page::for_errors(errors);
+    let start = page::put_all(&mut page, 0, path);
+    let at = put_fault(&mut page, start, e, word);
+    page::end(&page, at)
 }
 
 // What is wrong with the files of a call: a rule is too long, it has no setting, a case has a file beside it, standard input
@@ -129,11 +129,12 @@ pub const CROWDED: u32 = 2;
 
 pub const INPUT_TWICE: u32 = 3;
 
-pub fn complain_of(path: &[u8], n: u32) {
-    let mut page = [0u8; 256];
+pub fn complain_of(errors: Stderr, path: &[u8], n: u32) -> Result<()> {
+    let mut page = page::for_errors(errors);
+    let start = page::put_all(&mut page, 0, path);
     let at = page::fill(
         &mut page,
-        0,
+        start,
         b"./hiranthok\n",
         b": the rule is larger than 65535 bytes$
 : a rule takes the next file as its setting$usage: + COMMAND RULE SETTING$
@@ -144,26 +145,28 @@ pub fn complain_of(path: &[u8], n: u32) {
         n,
         page::none(),
     );
-    let count = page::filled(&page, at);
-    io::write_all(STDERR_FILENO, path);
-    io::write_all(STDERR_FILENO, &page[..count]);
+    page::end(&page, at)
 }
 
 // A setting with a table of its own, on a line.
-fn complain_of_table(path: &[u8], line: u64) {
-    let mut page = [0u8; 256];
-    let at = fill(&mut page, 0, b"", 21, page::five(line, 0, 0, 0, 0));
-    let count = page::filled(&page, at);
-    io::write_all(STDERR_FILENO, path);
-    io::write_all(STDERR_FILENO, &page[..count]);
+fn complain_of_table(errors: Stderr, path: &[u8], line: u64) -> Result<()> {
+    let mut page = page::for_errors(errors);
+    let start = page::put_all(&mut page, 0, path);
+    let at = fill(&mut page, start, b"", 21, page::five(line, 0, 0, 0, 0));
+    page::end(&page, at)
 }
 
 // The fault of a setting, after whose own bytes the word table stands: where that word is at fault, the setting has a table;
 // what is missing is missing at the end of its own bytes.
-pub fn complain_of_setting(path: &[u8], e: ParseError, text: &[u8], own: usize) {
+pub fn complain_of_setting(
+    errors: Stderr,
+    path: &[u8],
+    e: ParseError,
+    text: &[u8],
+    own: usize,
+) -> Result<()> {
     if (e.column != 0) & (own <= e.from) {
-        complain_of_table(path, cases::heading_line(text, 1));
-        return;
+        return complain_of_table(errors, path, cases::heading_line(text, 1));
     }
     let missing = (e.column == 0) & (e.kind != 12);
     let told = ParseError {
@@ -177,7 +180,7 @@ pub fn complain_of_setting(path: &[u8], e: ParseError, text: &[u8], own: usize) 
         from: e.from,
         to: e.to,
     };
-    complain(path, told, errors::between(text, e.from, e.to));
+    complain(errors, path, told, errors::between(text, e.from, e.to))
 }
 
 // Whether an equals sign stands in a word.
@@ -190,7 +193,7 @@ fn has_equals(word: &[u8]) -> bool {
 }
 
 // A file that is too large, whose text is read up to the limit at least.
-pub fn complain_of_size(path: &[u8], text: &[u8]) {
+pub fn complain_of_size(errors: Stderr, path: &[u8], text: &[u8]) -> Result<()> {
     let e = ParseError {
         kind: 12,
         line: outline::line_of(text, cases::BYTE_LIMIT),
@@ -198,12 +201,13 @@ pub fn complain_of_size(path: &[u8], text: &[u8]) {
         from: 0,
         to: 0,
     };
-    complain(path, e, b"");
+    complain(errors, path, e, b"")
 }
 
 // Fault `kind` of a setting by name, at a word; or at the end, where the column is 0 and the slot that has no value is told.
 fn put_name_fault(
-    page: &mut [u8],
+    page: &mut Page,
+    at: usize,
     names: &[u8],
     kind: u32,
     line: u64,
@@ -212,20 +216,21 @@ fn put_name_fault(
     word: &[u8],
 ) -> usize {
     let stuck = (kind == 1) & has_equals(word);
-    let n = ops::ite(stuck, 36, std::num::wrapping_add_u32(21, kind));
+    let n = ops::ite(stuck, 36, 21u32.wrapping_add(kind));
     if column == 0 {
         return fill(
             page,
-            0,
+            at,
             names,
             16,
             page::five(line, n as u64, slot as u64, 0, 0),
         );
     }
-    put_at_word(page, b"#\n", line, column, n, word)
+    put_at_word(page, at, b"#\n", line, column, n, word)
 }
 
 pub fn complain_of_name(
+    errors: Stderr,
     path: &[u8],
     names: &[u8],
     kind: u32,
@@ -233,10 +238,9 @@ pub fn complain_of_name(
     column: u64,
     slot: usize,
     word: &[u8],
-) {
-    let mut page = [0u8; 256];
-    let at = put_name_fault(&mut page, names, kind, line, column, slot, word);
-    let count = page::filled(&page, at);
-    io::write_all(STDERR_FILENO, path);
-    io::write_all(STDERR_FILENO, &page[..count]);
+) -> Result<()> {
+    let mut page = page::for_errors(errors);
+    let start = page::put_all(&mut page, 0, path);
+    let at = put_name_fault(&mut page, start, names, kind, line, column, slot, word);
+    page::end(&page, at)
 }

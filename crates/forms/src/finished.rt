@@ -1,8 +1,8 @@
 // The command finish: the finished table in the form of a case file.
-use page::Numbers;
+use page::{Numbers, Page};
 use table::Term;
 
-fn say(page: &mut [u8], at: usize, n: u32, numbers: Numbers) -> usize {
+fn say(page: &mut Page, at: usize, n: u32, numbers: Numbers) -> usize {
     page::fill(
         page,
         at,
@@ -24,13 +24,13 @@ $
 }
 
 // The six numbers of a term.
-fn put_term(page: &mut [u8], at: usize, x: Term) -> usize {
+fn put_term(page: &mut Page, at: usize, x: Term) -> usize {
     let fields = page::three(x.p, x.q, x.r);
     let sort = page::push(x.sort.m, page::push(x.sort.n, fields));
     say(page, at, 1, page::push(x.op, sort))
 }
 
-fn put_terms(page: &mut [u8], at: usize, room: &[u32], terms: u32) -> usize {
+fn put_terms(page: &mut Page, at: usize, room: &[u32], terms: u32) -> usize {
     let mut to = at;
     for k in 0..terms {
         to = put_term(page, to, table::term_at(room, k));
@@ -47,7 +47,7 @@ fn line_of(i: usize, to_a_line: usize) -> u32 {
     }
 }
 
-fn put_numbers(page: &mut [u8], at: usize, numbers: &[u32], to_a_line: usize) -> usize {
+fn put_numbers(page: &mut Page, at: usize, numbers: &[u32], to_a_line: usize) -> usize {
     let mut to = at;
     for i in 0..numbers.len() {
         to = say(page, to, line_of(i, to_a_line), page::one(numbers[i]));
@@ -57,7 +57,7 @@ fn put_numbers(page: &mut [u8], at: usize, numbers: &[u32], to_a_line: usize) ->
 
 // How many terms, and which is the condition; the table.
 fn put_table(
-    page: &mut [u8],
+    page: &mut Page,
     at: usize,
     room: &[u32],
     terms: u32,
@@ -71,7 +71,7 @@ fn put_table(
 }
 
 // The sheet, a line to a line; nothing where it is empty.
-fn put_sheet(page: &mut [u8], at: usize, sheet: &[u32]) -> usize {
+fn put_sheet(page: &mut Page, at: usize, sheet: &[u32]) -> usize {
     if sheet.len() == 0 {
         return at;
     }
@@ -81,20 +81,20 @@ fn put_sheet(page: &mut [u8], at: usize, sheet: &[u32]) -> usize {
 }
 
 // The values, on one line.
-fn put_values(page: &mut [u8], at: usize, values: &[u32]) -> usize {
+fn put_values(page: &mut Page, at: usize, values: &[u32]) -> usize {
     let to = say(page, at, 2, page::none());
     put_numbers(page, to, values, 0)
 }
 
 // The cells, one to a line.
-fn put_cells(page: &mut [u8], at: usize, cells: &[u32]) -> usize {
+fn put_cells(page: &mut Page, at: usize, cells: &[u32]) -> usize {
     let to = say(page, at, 3, page::none());
     put_numbers(page, to, cells, 3)
 }
 
 // The finished table of a case, of so many terms, with its condition and its last; and the other parts as they are.
 pub fn put_finished(
-    page: &mut [u8],
+    page: &mut Page,
     at: usize,
     room: &[u32],
     terms: u32,

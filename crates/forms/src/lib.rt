@@ -1,4 +1,6 @@
 // Case files and settings: reading one, what is wrong with one, a finished table written as one.
+#![tactic(auto)]
+
 mod faults; // what is wrong with a file
 mod finished; // the command finish
 mod parts; // the parts of a case
@@ -11,5 +13,5 @@ pub use faults::{
 };
 pub use finished::put_finished;
 pub use parts::part;
-pub use reading::{ended_well, read_rest};
+pub use reading::{Input, ended_well, read_full, read_rest};
 pub use settings::{put_table_word, setting_line};

@@ -6,7 +6,7 @@ use table::Refusal;
 pub fn put_table_word(text: &mut [u8], at: usize) -> usize {
     let start = page::filled(text, at);
     copy(b"\ntable\n", &mut text[start..]);
-    std::num::wrapping_add_usize(start, 7)
+    start.wrapping_add(7)
 }
 
 // The line of a setting in parts that a refusal is about.

@@ -1,9 +1,11 @@
 // A rule in the DOT language.
+#![tactic(auto)]
+
 use explain::Source;
-use page::{Numbers, none, two};
+use page::{Numbers, Page, none, two};
 use table::{Term, number_at};
 
-fn say(page: &mut [u8], at: usize, names: &[u8], n: u32, numbers: Numbers) -> usize {
+fn say(page: &mut Page, at: usize, names: &[u8], n: u32, numbers: Numbers) -> usize {
     show::put(
         page,
         at,
@@ -56,7 +58,7 @@ fn style(x: Term, free: bool) -> Numbers {
 }
 
 fn put_node(
-    page: &mut [u8],
+    page: &mut Page,
     at: usize,
     names: &[u8],
     k: u32,
@@ -83,7 +85,7 @@ fn put_node(
 
 // The tooltip of a term that is no variable: its expression as it was typed in the text of a rule, nothing where there is
 // none. A rule's words have neither a quotation mark nor a backslash, so that nothing is escaped.
-fn put_tooltip(page: &mut [u8], at: usize, rule: &[u8], k: u32, x: Term) -> usize {
+fn put_tooltip(page: &mut Page, at: usize, rule: &[u8], k: u32, x: Term) -> usize {
     if (rule.len() == 0) | (x.op == 1) {
         return at;
     }
@@ -119,7 +121,7 @@ fn blames(table: &[u32], values: &[u32], truths: &[u32], x: Term, k: u32) -> boo
 
 // An edge to each operand of term `k`, bold where that is blamed and term `k` is on the way.
 fn put_edges(
-    page: &mut [u8],
+    page: &mut Page,
     at: usize,
     names: &[u8],
     table: &[u32],
@@ -140,7 +142,7 @@ fn put_edges(
 
 // A dashed edge from term `k`, on the way, to each that it blames and that is no operand of it.
 fn put_blames(
-    page: &mut [u8],
+    page: &mut Page,
     at: usize,
     names: &[u8],
     table: &[u32],
@@ -163,7 +165,7 @@ fn put_blames(
 
 // Term `k`: its node and its edges.
 fn put_term(
-    page: &mut [u8],
+    page: &mut Page,
     at: usize,
     rule: &[u8],
     names: &[u8],
@@ -186,7 +188,7 @@ fn put_term(
 }
 
 fn put_terms(
-    page: &mut [u8],
+    page: &mut Page,
     at: usize,
     rule: &[u8],
     names: &[u8],
@@ -214,7 +216,7 @@ fn put_terms(
 }
 
 fn put_all(
-    page: &mut [u8],
+    page: &mut Page,
     at: usize,
     rule: &[u8],
     names: &[u8],
@@ -231,7 +233,7 @@ fn put_all(
 
 // The rule of a judgement whose room is the values, then the conditions' truths; of a case the rule's text is empty.
 pub fn put_graph(
-    page: &mut [u8],
+    page: &mut Page,
     at: usize,
     rule: &[u8],
     names: &[u8],

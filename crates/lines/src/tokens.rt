@@ -3,7 +3,7 @@ ghost use Rattle.std.specs.Prelude.{◌≡◌};
 ghost use Rattle.lines.specs.Tokens.{digit, letter, with_digit, with_letter, begun, with_byte};
 
 // A number; a word, whose letters are digits in base 32: _ is 1, a 3 and z 28. Either may be too long.
-#[derive(Drop)]
+#[derive(Clone, Copy)]
 pub enum Token {
     Nothing,
     Number(u64),

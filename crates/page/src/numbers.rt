@@ -1,6 +1,6 @@
 // The numbers of a message, in the order in which its text names them. What is 2^32 and more can stand for a word.
 
-#[derive(Drop)]
+#[derive(Clone, Copy)]
 pub struct Numbers {
     pub a: u64,
     pub b: u64,

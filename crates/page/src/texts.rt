@@ -8,11 +8,11 @@
 //   ~   starts a column, and *Z fills it with spaces, one at least, to so many places as Z is a letter
 //   %E  spaces before the next number, so that it ends after so many places as E is a letter
 use crate::numbers::{Numbers, after};
-use crate::{filled, put, put_all, put_number, put_spaces};
+use crate::{Page, SIZE, draft, filled, put, put_all, put_number, put_spaces};
 
 // Where the page stands, and where its column began; where the text stands, and where it goes on after a line
 // that was entered and after one in that, 0 where it is in none; the numbers that are still to be put.
-#[derive(Drop)]
+#[derive(Clone, Copy)]
 struct Filling {
     at: usize,
     from: usize,
@@ -46,7 +46,7 @@ fn byte_at(text: &[u8], words: &[u8], i: usize) -> u8 {
 }
 
 // Line `n` of a text as it is; of a longer one the first 64 bytes, and three dots.
-fn put_line(page: &mut [u8], at: usize, text: &[u8], n: u64) -> usize {
+fn put_line(page: &mut Page, at: usize, text: &[u8], n: u64) -> usize {
     let start = line_at(text, n);
     let mut to = at;
     for i in start..text.len() {
@@ -67,7 +67,7 @@ fn has_name(names: &[u8], n: u64) -> bool {
 }
 
 // A term or a slot by its name, or without one by its number.
-fn put_name(page: &mut [u8], at: usize, names: &[u8], byte: u8, n: u64) -> usize {
+fn put_name(page: &mut Page, at: usize, names: &[u8], byte: u8, n: u64) -> usize {
     if has_name(names, n) {
         return put_line(page, at, names, n);
     }
@@ -77,7 +77,7 @@ fn put_name(page: &mut [u8], at: usize, names: &[u8], byte: u8, n: u64) -> usize
 
 // How many bytes the name of slot `n` takes; without one the slot's number.
 pub fn name_width(names: &[u8], n: u32) -> u32 {
-    let mut own = [0u8; 80];
+    let mut own = draft();
     let k = n as u64;
     if has_name(names, k) {
         return (put_line(&mut own, 0, names, k) % 80) as u32;
@@ -86,7 +86,7 @@ pub fn name_width(names: &[u8], n: u32) -> u32 {
 }
 
 // A number, or from 2^32 on a word.
-fn put_shown(page: &mut [u8], at: usize, n: u64) -> usize {
+fn put_shown(page: &mut Page, at: usize, n: u64) -> usize {
     if n < 4294967296 {
         put_number(page, at, n)
     } else {
@@ -95,7 +95,7 @@ fn put_shown(page: &mut [u8], at: usize, n: u64) -> usize {
 }
 
 // An operator by its number.
-fn put_operator(page: &mut [u8], at: usize, op: u64) -> usize {
+fn put_operator(page: &mut Page, at: usize, op: u64) -> usize {
     if op < 2 {
         return put_line(page, at, b"constant\nvariable\n", op);
     }
@@ -167,7 +167,7 @@ fn printed(byte: u8) -> u8 {
 
 // What one byte of a line puts.
 fn put_step(
-    page: &mut [u8],
+    page: &mut Page,
     at: usize,
     names: &[u8],
     from: usize,
@@ -188,7 +188,7 @@ fn put_step(
         return put_name(page, at, names, byte, n);
     }
     if blank(byte) {
-        let count = spaces(byte, after, since(from, at, page.len()), n);
+        let count = spaces(byte, after, since(from, at, SIZE), n);
         return put_spaces(page, at, count);
     }
     put(page, at, printed(byte))
@@ -217,7 +217,7 @@ fn named(text: &[u8], words: &[u8], byte: u8, n: u64) -> usize {
     if byte == b'&' {
         return line_at(text, n);
     }
-    std::num::wrapping_add_usize(text.len(), line_at(words, n))
+    text.len().wrapping_add(line_at(words, n))
 }
 
 // After a byte that enters and leaves no line.
@@ -226,7 +226,7 @@ fn passed(f: Filling, at: usize, byte: u8) -> Filling {
     Filling {
         at: at,
         from: if byte == b'~' { at } else { f.from },
-        next: std::num::wrapping_add_usize(f.next, length(byte)),
+        next: f.next.wrapping_add(length(byte)),
         outer: f.outer,
         inner: f.inner,
         numbers: left(byte, numbers),
@@ -235,7 +235,7 @@ fn passed(f: Filling, at: usize, byte: u8) -> Filling {
 
 // Into a line.
 fn entered(f: Filling, start: usize) -> Filling {
-    let back = std::num::wrapping_add_usize(f.next, 1);
+    let back = f.next.wrapping_add(1);
     let numbers = f.numbers;
     let within = f.outer != 0;
     Filling {
@@ -267,7 +267,7 @@ fn left_line(f: Filling) -> Filling {
 }
 
 // One byte of a line.
-fn step(page: &mut [u8], names: &[u8], text: &[u8], words: &[u8], f: Filling, byte: u8) -> Filling {
+fn step(page: &mut Page, names: &[u8], text: &[u8], words: &[u8], f: Filling, byte: u8) -> Filling {
     let numbers = f.numbers;
     if (byte == b'@') | (byte == b'&') {
         return entered(f, named(text, words, byte, numbers.a));
@@ -275,7 +275,7 @@ fn step(page: &mut [u8], names: &[u8], text: &[u8], words: &[u8], f: Filling, by
     if byte == b'\n' {
         return left_line(f);
     }
-    let follows = byte_at(text, words, std::num::wrapping_add_usize(f.next, 1));
+    let follows = byte_at(text, words, f.next.wrapping_add(1));
     passed(
         f,
         put_step(page, f.at, names, f.from, byte, follows, numbers.a),
@@ -297,7 +297,7 @@ fn begun(at: usize, next: usize, numbers: Numbers) -> Filling {
 // Line `n` of a text with its numbers, of at most 1,000 bytes with the words. The names are lines, line `k` that of slot
 // `k` and of term `k`; or there are none.
 pub fn fill(
-    page: &mut [u8],
+    page: &mut Page,
     at: usize,
     names: &[u8],
     text: &[u8],

@@ -1,8 +1,8 @@
 // A judgement's terms and repair in JSON, the rest of an object that is open.
-use page::{Numbers, none, push, push_if, push_long, truth};
+use page::{Numbers, Page, none, push, push_if, push_long, truth};
 use table::{Term, number_at};
 
-fn say(page: &mut [u8], at: usize, names: &[u8], n: u32, numbers: Numbers) -> usize {
+fn say(page: &mut Page, at: usize, names: &[u8], n: u32, numbers: Numbers) -> usize {
     show::put(
         page,
         at,
@@ -62,7 +62,7 @@ fn is_variable(sheet: &[u32], x: Term, named: bool, free: bool, rest: Numbers) -
 
 // Term `k`, with its value, whether it is free and whether it is on the way.
 fn put_term(
-    page: &mut [u8],
+    page: &mut Page,
     at: usize,
     names: &[u8],
     sheet: &[u32],
@@ -87,7 +87,7 @@ fn put_term(
 }
 
 fn put_term_at(
-    page: &mut [u8],
+    page: &mut Page,
     at: usize,
     names: &[u8],
     table: &[u32],
@@ -111,7 +111,7 @@ fn put_term_at(
 }
 
 fn put_terms(
-    page: &mut [u8],
+    page: &mut Page,
     at: usize,
     names: &[u8],
     table: &[u32],
@@ -129,7 +129,7 @@ fn put_terms(
 }
 
 // The slots of a repair.
-fn put_slots(page: &mut [u8], at: usize, names: &[u8], slots: &[u32; 256]) -> usize {
+fn put_slots(page: &mut Page, at: usize, names: &[u8], slots: &[u32; 256]) -> usize {
     let mut to = at;
     let mut first = true;
     for k in 0..256u32 {
@@ -142,7 +142,7 @@ fn put_slots(page: &mut [u8], at: usize, names: &[u8], slots: &[u32; 256]) -> us
     to
 }
 
-fn put_repair(page: &mut [u8], at: usize, names: &[u8], slots: &[u32; 256]) -> usize {
+fn put_repair(page: &mut Page, at: usize, names: &[u8], slots: &[u32; 256]) -> usize {
     let start = say(page, at, names, 1, none());
     let to = put_slots(page, start, names, slots);
     say(page, to, names, 2, none())
@@ -150,7 +150,7 @@ fn put_repair(page: &mut [u8], at: usize, names: &[u8], slots: &[u32; 256]) -> u
 
 // Each term and the slots of the repair, given the terms on the way.
 pub fn put_json_terms(
-    page: &mut [u8],
+    page: &mut Page,
     at: usize,
     names: &[u8],
     table: &[u32],

@@ -1,11 +1,10 @@
 // What would mend a condition: the marked inputs on the way by their slots, or by their names where there are names, in
 // a sentence whose lines are at most 78 columns long, but for long names, and are broken after a comma.
-use page::Numbers;
-use std::num::wrapping_add_u32;
+use page::{Numbers, Page};
 use table::number_at;
 
 // Where the page stands, and its line's column; how many slots come after the next; whether that is the first.
-#[derive(Drop)]
+#[derive(Clone, Copy)]
 struct Telling {
     at: usize,
     column: u32,
@@ -14,7 +13,7 @@ struct Telling {
 }
 
 // Lines 11 to 17 are 0 to 6 with names.
-fn say(page: &mut [u8], at: usize, names: &[u8], n: u32, numbers: Numbers) -> usize {
+fn say(page: &mut Page, at: usize, names: &[u8], n: u32, numbers: Numbers) -> usize {
     show::put(
         page,
         at,
@@ -45,9 +44,9 @@ $/ and / could be vouched for,
 
 // How many slots there are.
 fn count(slots: &[u32; 256]) -> u32 {
-    let mut found = 0;
+    let mut found = 0u32;
     for k in 0..256u32 {
-        found = wrapping_add_u32(found, ops::bit(number_at(slots, k) == 1));
+        found = found.wrapping_add(ops::bit(number_at(slots, k) == 1));
     }
     found
 }
@@ -62,7 +61,7 @@ fn last_of(slots: &[u32; 256]) -> u32 {
 }
 
 fn sum(a: u32, b: u32, c: u32) -> u32 {
-    wrapping_add_u32(a, wrapping_add_u32(b, c))
+    a.wrapping_add(b.wrapping_add(c))
 }
 
 // How a slot begins: 1 the first of all, 3 the first of a line, 2 another.
@@ -95,7 +94,7 @@ fn width(names: &[u8], t: Telling, k: u32, last: u32) -> u32 {
 }
 
 // A slot with its comma; with the last where that is next; or the only one.
-fn put_slot(page: &mut [u8], names: &[u8], t: Telling, k: u32, last: u32) -> Telling {
+fn put_slot(page: &mut Page, names: &[u8], t: Telling, k: u32, last: u32) -> Telling {
     let only = t.left == 0;
     let named = names.len() != 0;
     let wide = width(names, t, k, last);
@@ -110,7 +109,7 @@ fn put_slot(page: &mut [u8], names: &[u8], t: Telling, k: u32, last: u32) -> Tel
             page::two(k, last),
         ),
         column: column(t, start, wide, indent(named, only)),
-        left: std::num::wrapping_sub_u32(t.left, 1),
+        left: t.left.wrapping_sub(1),
         first: false,
     }
 }
@@ -121,7 +120,7 @@ fn begins(slots: &[u32; 256], k: u32, last: u32, count: u32) -> bool {
 }
 
 fn put_slots(
-    page: &mut [u8],
+    page: &mut Page,
     at: usize,
     names: &[u8],
     slots: &[u32; 256],
@@ -131,7 +130,7 @@ fn put_slots(
     let mut t = Telling {
         at: at,
         column: 0,
-        left: std::num::wrapping_sub_u32(count, 1),
+        left: count.wrapping_sub(1),
         first: true,
     };
     for k in 0..256u32 {
@@ -145,7 +144,7 @@ fn put_slots(
 
 // What would mend a condition, and whether the setting would pass.
 pub fn put_repair(
-    page: &mut [u8],
+    page: &mut Page,
     at: usize,
     names: &[u8],
     slots: &[u32; 256],
@@ -158,7 +157,7 @@ pub fn put_repair(
         page,
         t.at,
         names,
-        wrapping_add_u32(line, ops::bit(rule)),
+        line.wrapping_add(ops::bit(rule)),
         page::none(),
     )
 }

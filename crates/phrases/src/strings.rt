@@ -1,4 +1,5 @@
 // Strings of JSON.
+use page::Page;
 
 // The line of a byte in a string of JSON: 0 as it is, 1 by its number, 2 and 3 after a backslash.
 fn escape(byte: u8) -> u32 {
@@ -19,7 +20,7 @@ fn digit(n: u8) -> u64 {
 }
 
 // A byte as in a string of JSON.
-fn put_quoted(page: &mut [u8], at: usize, byte: u8) -> usize {
+fn put_quoted(page: &mut Page, at: usize, byte: u8) -> usize {
     if escape(byte) == 0 {
         return page::put(page, at, byte);
     }
@@ -55,7 +56,7 @@ f
 }
 
 // Bytes as in a string of JSON.
-pub fn put_string(page: &mut [u8], at: usize, bytes: &[u8]) -> usize {
+pub fn put_string(page: &mut Page, at: usize, bytes: &[u8]) -> usize {
     let mut to = at;
     for i in 0..bytes.len() {
         to = put_quoted(page, to, bytes[i]);

@@ -1,9 +1,10 @@
 // What explain tells of a judgement below its verdict.
 use crate::sections;
+use page::Page;
 
 // Why the condition is false, and what would mend it.
 fn put_false(
-    page: &mut [u8],
+    page: &mut Page,
     at: usize,
     names: &[u8],
     table: &[u32],
@@ -20,7 +21,7 @@ fn put_false(
 }
 
 fn put_all(
-    page: &mut [u8],
+    page: &mut Page,
     at: usize,
     names: &[u8],
     table: &[u32],
@@ -40,7 +41,7 @@ fn put_all(
 // Of a judgement whose room is the values, then the conditions' truths: what settled its terms, and why its condition
 // is false where it is.
 pub fn put_reasons(
-    page: &mut [u8],
+    page: &mut Page,
     at: usize,
     names: &[u8],
     table: &[u32],
@@ -59,7 +60,7 @@ pub fn put_reasons(
 
 // In JSON its terms and the repair, the rest of an object that is open.
 pub fn put_json_reasons(
-    page: &mut [u8],
+    page: &mut Page,
     at: usize,
     names: &[u8],
     table: &[u32],

@@ -1,4 +1,6 @@
 // Why a condition is false and what would mend it, and what settled a term, in words; in JSON too.
+#![tactic(auto)]
+
 mod explanations; // what explain tells below a verdict
 mod reasons; // why a term is not free
 mod sections; // what settled a term; the way down

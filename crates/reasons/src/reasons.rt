@@ -2,11 +2,10 @@
 // What is told of a term is lines, each by numbers for &: the first is a line of the text, 0 where there is none.
 use crate::settling::{settled, settling};
 use explain::{Held, Operand, Source};
-use page::{Numbers, none, one, push, push_if, push_long, three, two};
-use std::num::wrapping_add_u32;
+use page::{Numbers, Page, none, one, push, push_if, push_long, three, two};
 use table::{Term, number_at};
 
-pub fn say(page: &mut [u8], at: usize, names: &[u8], n: u32, numbers: Numbers) -> usize {
+pub fn say(page: &mut Page, at: usize, names: &[u8], n: u32, numbers: Numbers) -> usize {
     show::put(
         page,
         at,
@@ -63,8 +62,8 @@ $Why the condition is false, from the rule down:$
 
 // The line of so many operands that are not free.
 fn line_for(first: bool, second: bool, third: bool) -> u32 {
-    let some = wrapping_add_u32(ops::bit(first), ops::bit(second));
-    wrapping_add_u32(wrapping_add_u32(2, some), ops::bit(third))
+    let some = ops::bit(first).wrapping_add(ops::bit(second));
+    2u32.wrapping_add(some).wrapping_add(ops::bit(third))
 }
 
 fn same(a: Source, b: Source) -> bool {
@@ -118,7 +117,7 @@ fn all_ones(width: u32) -> u32 {
 fn settling_words(op: u32, second: bool, width: u32) -> Numbers {
     let f = ops::op_of(op);
     let least = settling(op, second, width);
-    let more = explain::would_settle(f, width, wrapping_add_u32(least, 1), second);
+    let more = explain::would_settle(f, width, least.wrapping_add(1), second);
     let all = all_ones(width);
     let both = (least == 0) & (all != 0) & explain::would_settle(f, width, all, second);
     let boolean = width == 0;
@@ -267,13 +266,13 @@ fn told(table: &[u32], values: &[u32], truths: &[u32], k: u32, x: Term, i: u32) 
 }
 
 // The term that is told of: "t3 (bvmul t0 t1): ".
-pub fn put_subject(page: &mut [u8], at: usize, names: &[u8], k: u32, x: Term) -> usize {
+pub fn put_subject(page: &mut Page, at: usize, names: &[u8], k: u32, x: Term) -> usize {
     say(page, at, names, 0, push(k, show::operator(x, none())))
 }
 
 // A term on the way, with its lines.
 pub fn put_why(
-    page: &mut [u8],
+    page: &mut Page,
     at: usize,
     names: &[u8],
     table: &[u32],

@@ -1,8 +1,7 @@
 // The sections of an explanation below the verdict.
 use crate::reasons::{put_subject, put_why, say, unfree, value_of};
 use explain::Settled;
-use page::{Numbers, none, one, push, two};
-use std::num::wrapping_add_u32;
+use page::{Numbers, Page, none, one, push, two};
 use table::{Term, number_at};
 
 // The line of what is told; 0 where there is nothing to tell.
@@ -38,28 +37,23 @@ fn valued(table: &[u32], values: &[u32], k: u32) -> Numbers {
 }
 
 // The heading, before the first.
-fn put_heading(page: &mut [u8], at: usize, first: bool) -> usize {
+fn put_heading(page: &mut Page, at: usize, first: bool) -> usize {
     if first {
         return say(page, at, b"", 26, none());
     }
     at
 }
 
-// Room for a line: its words take less than 256 bytes, and each of at most eight names 67.
-fn line_room() -> [u8; 1024] {
-    [0u8; 1024]
-}
-
-// How many bytes a line takes, its end among them.
+// How many bytes a line takes, its end among them: its words less than 256, and each of at most eight names 67.
 fn width(names: &[u8], k: u32, x: Term, line: u32, numbers: Numbers) -> usize {
-    let mut own = line_room();
+    let mut own = page::draft();
     let head = put_subject(&mut own, 0, names, k, x);
     say(&mut own, head, names, line, numbers)
 }
 
 // What settled term `k`; a line of over 80 columns is broken after its comma, by the text seven lines on.
 fn put_settled(
-    page: &mut [u8],
+    page: &mut Page,
     at: usize,
     names: &[u8],
     table: &[u32],
@@ -75,12 +69,12 @@ fn put_settled(
     let line = line_of(s);
     let broken = ops::ite(81 < width(names, k, x, line, numbers), 7, 0);
     let to = put_subject(page, start, names, k, x);
-    say(page, to, names, wrapping_add_u32(line, broken), numbers)
+    say(page, to, names, line.wrapping_add(broken), numbers)
 }
 
 // What settled each term that is free though something beneath it is not.
 pub fn put_all_settled(
-    page: &mut [u8],
+    page: &mut Page,
     at: usize,
     names: &[u8],
     table: &[u32],
@@ -102,13 +96,13 @@ pub fn put_all_settled(
 }
 
 // The heading of the way down.
-pub fn put_way_heading(page: &mut [u8], at: usize) -> usize {
+pub fn put_way_heading(page: &mut Page, at: usize) -> usize {
     say(page, at, b"", 41, none())
 }
 
 // The terms on the way down from the rule.
 pub fn put_way(
-    page: &mut [u8],
+    page: &mut Page,
     at: usize,
     names: &[u8],
     table: &[u32],

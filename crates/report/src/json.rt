@@ -1,10 +1,10 @@
 // The answers in JSON, an object to a line.
 use crate::refusals;
 use judge::Verdict;
-use page::{Numbers, none, truth};
+use page::{Numbers, Page, none, truth};
 use table::Refusal;
 
-fn say(page: &mut [u8], at: usize, n: u32, numbers: Numbers) -> usize {
+fn say(page: &mut Page, at: usize, n: u32, numbers: Numbers) -> usize {
     show::put(
         page,
         at,
@@ -23,7 +23,7 @@ fn say(page: &mut [u8], at: usize, n: u32, numbers: Numbers) -> usize {
 }
 
 // The object's start: its file, and the setting's.
-fn put_file(page: &mut [u8], at: usize, path: &[u8], setting: &[u8]) -> usize {
+fn put_file(page: &mut Page, at: usize, path: &[u8], setting: &[u8]) -> usize {
     let to = say(page, at, 0, none());
     let file = phrases::put_string(page, to, path);
     if setting.len() == 0 {
@@ -35,7 +35,7 @@ fn put_file(page: &mut [u8], at: usize, path: &[u8], setting: &[u8]) -> usize {
 
 // A judgement, and the object is left open.
 pub fn put_json_judgement(
-    page: &mut [u8],
+    page: &mut Page,
     at: usize,
     path: &[u8],
     setting: &[u8],
@@ -49,7 +49,7 @@ pub fn put_json_judgement(
 
 // A judgement.
 pub fn put_json_verdict(
-    page: &mut [u8],
+    page: &mut Page,
     at: usize,
     path: &[u8],
     setting: &[u8],
@@ -61,7 +61,7 @@ pub fn put_json_verdict(
 
 // A refusal, of a line.
 pub fn put_json_refusal(
-    page: &mut [u8],
+    page: &mut Page,
     at: usize,
     names: &[u8],
     path: &[u8],
@@ -89,7 +89,7 @@ pub fn put_json_refusal(
 
 // The refusal of a rule by a reason, at a line and a column.
 pub fn put_json_rule(
-    page: &mut [u8],
+    page: &mut Page,
     at: usize,
     path: &[u8],
     setting: &[u8],

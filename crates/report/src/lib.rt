@@ -1,4 +1,6 @@
 // What an answer is in words, put into a page: verdicts, evaluations, refusals, judged rows; in JSON too.
+#![tactic(auto)]
+
 mod json; // the answers in JSON
 mod marks; // the marks under a sheet
 mod refusals; // a refusal, its line and its reason

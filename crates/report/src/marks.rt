@@ -1,10 +1,10 @@
 // The marks under a sheet: of each variable the line by which it is marked or kept.
-use page::{Numbers, none, push, push_if, push_long};
+use page::{Numbers, Page, none, push, push_if, push_long};
 use table::Term;
 
 // Lines 1 to 6: no line names the slot, and the table does not mark it or marks it; it is kept or marked by a line of one
 // slot, or of more.
-fn say(page: &mut [u8], at: usize, names: &[u8], n: u32, numbers: Numbers) -> usize {
+fn say(page: &mut Page, at: usize, names: &[u8], n: u32, numbers: Numbers) -> usize {
     show::put(
         page,
         at,
@@ -38,7 +38,7 @@ fn told(sheet: &[u32], slot: u32, free: bool) -> Numbers {
 
 // A row for term `k`, a variable.
 fn put_mark(
-    page: &mut [u8],
+    page: &mut Page,
     at: usize,
     names: &[u8],
     sheet: &[u32],
@@ -51,7 +51,7 @@ fn put_mark(
 }
 
 fn put_all_marks(
-    page: &mut [u8],
+    page: &mut Page,
     at: usize,
     names: &[u8],
     table: &[u32],
@@ -73,7 +73,7 @@ fn put_all_marks(
 
 // The section, below an empty line; nothing where the sheet is empty.
 pub fn put_marks(
-    page: &mut [u8],
+    page: &mut Page,
     at: usize,
     names: &[u8],
     table: &[u32],

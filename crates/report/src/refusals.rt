@@ -1,11 +1,11 @@
 // A refusal: its line in the file, and its reason (crate diagnosis) in words.
 use diagnosis::Diagnosis;
-use page::{Numbers, none, push, push_long};
+use page::{Numbers, Page, none, push, push_long};
 use table::Refusal;
 
 // Line `n` is reason `n`; 32, 33, 46, 47 and 49 are 22, 27, 2, 21 and 28 with one value, step or number; 48 is the note
 // on one.
-fn say(page: &mut [u8], at: usize, names: &[u8], n: u32, numbers: Numbers) -> usize {
+fn say(page: &mut Page, at: usize, names: &[u8], n: u32, numbers: Numbers) -> usize {
     show::put(
         page,
         at,
@@ -120,7 +120,7 @@ fn numbers_of(d: Diagnosis) -> Numbers {
 
 // The reason for a refusal, in words.
 pub fn put_why(
-    page: &mut [u8],
+    page: &mut Page,
     at: usize,
     names: &[u8],
     table: &[u32],
@@ -135,7 +135,7 @@ pub fn put_why(
 }
 
 // A reason in words.
-pub fn put_diagnosis(page: &mut [u8], at: usize, names: &[u8], d: Diagnosis) -> usize {
+pub fn put_diagnosis(page: &mut Page, at: usize, names: &[u8], d: Diagnosis) -> usize {
     say(page, at, names, line_of(d), numbers_of(d))
 }
 
@@ -163,7 +163,7 @@ fn kind(number: u32) -> u32 {
 }
 
 // The note on a table's line whose numbers are no multiple of six, after a refusal of the table.
-pub fn put_note(page: &mut [u8], at: usize, path: &[u8], text: &[u8], r: Refusal) -> usize {
+pub fn put_note(page: &mut Page, at: usize, path: &[u8], text: &[u8], r: Refusal) -> usize {
     let odd = cases::odd_line(text);
     if (odd.line == 0) | (10 < r.number) {
         return at;
@@ -180,7 +180,7 @@ pub fn put_note(page: &mut [u8], at: usize, path: &[u8], text: &[u8], r: Refusal
 
 // A refusal, of a line: "FILE:LINE: refused N at WHERE: " and the reason.
 pub fn put_refusal(
-    page: &mut [u8],
+    page: &mut Page,
     at: usize,
     names: &[u8],
     path: &[u8],

@@ -3,11 +3,12 @@ use crate::marks::put_marks;
 use crate::verdicts::{put_spent, put_told};
 use evaluate::Spent;
 use judge::Verdict;
+use page::Page;
 use table::number_at;
 
 // Each term with its value.
 fn put_rows(
-    page: &mut [u8],
+    page: &mut Page,
     at: usize,
     names: &[u8],
     table: &[u32],
@@ -30,7 +31,7 @@ fn put_rows(
 
 // Each term with its mark, value and condition.
 fn put_judged_rows(
-    page: &mut [u8],
+    page: &mut Page,
     at: usize,
     names: &[u8],
     table: &[u32],
@@ -48,7 +49,7 @@ fn put_judged_rows(
 }
 
 // Each term that is no variable as it was typed in the text of a rule.
-fn put_all_typed(page: &mut [u8], at: usize, rule: &[u8], table: &[u32], terms: u32) -> usize {
+fn put_all_typed(page: &mut Page, at: usize, rule: &[u8], table: &[u32], terms: u32) -> usize {
     let mut to = at;
     for k in 0..terms {
         if table::term_at(table, k).op == 1 {
@@ -60,7 +61,7 @@ fn put_all_typed(page: &mut [u8], at: usize, rule: &[u8], table: &[u32], terms: 
 }
 
 // The terms as they were typed, below an empty line; nothing where there is no text.
-pub fn put_typed(page: &mut [u8], at: usize, rule: &[u8], table: &[u32]) -> usize {
+pub fn put_typed(page: &mut Page, at: usize, rule: &[u8], table: &[u32]) -> usize {
     if rule.len() == 0 {
         return at;
     }
@@ -70,7 +71,7 @@ pub fn put_typed(page: &mut [u8], at: usize, rule: &[u8], table: &[u32]) -> usiz
 
 // An evaluation, whose room has the values at its front.
 pub fn put_evaluation(
-    page: &mut [u8],
+    page: &mut Page,
     at: usize,
     names: &[u8],
     table: &[u32],
@@ -92,7 +93,7 @@ pub fn put_evaluation(
 // A judgement, whose room is the values, then the conditions' truths: its rows, the terms as they were typed in the text
 // of a rule, the marks under the sheet, and the verdict below them.
 pub fn put_judgement(
-    page: &mut [u8],
+    page: &mut Page,
     at: usize,
     names: &[u8],
     rule: &[u8],
@@ -109,5 +110,5 @@ pub fn put_judgement(
     let rows = put_judged_rows(page, head, names, table, values, truths, terms);
     let typed = put_typed(page, rows, rule, table);
     let marks = put_marks(page, typed, names, table, sheet, truths, terms);
-    put_told(page, marks, v, std::num::wrapping_sub_u32(terms, 1))
+    put_told(page, marks, v, terms.wrapping_sub(1))
 }

@@ -4,6 +4,7 @@ ghost use Rattle.report.specs.Outcomes.{by_operand};
 
 use crate::{json, refusals};
 use diagnosis::Diagnosis;
+use page::Page;
 use table::{Refusal, Term};
 
 // A typed list has the sort of one of its operands: where its own is at fault, that operand is told.
@@ -30,7 +31,7 @@ fn by_operand(d: Diagnosis, x: Term) -> Diagnosis
 
 // Refusal 6: the operator, and its operand at fault with the sorts found and asked.
 fn put_sorts(
-    page: &mut [u8],
+    page: &mut Page,
     at: usize,
     names: &[u8],
     rule: &[u8],
@@ -47,7 +48,7 @@ fn put_sorts(
 
 // The reason: of the text, 31 to 35, by 2 or by 7; of the built table, where by 6 the operator stands before it.
 fn put_reason(
-    page: &mut [u8],
+    page: &mut Page,
     at: usize,
     names: &[u8],
     rule: &[u8],
@@ -68,7 +69,7 @@ fn put_reason(
 
 // "RULE:LINE:COLUMN: N: ", the reason, the line and a caret.
 pub fn put_rule_refusal(
-    page: &mut [u8],
+    page: &mut Page,
     at: usize,
     path: &[u8],
     names: &[u8],
@@ -89,7 +90,7 @@ pub fn put_rule_refusal(
 
 // The same in JSON.
 pub fn put_json_rule_refusal(
-    page: &mut [u8],
+    page: &mut Page,
     at: usize,
     path: &[u8],
     setting: &[u8],
@@ -98,11 +99,11 @@ pub fn put_json_rule_refusal(
     table: &[u32],
     r: Refusal,
 ) -> usize {
-    let mut own = [0u8; 512];
+    let mut own = page::draft();
     let place = errors::place_of(rule, r.number, r.place);
     let line = outline::line_of(rule, place);
     let column = outline::column_of(rule, place);
     let end = put_reason(&mut own, 0, names, rule, table, r, place);
-    let count = page::filled(&own, end);
-    json::put_json_rule(page, at, path, setting, line, column, r, &own[..count])
+    let reason = page::text(&own, end);
+    json::put_json_rule(page, at, path, setting, line, column, r, reason)
 }

@@ -3,10 +3,9 @@ ghost use Rattle.std.specs.Prelude.{◌≡◌};
 ghost use Rattle.report.specs.Outcomes.{outcome_of};
 
 use judge::Verdict;
-use page::{none, truth};
-use std::num::wrapping_add_u32;
+use page::{Page, none, truth};
 
-fn say(page: &mut [u8], at: usize, n: u32, numbers: page::Numbers) -> usize {
+fn say(page: &mut Page, at: usize, n: u32, numbers: page::Numbers) -> usize {
     show::put(
         page,
         at,
@@ -55,12 +54,12 @@ fn verdict_numbers(v: Verdict, line: u32) -> page::Numbers {
 }
 
 // A judgement, in five lines.
-pub fn put_verdict(page: &mut [u8], at: usize, v: Verdict) -> usize {
+pub fn put_verdict(page: &mut Page, at: usize, v: Verdict) -> usize {
     say(page, at, 12, verdict_numbers(v, outcome(v)))
 }
 
 // A case by its file, a rule by its file and that of its setting.
-fn put_title(page: &mut [u8], at: usize, path: &[u8], setting: &[u8]) -> usize {
+fn put_title(page: &mut Page, at: usize, path: &[u8], setting: &[u8]) -> usize {
     let to = page::put_all(page, at, path);
     if setting.len() == 0 {
         return to;
@@ -70,24 +69,24 @@ fn put_title(page: &mut [u8], at: usize, path: &[u8], setting: &[u8]) -> usize {
 }
 
 // A judgement among others, in a line.
-pub fn put_outcome(page: &mut [u8], at: usize, path: &[u8], setting: &[u8], v: Verdict) -> usize {
+pub fn put_outcome(page: &mut Page, at: usize, path: &[u8], setting: &[u8], v: Verdict) -> usize {
     let to = put_title(page, at, path, setting);
-    say(page, to, 14, page::one(wrapping_add_u32(4, outcome(v))))
+    say(page, to, 14, page::one(4u32.wrapping_add(outcome(v))))
 }
 
 // A judgement below its rows.
-pub fn put_told(page: &mut [u8], at: usize, v: Verdict, rule: u32) -> usize {
-    let numbers = verdict_numbers(v, wrapping_add_u32(8, outcome(v)));
+pub fn put_told(page: &mut Page, at: usize, v: Verdict, rule: u32) -> usize {
+    let numbers = verdict_numbers(v, 8u32.wrapping_add(outcome(v)));
     say(page, at, 13, page::push(rule, numbers))
 }
 
 // Steps and what is left.
-pub fn put_spent(page: &mut [u8], at: usize, steps: u64, left: u64) -> usize {
+pub fn put_spent(page: &mut Page, at: usize, steps: u64, left: u64) -> usize {
     say(page, at, 15, page::five(steps, left, 0, 0, 0))
 }
 
 // The line before an answer, one of several; an empty line between two.
-pub fn put_heading(page: &mut [u8], at: usize, path: &[u8], setting: &[u8], first: bool) -> usize {
+pub fn put_heading(page: &mut Page, at: usize, path: &[u8], setting: &[u8], first: bool) -> usize {
     let start = say(page, at, ops::ite(first, 16, 18), none());
     let to = put_title(page, start, path, setting);
     say(page, to, 17, none())

@@ -2,6 +2,9 @@
 ghost use Rattle.std.specs.Prelude.{◌≡◌, slice_index};
 ghost use Rattle.request.specs.Arguments.{same_word, command_of, hyphened, kind_of, fitting, several, crowded};
 
+use std::env::FillError;
+use std::rt::Env;
+
 // The commands, by number; 0 is none.
 pub const JUDGE: u32 = 1;
 
@@ -33,7 +36,7 @@ pub const END: u32 = 4;
 pub const UNKNOWN: u32 = 5;
 
 // The options given, whether they have ended, whether one is unknown; how many files there are.
-#[derive(Drop)]
+#[derive(Clone, Copy)]
 pub struct Options {
     pub json: bool,
     pub color: bool,
@@ -45,7 +48,7 @@ pub struct Options {
 
 // A command on a file: its options, how many files there are, whether its answer is one of several, whether another was
 // answered before, and which argument is the next file, 0 where there is none.
-#[derive(Drop)]
+#[derive(Clone, Copy)]
 pub struct Request {
     pub command: u32,
     pub json: bool,
@@ -115,19 +118,49 @@ fn counted(o: Options, kind: u32) -> Options {
         plain: o.plain | (kind == PLAIN),
         ended: o.ended | (kind == END),
         unknown: o.unknown | (kind == UNKNOWN),
-        files: std::num::wrapping_add_u32(o.files, ops::bit(kind == FILE)),
+        files: o.files.wrapping_add(ops::bit(kind == FILE)),
     }
 }
 
-// What argument `i` is.
-fn kind_at(i: usize, ended: bool) -> u32 {
+fn is_missing(rt: &impl Env, i: usize) -> bool {
+    let mut word = [0u8; 1];
+    match rt.arg(i, &mut word) {
+        Ok(_) => false,
+        Err(FillError::TooLong) => false,
+        Err(FillError::NotPresent) => true,
+    }
+}
+
+// How many arguments there are, the program's own name among them.
+pub fn count_of(rt: &impl Env) -> usize {
+    for i in 0..usize::MAX {
+        if is_missing(rt, i) {
+            return i;
+        }
+    }
+    usize::MAX
+}
+
+// The command that argument 1 is.
+pub fn command(rt: &impl Env) -> u32 {
+    let mut word = [0u8; 16];
+    match rt.arg(1, &mut word) {
+        Ok(length) => command_of(&word[..length]),
+        Err(_) => 0,
+    }
+}
+
+// What argument `i` is; one that is too long is a file.
+fn kind_at(rt: &impl Env, i: usize, ended: bool) -> u32 {
     let mut word = io::buffer();
-    let length = os::arg(i, &mut word);
-    kind_of(&word[..length], ended)
+    match rt.arg(i, &mut word) {
+        Ok(length) => kind_of(&word[..length], ended),
+        Err(_) => FILE,
+    }
 }
 
 // The options among so many arguments.
-pub fn options_of(count: usize) -> Options {
+pub fn options_of(rt: &impl Env, count: usize) -> Options {
     let mut o = Options {
         json: false,
         color: false,
@@ -137,16 +170,16 @@ pub fn options_of(count: usize) -> Options {
         files: 0,
     };
     for i in 2..count {
-        o = counted(o, kind_at(i, o.ended));
+        o = counted(o, kind_at(rt, i, o.ended));
     }
     o
 }
 
 // The first file from an argument on, 0 where there is none.
-pub fn next_file(from: usize, count: usize, ended: bool) -> usize {
+pub fn next_file(rt: &impl Env, from: usize, count: usize, ended: bool) -> usize {
     let mut over = ended;
     for i in from..count {
-        let kind = kind_at(i, over);
+        let kind = kind_at(rt, i, over);
         if kind == FILE {
             return i;
         }

@@ -2,6 +2,10 @@
 ghost use Rattle.std.specs.Prelude.{◌≡◌};
 ghost use Rattle.request.specs.Status.{rank, worse, answered};
 
+use std::fs::File;
+use std::io::{Result, Write};
+use std::rt::Files;
+
 pub const DONE: u32 = 0;
 
 pub const FAILS: u32 = 1;
@@ -10,13 +14,15 @@ pub const ERROR: u32 = 2;
 
 pub const REFUSED: u32 = 3;
 
-// Within the program: a write has failed; a room was too short, and nothing was put.
+// Within the program: a write has failed; a room was too short, and nothing was put; nobody reads any more what is written.
 pub const BROKEN: u32 = 4;
 
 pub const SHORT: u32 = 5;
 
+pub const CLOSED: u32 = 6;
+
 // What a file comes to: a status, and whether the next file belongs to it.
-#[derive(Drop)]
+#[derive(Clone, Copy)]
 pub struct Answer {
     pub status: u32,
     pub paired: bool,
@@ -38,7 +44,7 @@ pub fn paired(status: u32) -> Answer {
 
 // The worst status so far; how many files were answered; whether -- has ended the options; whether the next file belongs
 // to the rule before it.
-#[derive(Drop)]
+#[derive(Clone, Copy)]
 pub struct Run {
     pub status: u32,
     pub answers: u32,
@@ -74,7 +80,7 @@ pub fn after(run: Run, answer: Answer) -> Run {
     let status = answer.status;
     Run {
         status: worse(run.status, status),
-        answers: std::num::wrapping_add_u32(run.answers, ops::bit(status != ERROR)),
+        answers: run.answers.wrapping_add(ops::bit(status != ERROR)),
         ended: run.ended,
         paired: answer.paired,
     }
@@ -100,6 +106,11 @@ pub fn settled(run: Run) -> Run {
     }
 }
 
+// Whether a write has failed.
+pub fn is_broken(status: u32) -> bool {
+    (status == BROKEN) | (status == CLOSED)
+}
+
 // A failed write is an error.
 pub fn told(status: u32) -> u32
     ensures { result ≡ answered status }
@@ -108,9 +119,7 @@ pub fn told(status: u32) -> u32
 }
 
 // The status to descriptor 3, as a digit and a line feed, where somebody listens.
-pub fn tell(status: u32) {
-    let mut page = [0u8; 16];
-    let at = page::fill(&mut page, 0, b"", b"#$", b"", 0, page::one(status));
-    let count = page::filled(&page, at);
-    io::write_all(3, &page[..count]);
+pub fn tell(rt: &impl Files, status: u32) -> Result<()> {
+    let mut listener = File::options().write(true).open(rt, "/dev/fd/3")?;
+    writeln!(listener, "{status}")
 }

@@ -1,17 +1,19 @@
 // Terms, sorts and values as they are shown: SMT-LIB's names, and a row's columns. A message is a line of a text with
 // numbers (crate page); what is shown of a term is numbers, put before those of the rest of the message.
+#![tactic(auto)]
+
 ghost use Rattle.std.specs.Prelude.{◌≡◌, min, length};
 ghost use Rattle.io.specs.Counts.{IsPrefixLen};
 ghost use Rattle.ops.specs.Numbers.{op_of};
 ghost use Rattle.table.specs.Ranks.{rank_of, fields_of, operand_count};
 ghost use Rattle.table.specs.Terms.{terms};
 
-use page::{Numbers, push, push_if, push_long};
+use page::{Numbers, Page, push, push_if, push_long};
 use table::{Fields, Sort, Term, WORDS};
 
 // Line `n` of a text, with the words for terms, sorts and marks, and the names of terms and slots (page::fill).
 pub fn put(
-    page: &mut [u8],
+    page: &mut Page,
     at: usize,
     names: &[u8],
     text: &[u8],
@@ -148,7 +150,7 @@ fn mark(x: Term, free: bool) -> u32 {
     ops::ite(x.op != 1, 11, ops::ite(free, 13, 12))
 }
 
-fn put_columns(page: &mut [u8], at: usize, names: &[u8], n: u32, numbers: Numbers) -> usize {
+fn put_columns(page: &mut Page, at: usize, names: &[u8], n: u32, numbers: Numbers) -> usize {
     put(
         page,
         at,
@@ -164,19 +166,19 @@ fn put_columns(page: &mut [u8], at: usize, names: &[u8], n: u32, numbers: Number
 }
 
 // The head of the rows; those of a judgement are wider.
-pub fn put_head(page: &mut [u8], at: usize, judged: bool) -> usize {
+pub fn put_head(page: &mut Page, at: usize, judged: bool) -> usize {
     put_columns(page, at, b"", ops::ite(judged, 3, 2), page::none())
 }
 
 // Term `k` with its value.
-pub fn put_row(page: &mut [u8], at: usize, names: &[u8], k: u32, x: Term, v: u32) -> usize {
+pub fn put_row(page: &mut Page, at: usize, names: &[u8], k: u32, x: Term, v: u32) -> usize {
     let held = page::five(value(x.sort, v, page::DASH), 0, 0, 0, 0);
     put_columns(page, at, names, 0, push(k, operator(x, sort(x.sort, held))))
 }
 
 // Term `k` with its mark, value and condition.
 pub fn put_judged_row(
-    page: &mut [u8],
+    page: &mut Page,
     at: usize,
     names: &[u8],
     k: u32,

@@ -1,7 +1,9 @@
 // A rule as a tree, a line a term. The work row holds a mark for each term, 1 where it was shown and 2 where it was put
 // off; then the terms that were put off, in order; then a stack of what is to be shown, three numbers each: the term,
 // its level and, by bit, whether more follows at each level above it.
-use page::{Numbers, none, one, two};
+#![tactic(auto)]
+
+use page::{Numbers, Page, none, one, two};
 use table::{Term, number_at};
 
 const SHOWN: u32 = 1;
@@ -20,14 +22,14 @@ const POWERS: [u32; 18] = [
 ];
 
 // Where the page stands; how many stand on the stack and in the queue.
-#[derive(Drop)]
+#[derive(Clone, Copy)]
 struct State {
     at: usize,
     top: u32,
     queued: u32,
 }
 
-#[derive(Drop)]
+#[derive(Clone, Copy)]
 struct Node {
     term: u32,
     level: u32,
@@ -38,7 +40,7 @@ fn work_row() -> [u32; 1216] {
     [0u32; 1216]
 }
 
-fn say(page: &mut [u8], at: usize, names: &[u8], n: u32, numbers: Numbers) -> usize {
+fn say(page: &mut Page, at: usize, names: &[u8], n: u32, numbers: Numbers) -> usize {
     show::put(
         page,
         at,
@@ -68,7 +70,7 @@ $
 }
 
 fn sum(a: u32, b: u32) -> u32 {
-    std::num::wrapping_add_u32(a, b)
+    a.wrapping_add(b)
 }
 
 // A number of the work row; one past its end is left out.
@@ -112,7 +114,7 @@ fn label(x: Term, k: u32, value: u32, free: bool, color: bool) -> Numbers {
 }
 
 // What stands before a term of a level: for each level above it a bar or none, then its own branch.
-fn put_bars(page: &mut [u8], at: usize, names: &[u8], level: u32, bars: u32) -> usize {
+fn put_bars(page: &mut Page, at: usize, names: &[u8], level: u32, bars: u32) -> usize {
     let mut to = at;
     let mut rest = bars;
     for i in 0..level {
@@ -131,7 +133,7 @@ fn kind_of(mark: u32, level: u32, count: u32) -> u32 {
 
 // One term, with what stands before it.
 fn put_node(
-    page: &mut [u8],
+    page: &mut Page,
     at: usize,
     names: &[u8],
     node: Node,
@@ -224,7 +226,7 @@ fn grown(work: &mut [u32], s: State, node: Node, kind: u32, x: Term) -> State {
 
 // The top of the stack.
 fn put_top(
-    page: &mut [u8],
+    page: &mut Page,
     work: &mut [u32],
     s: State,
     names: &[u8],
@@ -233,14 +235,14 @@ fn put_top(
     truths: &[u32],
     color: bool,
 ) -> State {
-    let node = node_at(work, std::num::wrapping_sub_u32(s.top, 1));
+    let node = node_at(work, s.top.wrapping_sub(1));
     let x = table::term_at(table, node.term);
     let kind = kind_of(number_at(work, node.term), node.level, show::operands(x.op));
     let value = number_at(values, node.term);
     let free = number_at(truths, node.term) == 1;
     let told = State {
         at: put_node(page, s.at, names, node, kind, x, value, free, color),
-        top: std::num::wrapping_sub_u32(s.top, 1),
+        top: s.top.wrapping_sub(1),
         queued: s.queued,
     };
     grown(work, told, node, kind, x)
@@ -248,7 +250,7 @@ fn put_top(
 
 // The tree of a term: at most three lines for each term, and its own.
 fn put_root(
-    page: &mut [u8],
+    page: &mut Page,
     work: &mut [u32],
     start: State,
     names: &[u8],
@@ -278,7 +280,7 @@ fn rooted(work: &mut [u32], at: usize, queued: u32, k: u32) -> State {
 
 // The tree of a term that was put off, after an empty line.
 fn put_later(
-    page: &mut [u8],
+    page: &mut Page,
     work: &mut [u32],
     s: State,
     names: &[u8],
@@ -295,7 +297,7 @@ fn put_later(
 
 // The trees of the terms that were put off and not shown since.
 fn put_queue(
-    page: &mut [u8],
+    page: &mut Page,
     work: &mut [u32],
     start: State,
     names: &[u8],
@@ -316,7 +318,7 @@ fn put_queue(
 }
 
 fn put_all(
-    page: &mut [u8],
+    page: &mut Page,
     at: usize,
     names: &[u8],
     table: &[u32],
@@ -334,7 +336,7 @@ fn put_all(
 
 // The rule of a judgement whose room is the values, then the conditions' truths.
 pub fn put_tree(
-    page: &mut [u8],
+    page: &mut Page,
     at: usize,
     names: &[u8],
     table: &[u32],
@@ -345,6 +347,6 @@ pub fn put_tree(
     let middle = show::front(terms, room);
     let values = &room[..middle];
     let truths = &room[middle..];
-    let rule = std::num::wrapping_sub_u32(terms, 1);
+    let rule = terms.wrapping_sub(1);
     put_all(page, at, names, table, values, truths, color, rule)
 }

@@ -6,13 +6,8 @@ use Rattle.assignments.proofs.read.Goals as goal
 
 pub returns : goal.returns
 returns c =
-    let e = c.run-s.ensures in (
-      c.answer-r.ensures ∙ ap (λ (w : Work). answer c.args.names.now c.args.text.now w.state) e,
-      (
-        c.fill.ensures ∙ ap (λ (n : ℕ). values_in c.args.names.now c.args.text.now n c.args.values.now) c.given.ensures,
-        (ap (λ (w : Work). w.cells) e, ap (λ (w : Work). w.sheet) e),
-      ),
-    )
+    let e = c.run-s.ensures in
+    record { value = c.answer-r.ensures ∙ ap (λ (w : Work). answer c.args.names.now c.args.text.now w.state) e; values_after = c.fill.ensures ∙ ap (λ (n : ℕ). values_in c.args.names.now c.args.text.now n c.args.values.now) c.given.ensures; cells_after = ap (λ (w : Work). w.cells) e; sheet_after = ap (λ (w : Work). w.sheet) e }
 
 pub run-s-requires : goal.run-s-requires
 run-s-requires c = tt
@@ -27,10 +22,10 @@ pub fill-requires : goal.fill-requires
 fill-requires c = tt
 
 pub shape_of-values : goal.shape_of-values
-shape_of-values c = c.fill.auto.1.1.1.0
+shape_of-values c = c.fill.auto.values
 
 pub shape_of-cells : goal.shape_of-cells
-shape_of-cells c = c.run-s.auto.1.1.1.0
+shape_of-cells c = c.run-s.auto.cells
 
 pub shape_of-sheet : goal.shape_of-sheet
-shape_of-sheet c = c.run-s.auto.1.1.1.1.0
+shape_of-sheet c = c.run-s.auto.sheet

@@ -23,6 +23,3 @@ pub returns : goal.returns
 returns c =
     c.line_within.ensures
     ∙ ap (λ (t : List ℕ). get_or (lines_within c.args.heading c.args.part t (wholly c.args.text.now)) c.args.k 0) (ap (λ (k : ℕ). take k c.args.text.now) c.lower-end.ensures ∙ take-lower byte_limit c.args.text.now)
-
-pub lower-end-requires : goal.lower-end-requires
-lower-end-requires c = tt

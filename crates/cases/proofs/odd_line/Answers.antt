@@ -24,6 +24,3 @@ pub returns : goal.returns
 returns c =
     c.odd_within.ensures
     ∙ ap (λ (t : List ℕ). odd_after even (lines_within false 1 t (wholly c.args.text.now))) (ap (λ (k : ℕ). take k c.args.text.now) c.lower-end.ensures ∙ take-lower byte_limit c.args.text.now)
-
-pub lower-end-requires : goal.lower-end-requires
-lower-end-requires c = tt

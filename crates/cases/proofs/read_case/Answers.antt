@@ -22,13 +22,8 @@ read_within-requires c =
 pub returns : goal.returns
 returns c =
     let fits : c.lower-end.result ≤ length c.args.text.now = omega (arith, c.lower-end.ensures, (lower-most byte_limit (length c.args.text.now)).1) in
-    let e = ap (λ (k : ℕ). take k c.args.text.now) c.lower-end.ensures ∙ take-lower byte_limit c.args.text.now in (
-      c.read_within.ensures.value ∙ ap (λ (t : List ℕ). parsing_within t (wholly c.args.text.now) (length c.args.numbers.now)) e,
-      (
-        c.read_within.ensures.numbers_after ∙ ap (λ (t : List ℕ). room_within c.read_within.result t (wholly c.args.text.now) c.args.numbers.now) e,
-        inside_longer c.read_within.result (length c.args.numbers.now) _ _ (omega (arith, length-take-le c.lower-end.result c.args.text.now fits, fits)) c.read_within.ensures.inside,
-      ),
-    )
-
-pub lower-end-requires : goal.lower-end-requires
-lower-end-requires c = tt
+    let e = ap (λ (k : ℕ). take k c.args.text.now) c.lower-end.ensures ∙ take-lower byte_limit c.args.text.now in record {
+      value = c.read_within.ensures.value ∙ ap (λ (t : List ℕ). parsing_within t (wholly c.args.text.now) (length c.args.numbers.now)) e;
+      numbers_after = c.read_within.ensures.numbers_after ∙ ap (λ (t : List ℕ). room_within c.read_within.result t (wholly c.args.text.now) c.args.numbers.now) e;
+      inside = inside_longer c.read_within.result (length c.args.numbers.now) _ _ (omega (arith, length-take-le c.lower-end.result c.args.text.now fits, fits)) c.read_within.ensures.inside;
+    }

@@ -6,9 +6,3 @@ returns-then-place-lt4294967296 c = rw (lt-ltb _ _ c.if-place-lt4294967296.true)
 
 pub returns : goal.returns
 returns c = rw (le-ltb _ _ c.if-place-lt4294967296.false) c.number_of.ensures
-
-pub spot_at-requires : goal.spot_at-requires
-spot_at-requires c = tt
-
-pub number_of-requires : goal.number_of-requires
-number_of-requires c = tt

@@ -9,9 +9,3 @@ returns-then-number-eq1 c = rw (eq-eqb _ _ c.if-number-eq1.true, c.length_told.e
 pub returns : goal.returns
 unfolding table_reasons
 returns c = rw (ne_eqb _ _ c.if-number-eq1.false, c.count_told.ensures)
-
-pub length_told-requires : goal.length_told-requires
-length_told-requires c = tt
-
-pub count_told-requires : goal.count_told-requires
-count_told-requires c = tt

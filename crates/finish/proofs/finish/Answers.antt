@@ -23,13 +23,8 @@ pub returns-then-not-accepts : goal.returns-then-not-accepts
 returns-then-not-accepts c =
     let w = c.args.table.now in
     let off : accepts c.admit-admitted.result ≡ false = sym c.accepts.ensures ∙ c.if-not-accepts.true in
-    let is = c.and_then.ensures in (
-      is ∙ refused-is c.admit-admitted.result w c.args.room.now off c.admit-admitted.ensures _,
-      (
-        kept c.admit-admitted.result w c.args.room.now off _ ∙ ap (λ (z : Finishing). room_after z w c.args.room.now) (sym is),
-        subst (FinishingPromise w c.args.room.now) (sym is) (nothing-more c.admit-admitted.result w c.args.room.now off _),
-      ),
-    )
+    let is = c.and_then.ensures in
+    record { value = is ∙ refused-is c.admit-admitted.result w c.args.room.now off c.admit-admitted.ensures _; room_after = kept c.admit-admitted.result w c.args.room.now off _ ∙ ap (λ (z : Finishing). room_after z w c.args.room.now) (sym is); finishing_promise = subst (FinishingPromise w c.args.room.now) (sym is) (nothing-more c.admit-admitted.result w c.args.room.now off _) }
 
 pub needed-terms-requires : goal.needed-terms-requires
 needed-terms-requires c =
@@ -40,10 +35,8 @@ pub returns-then-room-terms : goal.returns-then-room-terms
 returns-then-room-terms c =
     let w = c.args.table.now in
     let h = (sym c.admit-admitted.ensures ∙ is-admitted c.admit-admitted.result (sym c.accepts.ensures ∙ c.if-not-accepts.false)) in
-    let n = c.needed-terms.ensures in (
-      ap (not_finished 21) n ∙ too_short w c.args.room.now h (subst (λ (k : ℕ). length c.args.room.now < k * 6) n c.if-room-terms.true),
-      (refl, tt),
-    )
+    let n = c.needed-terms.ensures in
+    record { value = ap (not_finished 21) n ∙ too_short w c.args.room.now h (subst (λ (k : ℕ). length c.args.room.now < k * 6) n c.if-room-terms.true); room_after = refl; finishing_promise = tt }
 
 pub fill-condition-requires : goal.fill-condition-requires
 fill-condition-requires c =
@@ -64,10 +57,5 @@ returns c =
     let e : Extent = record { terms = c.needed-terms.result; condition = c.fill-condition.result; last = c.needed-terms.result - 1 } in
     let last : c.needed-terms.result - 1 ≡ pred (terms (finished w)) = omega (arith, n) in
     let same : e ≡ extent w = λ i. record { terms = n i; condition = c.fill-condition.ensures.value i; last = last i } in
-    let is : Finished e ≡ Finished (extent w) = ap Finished same in (
-      is ∙ long-enough w c.args.room.now h full,
-      (
-        c.fill-condition.ensures.room_after ∙ ap (λ (z : Finishing). room_after z w c.args.room.now) (sym is),
-        subst (λ (z : Finishing). FinishingPromise w c.fill-condition.new.1.0 z) (sym is) (subst (λ (l : List ℕ). FinishingPromise w l (Finished (extent w))) (sym c.fill-condition.ensures.room_after) (promise w c.args.room.now h)),
-      ),
-    )
+    let is : Finished e ≡ Finished (extent w) = ap Finished same in
+    record { value = is ∙ long-enough w c.args.room.now h full; room_after = c.fill-condition.ensures.room_after ∙ ap (λ (z : Finishing). room_after z w c.args.room.now) (sym is); finishing_promise = subst (λ (z : Finishing). FinishingPromise w c.fill-condition.new.room z) (sym is) (subst (λ (l : List ℕ). FinishingPromise w l (Finished (extent w))) (sym c.fill-condition.ensures.room_after) (promise w c.args.room.now h)) }

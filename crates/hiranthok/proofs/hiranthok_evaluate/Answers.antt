@@ -7,4 +7,4 @@ use Rattle.hiranthok.proofs.hiranthok_evaluate.Goals as goal
 pub returns : goal.returns
 returns c =
     let is = c.evaluate.ensures.value in
-    (c.answer_evaluated.ensures.value ∙ ap (λ (a : Evaluation). (evaluation_reply a).number) is, (c.answer_evaluated.ensures.answer_after ∙ ap (λ (a : Evaluation). row (evaluation_reply a)) is, c.evaluate.ensures.work_after ∙ ap (λ (a : Evaluation). room_after a c.args.table.now c.args.values.now c.args.cells.now c.args.work.now) is))
+    record { value = c.answer_evaluated.ensures.value ∙ ap (λ (a : Evaluation). (evaluation_reply a).number) is; answer_after = c.answer_evaluated.ensures.answer_after ∙ ap (λ (a : Evaluation). row (evaluation_reply a)) is; work_after = c.evaluate.ensures.work_after ∙ ap (λ (a : Evaluation). room_after a c.args.table.now c.args.values.now c.args.cells.now c.args.work.now) is }

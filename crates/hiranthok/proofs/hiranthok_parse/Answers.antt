@@ -9,13 +9,5 @@ use Rattle.hiranthok.proofs.hiranthok_parse.Goals as goal
 
 pub returns : goal.returns
 returns c =
-    let is = c.parsing_reply.ensures ∙ ap parsing_reply c.parse.ensures.value in (
-      c.deliver.ensures.value ∙ ap (λ (r : Reply). r.number) is,
-      (
-        c.deliver.ensures.answer_after ∙ ap row is,
-        (
-          c.parse.ensures.room_after ∙ ap (λ (j : Parsing). room_after j c.args.text.now c.args.room.now) c.parse.ensures.value,
-          promised c.args.text.now (length c.args.room.now),
-        ),
-      ),
-    )
+    let is = c.parsing_reply.ensures ∙ ap parsing_reply c.parse.ensures.value in
+    record { value = c.deliver.ensures.value ∙ ap (λ (r : Reply). r.number) is; answer_after = c.deliver.ensures.answer_after ∙ ap row is; room_after = c.parse.ensures.room_after ∙ ap (λ (j : Parsing). room_after j c.args.text.now c.args.room.now) c.parse.ensures.value; parsing_promise = promised c.args.text.now (length c.args.room.now) }

@@ -27,7 +27,10 @@ use Rattle.judge.proofs.Verdicts.{stands, room_kept, room_filled, rule_read, con
 use Rattle.judge.proofs.judge.Goals as goal
 
 pub ready-answer-requires : goal.ready-answer-requires
-ready-answer-requires c = (λ h. wider 512 80000 c.args.table.now (omega arith) (admission-sound 512 c.args.table.now (admitted_under c.args.table.now c.args.sheet.now (sym (ap accepts c.admit_under-admitted.ensures) ∙ h)).0), omega arith)
+ready-answer-requires c = record {
+  well_formed = λ h. wider 512 80000 c.args.table.now (omega arith) (admission-sound 512 c.args.table.now (admitted_under c.args.table.now c.args.sheet.now (sym (ap accepts c.admit_under-admitted.ensures) ∙ h)).0);
+  each_bound = omega arith;
+}
 
 -- a refusal
 pub returns-then-not-evaluates : goal.returns-then-not-evaluates
@@ -38,13 +41,8 @@ returns-then-not-evaluates c =
     let I = interpret c.args.values.now (look c.args.cells.now) in
     let marked = marks_under c.args.sheet.now in
     let off : evaluates c.ready-answer.result ≡ false = sym c.evaluates.ensures ∙ c.if-not-evaluates.true in
-    let is = c.answered.ensures ∙ stands c.ready-answer.result false false (rule_in w I) (rule_condition w marked I) off ∙ ap (λ (x : Evaluation). verdict_by x (rule_in w I) (rule_condition w marked I)) asked in (
-      is,
-      (
-        room_kept c.ready-answer.result false false w marked I c.args.work.now off ∙ ap (λ (j : Judgement). room_after j w c.args.sheet.now c.args.values.now c.args.cells.now c.args.work.now) (sym c.answered.ensures),
-        subst (JudgementPromise w c.args.sheet.now c.args.values.now c.args.cells.now) (sym is) (demand3 w c.args.sheet.now c.args.values.now c.args.cells.now c.args.allowance (length c.args.work.now)),
-      ),
-    )
+    let is = c.answered.ensures ∙ stands c.ready-answer.result false false (rule_in w I) (rule_condition w marked I) off ∙ ap (λ (x : Evaluation). verdict_by x (rule_in w I) (rule_condition w marked I)) asked in
+    record { value = is; work_after = room_kept c.ready-answer.result false false w marked I c.args.work.now off ∙ ap (λ (j : Judgement). room_after j w c.args.sheet.now c.args.values.now c.args.cells.now c.args.work.now) (sym c.answered.ensures); judgement_promise = subst (JudgementPromise w c.args.sheet.now c.args.values.now c.args.cells.now) (sym is) (demand3 w c.args.sheet.now c.args.values.now c.args.cells.now c.args.allowance (length c.args.work.now)) }
 
 pub fill-requires : goal.fill-requires
 fill-requires c =
@@ -68,7 +66,7 @@ bounds-work-last c =
     ∙ ap (λ (x : Acceptance). ready_by c.args.table.now x (check c.args.table.now c.args.values.now c.args.cells.now) 2 c.args.allowance (length c.args.work.now)) c.admit_under-admitted.ensures in
     let ok : Unrefused c.args.table.now c.args.sheet.now (check c.args.table.now c.args.values.now c.args.cells.now) 2 c.args.allowance (length c.args.work.now) = passed_under c.args.table.now c.args.sheet.now (check c.args.table.now c.args.values.now c.args.cells.now) 2 c.args.allowance (length c.args.work.now) (sym (ap evaluates asked) ∙ sym c.evaluates.ensures ∙ c.if-not-evaluates.false) in
     let formed : WellFormed 512 c.args.table.now = admission-sound 512 c.args.table.now ok.admitted in
-    omega (arith, formed.some, ok.long, c.fill.auto.1.1.1.1.0)
+    omega (arith, formed.some, ok.long, c.fill.auto.work)
 
 pub bounds-work-terms : goal.bounds-work-terms
 bounds-work-terms c =
@@ -76,7 +74,7 @@ bounds-work-terms c =
     ∙ ap (λ (x : Acceptance). ready_by c.args.table.now x (check c.args.table.now c.args.values.now c.args.cells.now) 2 c.args.allowance (length c.args.work.now)) c.admit_under-admitted.ensures in
     let ok : Unrefused c.args.table.now c.args.sheet.now (check c.args.table.now c.args.values.now c.args.cells.now) 2 c.args.allowance (length c.args.work.now) = passed_under c.args.table.now c.args.sheet.now (check c.args.table.now c.args.values.now c.args.cells.now) 2 c.args.allowance (length c.args.work.now) (sym (ap evaluates asked) ∙ sym c.evaluates.ensures ∙ c.if-not-evaluates.false) in
     let formed : WellFormed 512 c.args.table.now = admission-sound 512 c.args.table.now ok.admitted in
-    omega (arith, formed.some, ok.long, c.fill.auto.1.1.1.1.0)
+    omega (arith, formed.some, ok.long, c.fill.auto.work)
 
 pub returns : goal.returns
 returns c =
@@ -95,10 +93,5 @@ returns c =
     ∙ ap (λ (ts : List ℕ). numbers w I (terms w) ++ ts ++ rest) (truths_alike w (marks_by c.said-said.result) marked I (row-marks 512 w c.args.sheet.now c.said-said.result formed c.said-said.ensures)) in
     let rule = ap (λ (l : List ℕ). holds (get_or l (terms w - 1) 0)) filled ∙ rule_read w marked I rest some in
     let condition = ap (λ (l : List ℕ). holds (get_or l (terms w + (terms w - 1)) 0)) filled ∙ condition_read w marked I rest some in
-    let is = c.answered-2.ensures ∙ ap₂ (λ (x y : Bool). verdict_by c.ready-answer.result x y) rule condition ∙ ap (λ (x : Evaluation). verdict_by x (rule_in w I) (rule_condition w marked I)) asked in (
-      is,
-      (
-        filled ∙ room_filled c.ready-answer.result _ _ w marked I c.args.work.now on ∙ ap (λ (j : Judgement). room_after j w c.args.sheet.now c.args.values.now c.args.cells.now c.args.work.now) (sym c.answered-2.ensures),
-        subst (JudgementPromise w c.args.sheet.now c.args.values.now c.args.cells.now) (sym is) (demand3 w c.args.sheet.now c.args.values.now c.args.cells.now c.args.allowance (length c.args.work.now)),
-      ),
-    )
+    let is = c.answered-2.ensures ∙ ap₂ (λ (x y : Bool). verdict_by c.ready-answer.result x y) rule condition ∙ ap (λ (x : Evaluation). verdict_by x (rule_in w I) (rule_condition w marked I)) asked in
+    record { value = is; work_after = filled ∙ room_filled c.ready-answer.result _ _ w marked I c.args.work.now on ∙ ap (λ (j : Judgement). room_after j w c.args.sheet.now c.args.values.now c.args.cells.now c.args.work.now) (sym c.answered-2.ensures); judgement_promise = subst (JudgementPromise w c.args.sheet.now c.args.values.now c.args.cells.now) (sym is) (demand3 w c.args.sheet.now c.args.values.now c.args.cells.now c.args.allowance (length c.args.work.now)) }

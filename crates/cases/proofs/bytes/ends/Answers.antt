@@ -2,6 +2,3 @@ use Rattle.cases.proofs.bytes.ends.Goals as goal
 
 pub returns : goal.returns
 returns c = rw c.white.ensures
-
-pub white-requires : goal.white-requires
-white-requires c = tt

@@ -13,6 +13,3 @@ returns-then-l-lt4294967296 c = rw (not-false c.args.l.digits c.if-not-l.false, 
 pub returns : goal.returns
 unfolding classified
 returns c = rw (not-false c.args.l.digits c.if-not-l.false, le-ltb _ _ c.if-l-lt4294967296.false)
-
-pub heading-requires : goal.heading-requires
-heading-requires c = tt

@@ -23,17 +23,5 @@ pub returns : goal.returns
 unfolding lexed
 returns c = rw (ne_eqb _ _ c.if-b-eq10.false, c.if-l.false, ne_eqb _ _ c.if-b-eq59.false, sym c.white.ensures ∙ c.if-white.false) c.inside.ensures
 
-pub fresh-requires : goal.fresh-requires
-fresh-requires c = tt
-
-pub commenting-requires : goal.commenting-requires
-commenting-requires c = tt
-
-pub white-requires : goal.white-requires
-white-requires c = tt
-
 pub fresh-requires-then-white : goal.fresh-requires-then-white
 fresh-requires-then-white c = tt
-
-pub inside-requires : goal.inside-requires
-inside-requires c = tt

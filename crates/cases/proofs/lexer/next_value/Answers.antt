@@ -31,6 +31,3 @@ returns-then-digit-value c = rw (sym (ap (λ (x : Bool). x && ltb c.args.value 4
 
 pub returns-else-digit-value : goal.returns-else-digit-value
 returns-else-digit-value c = rw (sym (ap (λ (x : Bool). x && ltb c.args.value 4294967296) c.digit.ensures) ∙ c.if-digit-value.false)
-
-pub digit-requires : goal.digit-requires
-digit-requires c = tt

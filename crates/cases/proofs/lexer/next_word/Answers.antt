@@ -31,6 +31,3 @@ returns-then-letter-word c = rw (sym (ap (λ (x : Bool). x && ltb c.args.word 36
 
 pub returns-else-letter-word : goal.returns-else-letter-word
 returns-else-letter-word c = rw (sym (ap (λ (x : Bool). x && ltb c.args.word 36028797018963968) c.letter.ensures) ∙ c.if-letter-word.false)
-
-pub letter-requires : goal.letter-requires
-letter-requires c = tt

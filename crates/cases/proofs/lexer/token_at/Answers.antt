@@ -7,9 +7,3 @@ returns-then-l-ends c = rw (sym (ap (λ (x : Bool). c.args.l.token && x) c.ends.
 
 pub returns-else-l-ends : goal.returns-else-l-ends
 returns-else-l-ends c = rw (sym (ap (λ (x : Bool). c.args.l.token && x) c.ends.ensures) ∙ c.if-l-ends.false)
-
-pub ends-requires : goal.ends-requires
-ends-requires c = tt
-
-pub classified-requires : goal.classified-requires
-classified-requires c = tt

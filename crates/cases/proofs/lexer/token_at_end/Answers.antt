@@ -5,6 +5,3 @@ returns-then-l-whole c = rw c.if-l-whole.true c.classified.ensures
 
 pub returns-else-l-whole : goal.returns-else-l-whole
 returns-else-l-whole c = rw c.if-l-whole.false
-
-pub classified-requires : goal.classified-requires
-classified-requires c = tt

@@ -9,6 +9,3 @@ returns-then-s-eq0 c = rw (eq-eqb _ _ c.if-s-eq0.true) c.even.ensures
 pub returns-else-s-eq0 : goal.returns-else-s-eq0
 unfolding odd_after
 returns-else-s-eq0 c = rw (ne_eqb _ _ c.if-s-eq0.false)
-
-pub even-requires : goal.even-requires
-even-requires c = tt

@@ -1,4 +1,3 @@
-use Prim.Native.Nat.{◌-◌}
 use mathlib.Core.Path.{◌≡◌, sym, ap, ◌∙◌}
 use mathlib.Core.List.{List, []}
 use lib.ListN.{get_or}
@@ -31,30 +30,3 @@ pub returns-else-last-left : goal.returns-else-last-left
 returns-else-last-left c =
     let ended : nth c.loop-i.left (hitting c.belongs-last.result c.loop-i.line []) ≡ nth c.args.k (lines_within c.args.heading c.args.part c.args.text.now c.args.whole) = reached-all c.args.heading c.args.part c.args.whole c.args.text.now nth c.args.k c.loop-i.l c.loop-i.now c.loop-i.line c.loop-i.left c.loop-i.i c.loop-i.invariant c.loop-i-test.false c.token_at_end.result c.token_at_end.ensures c.belongs-last.result c.belongs-last.ensures in
     sym (nth_on c.belongs-last.result c.loop-i.left c.loop-i.line c.if-last-left.false []) ∙ ended
-
-pub fresh-l-requires : goal.fresh-l-requires
-fresh-l-requires c = tt
-
-pub token_at-token-requires : goal.token_at-token-requires
-token_at-token-requires c = tt
-
-pub belongs-hit-requires : goal.belongs-hit-requires
-belongs-hit-requires c = tt
-
-pub fewer-left-requires : goal.fewer-left-requires
-fewer-left-requires c = tt
-
-pub part_after-now-requires : goal.part_after-now-requires
-part_after-now-requires c = tt
-
-pub feed-line-requires : goal.feed-line-requires
-feed-line-requires c = tt
-
-pub lexed-l-requires : goal.lexed-l-requires
-lexed-l-requires c = tt
-
-pub token_at_end-requires : goal.token_at_end-requires
-token_at_end-requires c = tt
-
-pub belongs-last-requires : goal.belongs-last-requires
-belongs-last-requires c = tt

@@ -1,4 +1,4 @@
-use Prim.Native.Nat.{ℕ, ◌+◌, ◌-◌, ◌≤◌}
+use Prim.Native.Nat.{ℕ, ◌+◌, ◌≤◌}
 use mathlib.Core.Path.{◌≡◌, sym, ap, subst, ◌∙◌}
 use mathlib.Core.Bool.{Bool, false, ◌&&◌}
 use mathlib.Core.List.{List, []}
@@ -51,39 +51,3 @@ returns c =
     ∙ ap (λ (s : OddLine). odd_after s []) c.counted.ensures
     ∙ sym (odd_on c.belongs-last.result c.loop-i.s c.loop-i.line (sym (ap (λ (x : Bool). c.belongs-last.result && x) c.odd-2.ensures) ∙ c.if-last-odd.false) [])
     ∙ ended
-
-pub fresh-l-requires : goal.fresh-l-requires
-fresh-l-requires c = tt
-
-pub even-s-requires : goal.even-s-requires
-even-s-requires c = tt
-
-pub token_at-token-requires : goal.token_at-token-requires
-token_at-token-requires c = tt
-
-pub belongs-hit-requires : goal.belongs-hit-requires
-belongs-hit-requires c = tt
-
-pub odd-requires : goal.odd-requires
-odd-requires c = tt
-
-pub part_after-now-requires : goal.part_after-now-requires
-part_after-now-requires c = tt
-
-pub feed-line-requires : goal.feed-line-requires
-feed-line-requires c = tt
-
-pub lexed-l-requires : goal.lexed-l-requires
-lexed-l-requires c = tt
-
-pub token_at_end-requires : goal.token_at_end-requires
-token_at_end-requires c = tt
-
-pub belongs-last-requires : goal.belongs-last-requires
-belongs-last-requires c = tt
-
-pub odd-requires-2 : goal.odd-requires-2
-odd-requires-2 c = tt
-
-pub closed-requires : goal.closed-requires
-closed-requires c = tt

@@ -1,4 +1,3 @@
-use Prim.Native.Nat.{◌-◌}
 use mathlib.Core.Path.{ap, ◌∙◌}
 use lib.ListN.{length}
 use Rattle.cases.specs.Parsing.{taken}
@@ -16,24 +15,3 @@ returns c =
     c.taken.ensures
     ∙ ap (taken c.args.room (length c.args.text.now) c.loop-i.p) c.token_at_end.ensures
     ∙ parsed_all c.args.whole c.args.room c.args.text.now c.loop-i.l c.loop-i.p c.loop-i.i c.loop-i.invariant c.loop-i-test.false
-
-pub fresh-l-requires : goal.fresh-l-requires
-fresh-l-requires c = tt
-
-pub start-p-requires : goal.start-p-requires
-start-p-requires c = tt
-
-pub token_at-requires : goal.token_at-requires
-token_at-requires c = tt
-
-pub taken-p-requires : goal.taken-p-requires
-taken-p-requires c = tt
-
-pub lexed-l-requires : goal.lexed-l-requires
-lexed-l-requires c = tt
-
-pub token_at_end-requires : goal.token_at_end-requires
-token_at_end-requires c = tt
-
-pub taken-requires : goal.taken-requires
-taken-requires c = tt

@@ -2,6 +2,3 @@ use Rattle.cases.proofs.parser.table_full.Goals as goal
 
 pub returns : goal.returns
 returns c = rw c.size.ensures
-
-pub size-requires : goal.size-requires
-size-requires c = tt

@@ -19,14 +19,5 @@ returns-in-Unknown c = rw (eq-eqb _ _ c.if-p-ne0.false, c.in-Unknown.is) c.faile
 pub returns-in-TooLarge : goal.returns-in-TooLarge
 returns-in-TooLarge c = rw (eq-eqb _ _ c.if-p-ne0.false, c.in-TooLarge.is) c.failed-in-TooLarge.ensures
 
-pub counted-requires : goal.counted-requires
-counted-requires c = tt
-
-pub headed-requires : goal.headed-requires
-headed-requires c = tt
-
-pub failed-requires : goal.failed-requires
-failed-requires c = tt
-
 pub failed-requires-in-TooLarge : goal.failed-requires-in-TooLarge
 failed-requires-in-TooLarge c = tt

@@ -15,9 +15,3 @@ returns c = back_none c.args.lines c.args.text.now c.loop-k.k c.loop-k-test.fals
 
 pub loop-k-init : goal.loop-k-init
 loop-k-init c = refl
-
-pub byte_at-requires : goal.byte_at-requires
-byte_at-requires c = tt
-
-pub stops-requires : goal.stops-requires
-stops-requires c = tt

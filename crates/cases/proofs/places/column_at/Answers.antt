@@ -5,6 +5,3 @@ use Rattle.cases.proofs.places.column_at.Goals as goal
 
 pub overflow_sub-result : goal.overflow_sub-result
 overflow_sub-result c = omega (arith, c.back_to-start.ensures, back-most true c.args.text.now c.args.at)
-
-pub back_to-start-requires : goal.back_to-start-requires
-back_to-start-requires c = tt

@@ -1,4 +1,4 @@
-use Prim.Native.Nat.{ℕ, ◌+◌, ◌-◌, ◌<◌}
+use Prim.Native.Nat.{ℕ, ◌+◌, ◌<◌}
 use mathlib.Core.Path.{ap, ◌∙◌}
 use mathlib.Core.List.{List}
 use lib.ListN.{length, take, get_or}
@@ -28,9 +28,3 @@ returns c =
     lined_all c.args.text.now c.lower-end.result c.loop-i.line c.loop-i.i c.loop-i.invariant c.loop-i-test.false
     ∙ ap (λ (k : ℕ). 1 + feeds (take k c.args.text.now)) c.lower-end.ensures
     ∙ ap (λ (t : List ℕ). 1 + feeds t) (take-lower c.args.at c.args.text.now)
-
-pub lower-end-requires : goal.lower-end-requires
-lower-end-requires c = tt
-
-pub feed-line-requires : goal.feed-line-requires
-feed-line-requires c = tt

@@ -5,6 +5,3 @@ returns-then-lines c = rw c.if-lines.true
 
 pub returns-else-lines : goal.returns-else-lines
 returns-else-lines c = rw c.if-lines.false c.ends.ensures
-
-pub ends-requires : goal.ends-requires
-ends-requires c = tt

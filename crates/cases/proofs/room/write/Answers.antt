@@ -1,4 +1,3 @@
-use Prim.Native.Nat.{◌-◌}
 use mathlib.Core.Path.{ap, ◌∙◌}
 use lib.ListN.{length}
 use Rattle.cases.specs.Lexing.{fresh, lex}
@@ -21,21 +20,3 @@ returns c =
     ∙ ap (put c.loop-i.numbers c.loop-i.n) c.token_at_end.ensures
     ∙ written_all c.args.whole c.args.text.now c.args.numbers.now c.loop-i.numbers c.loop-i.l c.loop-i.n c.loop-i.i c.loop-i.invariant c.loop-i-test.false
     ∙ written c.args.numbers.now (lex c.args.whole fresh c.args.text.now) c.requires
-
-pub fresh-l-requires : goal.fresh-l-requires
-fresh-l-requires c = tt
-
-pub token_at-requires : goal.token_at-requires
-token_at-requires c = tt
-
-pub put-n-requires : goal.put-n-requires
-put-n-requires c = tt
-
-pub lexed-l-requires : goal.lexed-l-requires
-lexed-l-requires c = tt
-
-pub token_at_end-requires : goal.token_at_end-requires
-token_at_end-requires c = tt
-
-pub put-requires : goal.put-requires
-put-requires c = tt

@@ -33,9 +33,6 @@ returns-in-FirstIndex c = rw (c.vector_sort-in-FirstIndex.ensures, c.in-FirstInd
 pub returns-in-FirstElement : goal.returns-in-FirstElement
 returns-in-FirstElement c = rw (c.vector_sort-in-FirstElement.ensures, c.in-FirstElement.is)
 
-pub vector_sort-requires : goal.vector_sort-requires
-vector_sort-requires c = tt
-
 pub vector_sort-requires-in-ABool : goal.vector_sort-requires-in-ABool
 vector_sort-requires-in-ABool c = tt
 

@@ -36,30 +36,6 @@ returns-in-Write c = rw (c.four-in-Write.ensures, c.of-in-Write.ensures, c.of-in
 pub returns-in-Other : goal.returns-in-Other
 returns-in-Other c = rw (c.four-in-Other.ensures, c.no-none.ensures, c.in-Other.is)
 
-pub no-none-requires : goal.no-none-requires
-no-none-requires c = tt
-
-pub of-bool0-requires : goal.of-bool0-requires
-of-bool0-requires c = tt
-
-pub of-bool1-requires : goal.of-bool1-requires
-of-bool1-requires c = tt
-
-pub of-term1-requires : goal.of-term1-requires
-of-term1-requires c = tt
-
-pub of-term2-requires : goal.of-term2-requires
-of-term2-requires c = tt
-
-pub of-first2-requires : goal.of-first2-requires
-of-first2-requires c = tt
-
-pub of-requires : goal.of-requires
-of-requires c = tt
-
-pub four-requires : goal.four-requires
-four-requires c = tt
-
 pub four-requires-in-Input : goal.four-requires-in-Input
 four-requires-in-Input c = tt
 

@@ -33,26 +33,8 @@ returns-in-FirstIndex c = rw (c.vector_of-in-FirstIndex.ensures, c.in-FirstIndex
 pub returns-in-FirstElement : goal.returns-in-FirstElement
 returns-in-FirstElement c = rw (c.vector_of-in-FirstElement.ensures, c.in-FirstElement.is)
 
-pub boolean-requires : goal.boolean-requires
-boolean-requires c = tt
-
-pub vector-requires : goal.vector-requires
-vector-requires c = tt
-
-pub array-requires : goal.array-requires
-array-requires c = tt
-
-pub scalar-requires : goal.scalar-requires
-scalar-requires c = tt
-
-pub same_sort-requires : goal.same_sort-requires
-same_sort-requires c = tt
-
 pub same_sort-requires-in-FirstSort : goal.same_sort-requires-in-FirstSort
 same_sort-requires-in-FirstSort c = tt
-
-pub vector_of-requires : goal.vector_of-requires
-vector_of-requires c = tt
 
 pub vector_of-requires-in-TermElement : goal.vector_of-requires-in-TermElement
 vector_of-requires-in-TermElement c = tt

@@ -10,21 +10,3 @@ returns c =
       c.entry-2.ensures,
       c.entry.ensures,
     )
-
-pub entry-requires : goal.entry-requires
-entry-requires c = tt
-
-pub entry-requires-2 : goal.entry-requires-2
-entry-requires-2 c = tt
-
-pub entry-requires-3 : goal.entry-requires-3
-entry-requires-3 c = tt
-
-pub line_told-rest-requires : goal.line_told-rest-requires
-line_told-rest-requires c = tt
-
-pub plain-cut-requires : goal.plain-cut-requires
-plain-cut-requires c = tt
-
-pub unless-requires : goal.unless-requires
-unless-requires c = tt

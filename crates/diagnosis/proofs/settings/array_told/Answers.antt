@@ -2,15 +2,3 @@ use Rattle.diagnosis.proofs.settings.array_told.Goals as goal
 
 pub returns : goal.returns
 returns c = rw (c.unless.ensures, c.nothing.ensures, c.plain.ensures, c.array.ensures)
-
-pub array-requires : goal.array-requires
-array-requires c = tt
-
-pub plain-requires : goal.plain-requires
-plain-requires c = tt
-
-pub nothing-requires : goal.nothing-requires
-nothing-requires c = tt
-
-pub unless-requires : goal.unless-requires
-unless-requires c = tt

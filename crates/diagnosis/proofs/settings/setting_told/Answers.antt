@@ -30,41 +30,14 @@ pub returns : goal.returns
 unfolding setting_reasons
 returns c = rw (ne_eqb _ _ c.if-number-eq11.false, ne_eqb _ _ c.if-number-eq12.false, ne_eqb _ _ c.if-number-eq13.false, ne_eqb _ _ c.if-number-eq14.false, ne_eqb _ _ c.if-number-eq15.false, ne_eqb _ _ c.if-number-eq23.false, c.nothing.ensures)
 
-pub row_told-requires : goal.row_told-requires
-row_told-requires c = tt
-
-pub term_at-requires : goal.term_at-requires
-term_at-requires c = tt
-
-pub slot_told-requires : goal.slot_told-requires
-slot_told-requires c = tt
-
 pub term_at-requires-then-number-eq13 : goal.term_at-requires-then-number-eq13
 term_at-requires-then-number-eq13 c = tt
 
-pub given_told-requires : goal.given_told-requires
-given_told-requires c = tt
-
-pub cell_at-c-requires : goal.cell_at-c-requires
-cell_at-c-requires c = tt
-
 pub slot_sort-requires : goal.slot_sort-requires
 slot_sort-requires c = c.requires
-
-pub array_told-requires : goal.array_told-requires
-array_told-requires c = tt
 
 pub cell_at-c-requires-then-number-eq15 : goal.cell_at-c-requires-then-number-eq15
 cell_at-c-requires-then-number-eq15 c = tt
 
 pub slot_sort-requires-then-number-eq15 : goal.slot_sort-requires-then-number-eq15
 slot_sort-requires-then-number-eq15 c = c.requires
-
-pub cell_told-requires : goal.cell_told-requires
-cell_told-requires c = tt
-
-pub steps_told-requires : goal.steps_told-requires
-steps_told-requires c = tt
-
-pub nothing-requires : goal.nothing-requires
-nothing-requires c = tt

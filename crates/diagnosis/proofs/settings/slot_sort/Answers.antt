@@ -22,12 +22,3 @@ returns c = entry_none c.args.table.now c.args.slot c.loop-k.k c.loop-k-test.fal
 
 pub count-k-requires : goal.count-k-requires
 count-k-requires c = c.requires
-
-pub term_at-requires : goal.term_at-requires
-term_at-requires c = tt
-
-pub array_of-requires : goal.array_of-requires
-array_of-requires c = tt
-
-pub sort_at-requires : goal.sort_at-requires
-sort_at-requires c = tt

@@ -34,17 +34,8 @@ pub returns : goal.returns
 unfolding spot_at
 returns c = rw (c.if-number.false, ne_eqb _ _ c.if-number-eq11.false, ne_eqb _ _ c.if-number-eq13.false, c.if-number-2.false, ne_eqb _ _ c.if-number-eq16.false, ne_eqb _ _ c.if-number-eq23.false, c.if-number-3.false, c.number_of-2.ensures)
 
-pub word-requires : goal.word-requires
-word-requires c = tt
-
 pub word-requires-then-number-eq11 : goal.word-requires-then-number-eq11
 word-requires-then-number-eq11 c = tt
-
-pub term_at-requires : goal.term_at-requires
-term_at-requires c = tt
-
-pub number_of-requires : goal.number_of-requires
-number_of-requires c = tt
 
 pub number_of-requires-then-number-2 : goal.number_of-requires-then-number-2
 number_of-requires-then-number-2 c = tt
@@ -57,6 +48,3 @@ number_of-requires-then-number-eq23 c = tt
 
 pub number_of-requires-then-number-3 : goal.number_of-requires-then-number-3
 number_of-requires-then-number-3 c = tt
-
-pub number_of-requires-2 : goal.number_of-requires-2
-number_of-requires-2 c = tt

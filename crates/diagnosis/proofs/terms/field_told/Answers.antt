@@ -9,11 +9,5 @@ returns-in-Operand c = rw (c.of_field.ensures, c.in-Operand.is)
 pub returns-in-Unused : goal.returns-in-Unused
 returns-in-Unused c = rw (c.of_field-in-Unused.ensures, c.in-Unused.is)
 
-pub nothing-requires : goal.nothing-requires
-nothing-requires c = tt
-
-pub of_field-requires : goal.of_field-requires
-of_field-requires c = tt
-
 pub of_field-requires-in-Unused : goal.of_field-requires-in-Unused
 of_field-requires-in-Unused c = tt

@@ -31,9 +31,3 @@ returns c =
     let f = clashing c.args.table.now c.args.x in
     let same : c.args.i ≡ c.loop-k.k = omega (arith, c.loop-k-test.false, c.loop-k.invariant.0) in
     same ∙ sym (c.loop-k.invariant.1 ∙ first_past f c.args.i c.loop-k.k c.loop-k-test.false)
-
-pub term_at-requires : goal.term_at-requires
-term_at-requires c = tt
-
-pub clashes-requires : goal.clashes-requires
-clashes-requires c = tt

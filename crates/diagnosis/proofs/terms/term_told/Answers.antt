@@ -34,29 +34,5 @@ pub returns : goal.returns
 unfolding term_reasons
 returns c = rw (ne_eqb _ _ c.if-number-eq3.false, ne_eqb _ _ c.if-number-eq4.false, ne_eqb _ _ c.if-number-eq5.false, ne_eqb _ _ c.if-number-eq6.false, ne_eqb _ _ c.if-number-eq7.false, ne_eqb _ _ c.if-number-eq8.false, ne_eqb _ _ c.if-number-eq9.false, c.rule_told.ensures)
 
-pub term_at-x-requires : goal.term_at-x-requires
-term_at-x-requires c = tt
-
-pub op_told-requires : goal.op_told-requires
-op_told-requires c = tt
-
-pub width_told-requires : goal.width_told-requires
-width_told-requires c = tt
-
-pub fields_told-requires : goal.fields_told-requires
-fields_told-requires c = tt
-
-pub sort_told-requires : goal.sort_told-requires
-sort_told-requires c = tt
-
-pub value_told-requires : goal.value_told-requires
-value_told-requires c = tt
-
 pub clashing_told-requires : goal.clashing_told-requires
 clashing_told-requires c = c.term_at-x.ensures
-
-pub size_told-requires : goal.size_told-requires
-size_told-requires c = tt
-
-pub rule_told-requires : goal.rule_told-requires
-rule_told-requires c = tt

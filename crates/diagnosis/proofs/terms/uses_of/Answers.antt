@@ -15,9 +15,6 @@ returns-in-Two c = rw (c.held-in-Two.ensures, c.in-Two.is)
 pub returns-in-Three : goal.returns-in-Three
 returns-in-Three c = rw (c.held-in-Three.ensures, c.in-Three.is)
 
-pub held-requires : goal.held-requires
-held-requires c = tt
-
 pub held-requires-in-Slot : goal.held-requires-in-Slot
 held-requires-in-Slot c = tt
 

@@ -7,9 +7,8 @@ use Rattle.groups.proofs.groups.bounds.Goals as goal
 pub returns : goal.returns
 unfolding placed_from
 returns c =
-    let b = c.args.b in (
-      c.grown.ensures,
-      (three_laid b 6 c.lay_three-3.ensures
+    let b = c.args.b in
+    record { value = c.grown.ensures; room_after = (three_laid b 6 c.lay_three-3.ensures
           c.or_term.ensures
           c.and_term-3.ensures
           c.or_term-2.ensures
@@ -21,8 +20,7 @@ returns c =
           c.constant_term.ensures
           c.equal_term.ensures
           c.and_term.ensures
-          refl))),
-    )
+          refl))) }
 
 pub constant_term-requires : goal.constant_term-requires
 constant_term-requires c = record {}
@@ -85,4 +83,4 @@ pub grown-requires : goal.grown-requires
 grown-requires c = (c.requires, (lit≤ tt, lit≤ tt))
 
 pub shape_of-room : goal.shape_of-room
-shape_of-room c = c.lay_three-3.auto.0 ∙ c.lay_three-2.auto.0 ∙ c.lay_three.auto.0
+shape_of-room c = c.lay_three-3.auto.room ∙ c.lay_three-2.auto.room ∙ c.lay_three.auto.room

@@ -7,9 +7,8 @@ use Rattle.groups.proofs.groups.conjunction.Goals as goal
 pub returns : goal.returns
 unfolding placed_from
 returns c =
-    let b = c.args.b in (
-      c.grown.ensures,
-      (two_laid b 5 c.lay_two-2.ensures
+    let b = c.args.b in
+    record { value = c.grown.ensures; room_after = (two_laid b 5 c.lay_two-2.ensures
           c.and_term-3.ensures
           c.or_term-2.ensures
           (two_laid b 3 c.lay_two.ensures
@@ -19,8 +18,7 @@ returns c =
           c.not_term.ensures
           c.and_term.ensures
           c.not_term-2.ensures
-          refl))),
-    )
+          refl))) }
 
 pub not_term-requires : goal.not_term-requires
 not_term-requires c = record {}
@@ -71,4 +69,4 @@ pub grown-requires : goal.grown-requires
 grown-requires c = (c.requires, (lit≤ tt, lit≤ tt))
 
 pub shape_of-room : goal.shape_of-room
-shape_of-room c = c.lay_two-2.auto.0 ∙ c.lay_two.auto.0 ∙ c.lay_three.auto.0
+shape_of-room c = c.lay_two-2.auto.room ∙ c.lay_two.auto.room ∙ c.lay_three.auto.room

@@ -7,9 +7,8 @@ use Rattle.groups.proofs.groups.shift.Goals as goal
 pub returns : goal.returns
 unfolding placed_from
 returns c =
-    let b = c.args.b in (
-      c.grown.ensures,
-      (three_laid b 3 c.lay_three-2.ensures
+    let b = c.args.b in
+    record { value = c.grown.ensures; room_after = (three_laid b 3 c.lay_three-2.ensures
           c.and_term.ensures
           c.and_term-2.ensures
           c.or_term.ensures
@@ -17,8 +16,7 @@ returns c =
           c.constant_term.ensures
           c.less_term.ensures
           c.not_term.ensures
-          refl)),
-    )
+          refl)) }
 
 pub constant_term-requires : goal.constant_term-requires
 constant_term-requires c = record {}
@@ -60,4 +58,4 @@ pub grown-requires : goal.grown-requires
 grown-requires c = (c.requires, (lit≤ tt, lit≤ tt))
 
 pub shape_of-room : goal.shape_of-room
-shape_of-room c = c.lay_three-2.auto.0 ∙ c.lay_three.auto.0
+shape_of-room c = c.lay_three-2.auto.room ∙ c.lay_three.auto.room

@@ -4,4 +4,4 @@ use Rattle.groups.proofs.groups.strict.Goals as goal
 
 pub returns : goal.returns
 unfolding placed_from
-returns c = (c.grown.ensures, rw (c.put_and.ensures, add-zero c.args.b))
+returns c = record { value = c.grown.ensures; room_after = rw (c.put_and.ensures, add-zero c.args.b) }

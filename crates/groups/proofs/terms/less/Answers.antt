@@ -32,4 +32,4 @@ pub returns : goal.returns
 returns c =
     let e =
     group-is c.args.b c.args.x c.args.cp c.args.cq _ _ _ _ c.args.signed (ap (λ (y : Sort). y.n) c.sort_at-sort.ensures) c.highest.ensures c.lowest.ensures in
-    (c.bounds.ensures.value ∙ ap (after c.args.b) e, c.bounds.ensures.room_after ∙ ap (placed_all c.args.room.now c.args.b) e)
+    record { value = c.bounds.ensures.value ∙ ap (after c.args.b) e; room_after = c.bounds.ensures.room_after ∙ ap (placed_all c.args.room.now c.args.b) e }

@@ -35,7 +35,7 @@ loop-i-preserved c =
     let plain : is_read_at c.args.table.now c.loop-i.i ≡ false = sym (c.is_read.ensures ∙ ap is_read c.term_at.ensures) ∙ c.if-is_read.false in
     let wrote = c.note.ensures ∙ ap (λ (r : Labelled). entered r c.args.terms c.loop-i.work c.loop-i.i) c.plain_here-r.ensures in (
       subst (Going (is_read_at c.args.table.now) write c.args.terms c.args.at c.args.work.now _) (sym wrote) (go_on (is_read_at c.args.table.now) write c.args.terms c.args.at c.args.work.now c.loop-i.i c.loop-i.work c.loop-i.invariant.0 c.loop-i-test.true plain),
-      c.note.auto.0 ∙ c.loop-i.invariant.1,
+      c.note.auto.work ∙ c.loop-i.invariant.1,
     )
 
 pub shape_of-work-after-loop-i : goal.shape_of-work-after-loop-i
@@ -43,7 +43,9 @@ shape_of-work-after-loop-i c = c.loop-i.invariant.1
 
 -- past the last term
 pub returns-after-loop-i : goal.returns-after-loop-i
-returns-after-loop-i c = passed (is_read_at c.args.table.now) (plain_noted c.args.table.now (marks_by c.args.said.now) c.args.values.now c.args.terms) c.args.terms c.args.at c.args.work.now c.loop-i.i c.loop-i.work c.loop-i.invariant.0 c.loop-i-test.false
+returns-after-loop-i c =
+    let both = passed (is_read_at c.args.table.now) (plain_noted c.args.table.now (marks_by c.args.said.now) c.args.values.now c.args.terms) c.args.terms c.args.at c.args.work.now c.loop-i.i c.loop-i.work c.loop-i.invariant.0 c.loop-i-test.false in
+    record { value = both.0; work_after = both.1 }
 
 pub shape_of-work-then-is_read : goal.shape_of-work-then-is_read
 shape_of-work-then-is_read c = c.loop-i.invariant.1
@@ -52,4 +54,5 @@ shape_of-work-then-is_read c = c.loop-i.invariant.1
 pub returns-then-is_read : goal.returns-then-is_read
 returns-then-is_read c =
     let stops : is_read_at c.args.table.now c.loop-i.i ≡ true = sym (c.is_read.ensures ∙ ap is_read c.term_at.ensures) ∙ c.if-is_read.true in
-    stopped (is_read_at c.args.table.now) (plain_noted c.args.table.now (marks_by c.args.said.now) c.args.values.now c.args.terms) c.args.terms c.args.at c.args.work.now c.loop-i.i c.loop-i.work c.loop-i.invariant.0 c.loop-i-test.true stops
+    let both = stopped (is_read_at c.args.table.now) (plain_noted c.args.table.now (marks_by c.args.said.now) c.args.values.now c.args.terms) c.args.terms c.args.at c.args.work.now c.loop-i.i c.loop-i.work c.loop-i.invariant.0 c.loop-i-test.true stops in
+    record { value = both.0; work_after = both.1 }

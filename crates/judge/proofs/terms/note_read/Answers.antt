@@ -8,9 +8,9 @@ use Rattle.judge.proofs.terms.note_read.Goals as goal
 pub returns-then-not-is_read : goal.returns-then-not-is_read
 returns-then-not-is_read c =
     let plain = sym (c.is_read.ensures ∙ ap (λ (y : Term). is_read y) c.term_at.ensures) ∙ c.if-not-is_read.true in
-    (rw plain, rw plain)
+    record { value = rw plain; work_after = rw plain }
 
 pub returns : goal.returns
 returns c =
     let reads = sym (c.is_read.ensures ∙ ap (λ (y : Term). is_read y) c.term_at.ensures) ∙ c.if-not-is_read.false in
-    (rw reads, c.note.ensures ∙ ap (λ (r : Labelled). entered r c.args.terms c.args.work.now c.args.at) c.read_here-r.ensures ∙ rw reads)
+    record { value = rw reads; work_after = c.note.ensures ∙ ap (λ (r : Labelled). entered r c.args.terms c.args.work.now c.args.at) c.read_here-r.ensures ∙ rw reads }

@@ -37,7 +37,7 @@ returns-then-room-at c =
     ∙ ap (λ (x : Span). part text x.from x.to ++ (10 ∷ [])) c.span_of-s.ensures in
     let kept : length c.loop-k.room ≡ length c.args.room.now = filled_length c.args.text.now c.args.room.now c.args.names c.loop-k.room c.loop-k.at c.loop-k.k c.loop-k.invariant in
     let r = filled_stop c.args.text.now c.args.room.now c.args.names c.loop-k.room c.loop-k.at c.loop-k.k c.loop-k.invariant c.loop-k-test.true name name_is (omega (arith, name-length, kept, c.if-room-at.true)) in
-    (r.count, r.room_is)
+    record { value = r.count; room_after = r.room_is }
 
 pub put_line-requires : goal.put_line-requires
 unfolding name
@@ -78,7 +78,7 @@ shape_of-room c = filled_length c.args.text.now c.args.room.now c.args.names c.l
 pub returns : goal.returns
 returns c =
     let r = filled_all c.args.text.now c.args.room.now c.args.names c.loop-k.room c.loop-k.at c.loop-k.k c.loop-k.invariant c.loop-k-test.false in
-    (r.count, r.room_is)
+    record { value = r.count; room_after = r.room_is }
 
 pub loop-k-init : goal.loop-k-init
 loop-k-init c = none_filled c.args.text.now c.args.room.now c.args.names

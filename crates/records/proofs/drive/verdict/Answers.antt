@@ -6,7 +6,7 @@ use Rattle.judge.proofs.Verdicts.{stands}
 use Rattle.records.proofs.drive.verdict.Goals as goal
 
 pub returns-then-not-evaluates : goal.returns-then-not-evaluates
-returns-then-not-evaluates c = (c.answered.ensures ∙ stands c.args.answer _ _ _ _ (sym c.evaluates.ensures ∙ c.if-not-evaluates.true), refl)
+returns-then-not-evaluates c = record { value = c.answered.ensures ∙ stands c.args.answer _ _ _ _ (sym c.evaluates.ensures ∙ c.if-not-evaluates.true); work_unchanged = refl }
 
 pub overflow_sub-last : goal.overflow_sub-last
 overflow_sub-last c =
@@ -24,4 +24,4 @@ bounds-work-n c =
     omega (arith, c.requires on)
 
 pub returns : goal.returns
-returns c = (c.answered-2.ensures, refl)
+returns c = record { value = c.answered-2.ensures; work_unchanged = refl }

@@ -1,16 +1,11 @@
 use Prim.Native.Nat.{ℕ, ◌-◌, ◌≤◌, ◌<◌}
 use mathlib.Core.Path.{◌≡◌, sym, ap, ◌∙◌}
-use mathlib.Core.Bool.{Bool}
-use mathlib.Core.List.{List}
 use native.Mathlib.Omega.{arith}
 use Rattle.table.specs.Folds.{first_from}
 use Rattle.table.proofs.Searches.{first_on, first-here, first_past}
-use Rattle.sheets.specs.Marks.{line_at, line_count, speaks}
+use Rattle.sheets.specs.Marks.{line_count, speaks}
+use Rattle.sheets.proofs.slots.first_of.Invariants.{tests}
 use Rattle.sheets.proofs.slots.first_of.Goals as goal
-
--- whether line k is of the kind and names the slot
-abbrev tests : List ℕ → ℕ → ℕ → ℕ → Bool
-tests sheet kind slot k = speaks kind slot (line_at sheet k)
 
 pub loop-k-init : goal.loop-k-init
 loop-k-init c =

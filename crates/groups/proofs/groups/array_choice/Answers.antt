@@ -8,7 +8,9 @@ pub returns : goal.returns
 unfolding placed_from
 returns c =
     let b = c.args.b in
-    record { value = c.grown.ensures; room_after = (two_laid b 6 c.lay_two.ensures
+    record {
+      value = c.grown.ensures;
+      room_after = (two_laid b 6 c.lay_two.ensures
           c.and_term-3.ensures
           c.or_term.ensures
           (three_laid b 3 c.lay_three-2.ensures
@@ -19,7 +21,8 @@ returns c =
           c.read_term.ensures
           c.read_term-2.ensures
           c.choice_term.ensures
-          refl))) }
+          refl)));
+    }
 
 pub read_term-requires : goal.read_term-requires
 read_term-requires c = record {}

@@ -8,7 +8,9 @@ pub returns : goal.returns
 unfolding placed_from
 returns c =
     let b = c.args.b in
-    record { value = c.grown.ensures; room_after = (three_laid b 3 c.lay_three-2.ensures
+    record {
+      value = c.grown.ensures;
+      room_after = (three_laid b 3 c.lay_three-2.ensures
           c.equal_term.ensures
           c.and_term-3.ensures
           c.or_term.ensures
@@ -16,7 +18,8 @@ returns c =
           c.choice_term.ensures
           c.and_term.ensures
           c.and_term-2.ensures
-          refl)) }
+          refl));
+    }
 
 pub choice_term-requires : goal.choice_term-requires
 choice_term-requires c = record {}

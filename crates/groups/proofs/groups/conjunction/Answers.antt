@@ -8,7 +8,9 @@ pub returns : goal.returns
 unfolding placed_from
 returns c =
     let b = c.args.b in
-    record { value = c.grown.ensures; room_after = (two_laid b 5 c.lay_two-2.ensures
+    record {
+      value = c.grown.ensures;
+      room_after = (two_laid b 5 c.lay_two-2.ensures
           c.and_term-3.ensures
           c.or_term-2.ensures
           (two_laid b 3 c.lay_two.ensures
@@ -18,7 +20,8 @@ returns c =
           c.not_term.ensures
           c.and_term.ensures
           c.not_term-2.ensures
-          refl))) }
+          refl)));
+    }
 
 pub not_term-requires : goal.not_term-requires
 not_term-requires c = record {}

@@ -8,14 +8,17 @@ pub returns : goal.returns
 unfolding placed_from
 returns c =
     let b = c.args.b in
-    record { value = c.grown.ensures; room_after = (two_laid b 3 c.lay_two.ensures
+    record {
+      value = c.grown.ensures;
+      room_after = (two_laid b 3 c.lay_two.ensures
           c.and_term-3.ensures
           c.or_term-2.ensures
           (three_laid b 0 c.lay_three.ensures
           c.and_term.ensures
           c.and_term-2.ensures
           c.or_term.ensures
-          refl)) }
+          refl));
+    }
 
 pub and_term-requires : goal.and_term-requires
 and_term-requires c = record {}

@@ -8,7 +8,9 @@ pub returns : goal.returns
 unfolding placed_from
 returns c =
     let b = c.args.b in
-    record { value = c.grown.ensures; room_after = (three_laid b 3 c.lay_three-2.ensures
+    record {
+      value = c.grown.ensures;
+      room_after = (three_laid b 3 c.lay_three-2.ensures
           c.and_term.ensures
           c.and_term-2.ensures
           c.or_term.ensures
@@ -16,7 +18,8 @@ returns c =
           c.constant_term.ensures
           c.less_term.ensures
           c.not_term.ensures
-          refl)) }
+          refl));
+    }
 
 pub constant_term-requires : goal.constant_term-requires
 constant_term-requires c = record {}

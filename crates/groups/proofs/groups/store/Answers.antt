@@ -8,7 +8,9 @@ pub returns : goal.returns
 unfolding placed_from
 returns c =
     let b = c.args.b in
-    record { value = c.grown.ensures; room_after = (three_laid b 6 c.lay_three-3.ensures
+    record {
+      value = c.grown.ensures;
+      room_after = (three_laid b 6 c.lay_three-3.ensures
           c.and_term-3.ensures
           c.and_term-4.ensures
           c.or_term.ensures
@@ -20,7 +22,8 @@ returns c =
           c.read_term.ensures
           c.equal_term.ensures
           c.choice_term.ensures
-          refl))) }
+          refl)));
+    }
 
 pub read_term-requires : goal.read_term-requires
 read_term-requires c = record {}

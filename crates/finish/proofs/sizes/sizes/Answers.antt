@@ -27,7 +27,9 @@ overflow_add-sum c =
     omega (arith, c.requires.few, one_more-fits c.args.table.now c.count-terms.result c.loop-i.sum c.loop-i.i c.loop-i.invariant.0 c.requires c.count-terms.ensures c.loop-i-test.true c.size_of-sum.result added)
 
 pub keep-requires : goal.keep-requires
-keep-requires c = keep-ready 512 c.requires c.loop-i.invariant.1 (omega (arith, c.loop-i-test.true, c.count-terms.ensures))
+keep-requires c =
+    let ready = keep-ready 512 c.requires c.loop-i.invariant.1 (omega (arith, c.loop-i-test.true, c.count-terms.ensures)) in
+    record { has_term = ready.0; kept = ready.1 }
 
 pub loop-i-preserved : goal.loop-i-preserved
 loop-i-preserved c =

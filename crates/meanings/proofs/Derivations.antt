@@ -23,7 +23,7 @@ use Rattle.parser.specs.Grammar.Operands.{none, more}
 use Rattle.parser.specs.Grammar.Declarations.{none as undeclared, more as declared}
 use Rattle.parser.specs.Grammar.Asserts.{none as unasserted, more as asserted}
 use Rattle.parser.proofs.Unique.{kind, carried, same_word, one_reading}
-use Rattle.meanings.specs.Derivations.{OneDerivation, Reading, Unambiguous}
+use Rattle.meanings.specs.Derivations.{OneDerivation, Unambiguous}
 
 -- What is made of parts, and given back by them, is one where the parts are, and a set where they are
 

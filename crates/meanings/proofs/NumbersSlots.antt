@@ -12,7 +12,7 @@ use lib.ListN.{length, get_or}
 use borrow.Author.Tests.{le-leb, lt-leb, ne_eqb, le-ltb}
 use Rattle.table.specs.declared.words.Term.{Term}
 use Rattle.table.specs.Terms.{terms, term_at}
-use Rattle.table.specs.Faults.{is_store, fields, typed, valued_as, is_choice, size, refuse_unless, fault}
+use Rattle.table.specs.Faults.{is_store, fields, typed, valued_as, is_choice, refuse_unless, fault}
 use Rattle.table.specs.Admission.{refused, scan, ended, admission_within, admission}
 use Rattle.table.proofs.Scans.{Scanned}
 use Rattle.table.proofs.Sizes.{size_none}

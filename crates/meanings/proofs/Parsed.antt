@@ -3,7 +3,7 @@
 use mathlib.Core.Path.{◌≡◌, refl, sym, ap, ◌∙◌}
 use mathlib.Core.Bool.{Bool, true, false, cond}
 use mathlib.Core.List.{List, ◌++◌}
-use Prim.Native.Nat.{ℕ, ◌+◌, ◌*◌, ◌≤◌}
+use Prim.Native.Nat.{ℕ, ◌*◌, ◌≤◌}
 use native.Mathlib.Omega.{arith}
 use lib.Dec.{eqb, ltb}
 use lib.ListN.{length, drop}
@@ -25,7 +25,7 @@ use Rattle.parser.proofs.Accepts.{never}
 use Rattle.parser.proofs.Sound.{sound}
 use Rattle.parser.proofs.Complete.{complete}
 use Rattle.parser.proofs.Unique.{one_reading}
-use Rattle.meanings.specs.Laws.{ParsesTo, ParsesRule, Just, ParsedJust}
+use Rattle.meanings.specs.Laws.{ParsesTo, ParsesRule, ParsedJust}
 use Rattle.meanings.proofs.Layouts.{terms_are}
 
 -- An answer that is a table

@@ -14,7 +14,7 @@ use Rattle.parser.proofs.Ahead.{not_before}
 use Rattle.parser.proofs.Forward.{words_move, end_at_end}
 use Rattle.parser.proofs.Unique.{kind}
 use Rattle.parser.proofs.Tokens.{Shape, ending, opening, closing, running, shape}
-use Rattle.outline.specs.Scanning.{words_from, all_words}
+use Rattle.outline.specs.Scanning.{words_from}
 use Rattle.outline.specs.Laws.{NoWordLeft}
 
 -- a word begins where it is sought or later, and takes a byte at least

@@ -27,7 +27,7 @@ use Rattle.parser.proofs.NameLists.{names-append}
 use Rattle.parser.proofs.Onward.{onward, open_onward, close_inside, sort_onward, then_declared}
 use Rattle.parser.proofs.Sound.{names-known, stays, goes}
 use Rattle.prefixes.specs.Spelling.{is_end, spelling}
-use Rattle.prefixes.specs.Prefixes.{Spot, after, nothing, first_refusal}
+use Rattle.prefixes.specs.Prefixes.{Spot, nothing, first_refusal}
 use Rattle.prefixes.specs.Prefixes.Want.{the}
 use Rattle.prefixes.specs.Prefixes.Place.{commands, command, naming, wanting, operand}
 use Rattle.prefixes.specs.Laws.{Tells, FirstRefusal}

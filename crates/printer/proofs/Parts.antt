@@ -1,20 +1,17 @@
 -- The parts of the text, case by case, as they are written.
 -- Assumes nothing.
 use mathlib.Core.Path.{◌≡◌, refl, sym, ap, ap₂, ◌∙◌}
-use mathlib.Core.Bool.{Bool, true, false, cond}
+use mathlib.Core.Bool.{Bool, cond}
 use mathlib.Core.List.{List, [], ◌∷◌, ◌++◌, map, append-nil, append_assoc}
 use Prim.Native.Nat.{ℕ, zero, suc, pred, ◌-◌, ◌<◌}
 use native.Mathlib.Omega.{arith}
 use lib.Dec.{eqb}
-use borrow.Author.Tests.{eq-eqb, ne_eqb}
 use Rattle.smtlib.specs.Bytes.{bytes, each}
-use Rattle.smtlib.specs.Symbols.{constant_name}
 use Rattle.table.specs.declared.ranks.Fields.{Fields}
-use Rattle.table.specs.declared.words.Sort.{Sort}
 use Rattle.table.specs.declared.words.Term.{Term}
 use Rattle.table.specs.Terms.{terms, term_at, sort_at}
 use Rattle.table.specs.Faults.{fields, is_variable, is_constant}
-use Rattle.printer.specs.Scripts.{Name, Body, Command, name_text, operands_text, body_text, command_text, commands_text, script_text}
+use Rattle.printer.specs.Scripts.{Name, Command, name_text, operands_text, command_text, commands_text, script_text}
 use Rattle.printer.specs.Scripts.Name.{input, defined}
 use Rattle.printer.specs.Scripts.Body.{constant, application}
 use Rattle.printer.specs.Scripts.Command.{declare, define}

@@ -3,12 +3,12 @@
 use mathlib.Core.Path.{◌≡◌, refl, sym, ap, ap₂, subst, ◌∙◌}
 use mathlib.Core.Bool.{true}
 use mathlib.Core.List.{List, [], ◌∷◌, ◌++◌, append_assoc, append_cancel_left}
-use Prim.Native.Nat.{ℕ, zero, suc, ◌≤◌}
+use Prim.Native.Nat.{ℕ, ◌≤◌}
 use native.Mathlib.Omega.{arith}
 use borrow.Author.Tests.{le-leb}
 use Rattle.smtlib.specs.Bytes.{bytes}
 use Rattle.smtlib.specs.Numerals.{numeral}
-use Rattle.smtlib.specs.Symbols.{operator_name, constant_name}
+use Rattle.smtlib.specs.Symbols.{operator_name}
 use Rattle.smtlib.specs.Laws.{stops, Named}
 use Rattle.smtlib.proofs.Cuts.{head_same, tail_same, cut, regroup}
 use Rattle.smtlib.proofs.Told.{number-told, sort_told, constant-told, operator_told, operator_above, no_application}

@@ -19,8 +19,15 @@ pub returns-in-Refused : goal.returns-in-Refused
 returns-in-Refused c = record { value = sym (ap (λ (a : Acceptance). and_then NotPrinted a (fitting (length (text c.args.table.now)) (length c.args.room.now))) (sym c.admit_within.ensures ∙ c.in-Refused.is)); room_after = refl; printing_promise = tt }
 
 pub returns-in-Accepted : goal.returns-in-Accepted
-returns-in-Accepted c = let t = c.args.table.now in let f = c.fit.ensures in let ok = admission-sound 80000 t (sym c.admit_within.ensures ∙ c.in-Accepted.is) in
-    record { value = f.value ∙ sym (ap (λ (a : Acceptance). and_then NotPrinted a (fitting (length (text c.args.table.now)) (length c.args.room.now))) (sym c.admit_within.ensures ∙ c.in-Accepted.is)); room_after = f.room_after; printing_promise = subst (λ (z : List ℕ). PrintingPromise t z c.fit.result) (sym f.room_after) (promised t c.args.room.now (asked t ok) _ f.value) }
+returns-in-Accepted c =
+    let t = c.args.table.now in
+    let f = c.fit.ensures in
+    let ok = admission-sound 80000 t (sym c.admit_within.ensures ∙ c.in-Accepted.is) in
+    record {
+      value = f.value ∙ sym (ap (λ (a : Acceptance). and_then NotPrinted a (fitting (length (text t)) (length c.args.room.now))) (sym c.admit_within.ensures ∙ c.in-Accepted.is));
+      room_after = f.room_after;
+      printing_promise = subst (λ (z : List ℕ). PrintingPromise t z c.fit.result) (sym f.room_after) (promised t c.args.room.now (asked t ok) _ f.value);
+    }
 
 pub admit_within-requires : goal.admit_within-requires
 admit_within-requires c = tt

@@ -1,5 +1,4 @@
 use mathlib.Core.Path.{refl, sym, ap, ◌∙◌}
-use Prim.Native.Nat.{◌-◌}
 use native.Mathlib.Omega.{arith}
 use borrow.Author.Tests.{eq-eqb, ne_eqb}
 use Rattle.assignments.specs.declared.statements.State.{State}
@@ -70,9 +69,6 @@ put_three-requires-in-loop c = tt
 
 pub counted-s-requires : goal.counted-s-requires
 counted-s-requires c = tt
-
-pub overflow_step : goal.overflow_step
-overflow_step c = omega (arith, c.loop-test.true, c.well-formed)
 
 pub loop-smaller : goal.loop-smaller
 loop-smaller c = omega (arith, c.loop-test.true)

@@ -1,5 +1,4 @@
 use mathlib.Core.Path.{refl, sym, ◌∙◌}
-use Prim.Native.Nat.{◌-◌}
 use native.Mathlib.Omega.{arith}
 use Rattle.assignments.proofs.Ways.{decimal_all, decimal_none, decimal_on}
 use Rattle.assignments.proofs.tokens.decimal_in.Goals as goal

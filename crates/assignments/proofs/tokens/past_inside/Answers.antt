@@ -1,5 +1,4 @@
 use mathlib.Core.Path.{refl, sym, ◌∙◌}
-use Prim.Native.Nat.{◌-◌}
 use native.Mathlib.Omega.{arith}
 use Rattle.parser.proofs.Ahead.{found, ended, passed}
 use Rattle.assignments.specs.Tokens.{inside}

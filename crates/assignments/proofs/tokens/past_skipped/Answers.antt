@@ -1,5 +1,4 @@
 use mathlib.Core.Path.{refl, sym, ◌∙◌}
-use Prim.Native.Nat.{◌-◌}
 use native.Mathlib.Omega.{arith}
 use Rattle.assignments.proofs.Ways.{skip_none, skip_found, skip_on}
 use Rattle.assignments.proofs.tokens.past_skipped.Goals as goal

@@ -1,4 +1,3 @@
-use Prim.Native.Nat.{◌-◌}
 use native.Mathlib.Omega.{arith}
 use Rattle.assignments.proofs.Ways.{sought_none, sought_all, sought_found, sought_on}
 use Rattle.assignments.proofs.values.missing.Goals as goal

@@ -1,5 +1,4 @@
 use mathlib.Core.Path.{refl, sym}
-use Prim.Native.Nat.{◌-◌}
 use native.Mathlib.Omega.{arith}
 use Rattle.outline.proofs.Ways.{rule_none, rule_found, rule_on}
 use Rattle.outline.proofs.lines.is_rule.Goals as goal

@@ -1,5 +1,4 @@
 use mathlib.Core.Path.{refl}
-use Prim.Native.Nat.{◌-◌}
 use native.Mathlib.Omega.{arith}
 use Rattle.outline.specs.Scanning.{scanned}
 use Rattle.outline.proofs.WordLists.{begun, through, stopped, onward}

@@ -19,10 +19,10 @@ pub constant-requires : goal.constant-requires
 constant-requires c = tt
 
 pub shape_of-room-then-is_constant : goal.shape_of-room-then-is_constant
-shape_of-room-then-is_constant c = same_length (returns c)
+shape_of-room-then-is_constant c = same_length c.constant.ensures
 
 pub application-requires : goal.application-requires
 application-requires c = tt
 
 pub shape_of-room : goal.shape_of-room
-shape_of-room c = same_length (returns-2 c)
+shape_of-room c = same_length c.application.ensures

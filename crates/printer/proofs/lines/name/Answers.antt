@@ -21,10 +21,10 @@ pub slot_name-requires : goal.slot_name-requires
 slot_name-requires c = tt
 
 pub shape_of-room-then-is_variable : goal.shape_of-room-then-is_variable
-shape_of-room-then-is_variable c = same_length (returns c)
+shape_of-room-then-is_variable c = same_length c.slot_name.ensures
 
 pub term_name-requires : goal.term_name-requires
 term_name-requires c = tt
 
 pub shape_of-room : goal.shape_of-room
-shape_of-room c = same_length (returns-2 c)
+shape_of-room c = same_length c.term_name.ensures

@@ -43,10 +43,10 @@ pub operand-requires-in-Three : goal.operand-requires-in-Three
 operand-requires-in-Three c = tt
 
 pub shape_of-room-in-One : goal.shape_of-room-in-One
-shape_of-room-in-One c = same_length (returns-3 c)
+shape_of-room-in-One c = same_length c.operand.ensures
 
 pub shape_of-room-in-Two : goal.shape_of-room-in-Two
-shape_of-room-in-Two c = same_length (returns-4 c)
+shape_of-room-in-Two c = same_length (then c.operand-a.ensures c.operand-in-Two.ensures)
 
 pub shape_of-room-in-Three : goal.shape_of-room-in-Three
-shape_of-room-in-Three c = same_length (returns-5 c)
+shape_of-room-in-Three c = same_length (then c.operand-a-in-Three.ensures (then c.operand-b.ensures c.operand-in-Three.ensures))

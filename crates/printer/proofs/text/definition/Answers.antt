@@ -21,4 +21,4 @@ pub define_line-requires : goal.define_line-requires
 define_line-requires c = tt
 
 pub shape_of-room : goal.shape_of-room
-shape_of-room c = same_length (returns-2 c)
+shape_of-room c = same_length c.define_line.ensures

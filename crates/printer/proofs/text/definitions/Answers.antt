@@ -1,4 +1,3 @@
-use Prim.Native.Nat.{◌-◌}
 use native.Mathlib.Omega.{arith}
 use Rattle.smtlib.proofs.Pages.{same_length, none_lined, one_lined, all_lined}
 use Rattle.printer.proofs.text.definitions.Goals as goal

@@ -124,10 +124,16 @@ def main():
             elif m in tops and m not in spec_names:
                 print("look: both in one file:", ns, m)
                 renamed[m] = m + "_lem"
+    # Such a name may be a function's too: it stays in src/ and where a path or a step of a proof has it.
+    moved = {m for m in renamed if m in renamed and "_" in m and "-" not in m and not re.search(r"[A-Z]", m)}
+
+    def keeps(p, t, m):
+        return p.endswith(".rt") or t[m.start() - 1] == "." or t[m.end():m.end() + 1] == "."
+
     again = collections.Counter(renamed.values())
     print("still together:", [n for n, k in again.items() if k > 1])
     for p, t in texts.items():
-        new = TOKEN.sub(lambda m: renamed.get(m[0], m[0]), t)
+        new = TOKEN.sub(lambda m: m[0] if m[0] in moved and keeps(p, t, m) else renamed.get(m[0], m[0]), t)
         if new != t:
             open(p, "w", encoding="utf-8").write(new)
     for folder in [".", "docs", "docs/landings", "examples", "tests", "bench"]:

@@ -1,4 +1,6 @@
 // Which tables the other routines take (paper 01, "Refused because of the input", 1 to 10).
+#![tactic(auto)]
+
 mod clashes; // refusal 8
 mod faults; // refusals 3 to 9, term by term
 mod sizes; // the size of an array term

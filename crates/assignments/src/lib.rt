@@ -1,4 +1,6 @@
 // A setting by name: reading it into values, cells and a sheet, and where its values stand in the text.
+#![tactic(auto)]
+
 mod names; // names by their lines
 mod seek; // where values stand
 mod statements; // the statements of a setting

@@ -1,9 +1,9 @@
 -- The table of a parsed text has as many numbers as there are lines of them.
 -- Assumes nothing.
-use mathlib.Core.Path.{◌≡◌, refl, sym, ap, subst, ◌∙◌}
+use mathlib.Core.Path.{◌≡◌, refl, ap}
 use mathlib.Core.Bool.{Bool, true, false, cond, ◌&&◌}
 use mathlib.Core.List.{List, [], ◌∷◌}
-use Prim.Native.Nat.{ℕ, suc, ◌+◌, ◌-◌, ◌≤◌}
+use Prim.Native.Nat.{ℕ, suc, ◌+◌, ◌≤◌}
 use native.Mathlib.Omega.{arith}
 use lib.Dec.{eqb}
 use lib.ListN.{length}
@@ -13,10 +13,10 @@ use Rattle.cases.specs.declared.lexer.Token.{Token}
 use Rattle.cases.specs.declared.lexer.Token.TheVariants.{Nothing, Number, Heading, Unknown, TooLarge}
 use Rattle.cases.specs.declared.parser.Parser.{Parser}
 use Rattle.cases.specs.Places.{feed}
-use Rattle.cases.specs.Lexing.{fresh, lexed, token_at, token_at_end, lex}
-use Rattle.cases.specs.Parsing.{start, begun, extended, is_given, size, headed, number_fault, counted, taken_by, taken, parse}
+use Rattle.cases.specs.Lexing.{lexed, token_at, token_at_end, lex}
+use Rattle.cases.specs.Parsing.{begun, extended, is_given, size, headed, number_fault, counted, taken_by, taken, parse}
 use Rattle.cases.specs.Lines.{part_after, belongs, lines_from}
-use Rattle.cases.proofs.Totals.{Sound, pick, start-sound, table_given, taken-sound, parse_counts}
+use Rattle.cases.proofs.Totals.{Sound, pick, table_given, taken-sound, parse_counts}
 
 -- where q has no fault, it is p with the token's number, if that is the table's
 After : Parser → Token → Parser → Type 0

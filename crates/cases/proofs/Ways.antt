@@ -11,12 +11,11 @@ use Rattle.cases.specs.declared.lexer.Lexer.{Lexer}
 use Rattle.cases.specs.declared.lexer.Token.{Token}
 use Rattle.cases.specs.declared.lexer.Token.TheVariants.{Nothing, Number, Heading, Unknown, TooLarge}
 use Rattle.cases.specs.declared.parser.Parser.{Parser}
-use Rattle.cases.specs.declared.ParseError.{ParseError}
 use Rattle.cases.specs.declared.Parsing.{Parsing}
 use Rattle.cases.specs.declared.Parsing.TheVariants.{Parsed, NotParsed}
 use Rattle.cases.specs.Places.{stops, back_to, token_start}
 use Rattle.cases.specs.Lexing.{fresh, lexed, lex}
-use Rattle.cases.specs.Parsing.{start, is_given, number_fault, headed, counted, taken_by, taken, parse}
+use Rattle.cases.specs.Parsing.{start, is_given, number_fault, headed, counted, taken, parse}
 use Rattle.cases.specs.Reading.{error_at_end, error_between, error_of, Spanned, Inside}
 
 module _ (lines : Bool) (text : List ℕ) where

@@ -1,6 +1,6 @@
 -- What reading the text of a case answers, and what it leaves in the room for the numbers.
 -- Assumes nothing.
-use Rattle.std.specs.Prelude.{Bool, cond, not, ◌&&◌, List, [], ◌∷◌, ◌++◌, ℕ, ◌≤◌, ◌<◌, eqb, ltb, leb, length, take, drop, get_or}
+use Rattle.std.specs.Prelude.{Bool, cond, not, ◌&&◌, List, ◌++◌, ℕ, ◌≤◌, ◌<◌, eqb, ltb, leb, length, take, drop, get_or}
 use Rattle.cases.specs.declared.parser.Run.{Run}
 use Rattle.cases.specs.declared.parser.Parser.{Parser}
 use Rattle.cases.specs.declared.Case.{Case}

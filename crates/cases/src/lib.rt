@@ -1,4 +1,6 @@
 // Reading the text of a case: its table, values, cells, allowance and sheet.
+#![tactic(auto)]
+
 mod bytes; // what a byte is
 mod lexer; // tokens
 mod lines; // the lines of a part's words and numbers

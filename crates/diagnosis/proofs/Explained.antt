@@ -4,7 +4,7 @@ use mathlib.Core.Path.{◌≡◌, refl, sym, ap, ◌∙◌}
 use mathlib.Core.Bool.{Bool, true, false, cond, not, ◌&&◌, ◌||◌}
 use mathlib.Core.List.{List, [], ◌∷◌}
 use mathlib.Core.Logic.{◌⊎◌, inl, inr}
-use Prim.Native.Nat.{ℕ, zero, suc, pred, ◌-◌, ◌%◌, ◌^◌, ◌≤◌, ◌<◌}
+use Prim.Native.Nat.{ℕ, zero, suc, pred, ◌%◌, ◌≤◌, ◌<◌}
 use Prim.{tt}
 use native.Mathlib.Decide.{ℕ_discrete}
 use native.Mathlib.Omega.{arith}
@@ -28,21 +28,19 @@ use Rattle.table.specs.declared.Acceptance.{Acceptance}
 use Rattle.table.specs.declared.Acceptance.TheVariants.{Accepted}
 use Rattle.table.specs.Terms.{words, terms, term_at, sort_at, boolean, vector, scalar, array, vector_of, same_sort}
 use Rattle.table.specs.Ranks.{applied, rank_of, fields_of, slotted, immediate}
-use Rattle.table.specs.Faults.{rank, fields, is_variable, is_constant, known, sorted, placed_as, typed_as, typed, valued_as, conflicts, clash, size, refuse_unless, fault_if, fault}
+use Rattle.table.specs.Faults.{rank, fields, is_variable, known, sorted, placed_as, typed_as, typed, valued_as, conflicts, clash, size, refuse_unless, fault_if, fault}
 use Rattle.table.specs.Folds.{any_below, first_from}
-use Rattle.table.specs.Admission.{refused, refused_by, scan, admission_within}
+use Rattle.table.specs.Admission.{refused_by, scan, admission_within}
 use Rattle.table.proofs.ThreeSorts.{sorted_by_widths}
 use Rattle.table.proofs.Searches.{First, first_is, any_none}
-use Rattle.setting.specs.declared.cells.Cell.{Cell}
 use Rattle.setting.specs.Cells.{cell_at, cell_count}
 use Rattle.setting.specs.Arrays.{slot_sort}
-use Rattle.setting.specs.Check.{variable_fault, cell_fault, check_cells, check}
+use Rattle.setting.specs.Check.{variable_fault, cell_fault, check}
 use Rattle.sheets.specs.Marks.{line_at, line_count, mark}
 use Rattle.sheets.specs.Check.{sound, line_fault, sheet_check}
-use Rattle.diagnosis.specs.declared.told.Diagnosis.{Diagnosis}
-use Rattle.diagnosis.specs.Telling.{nothing, Line, tell, pass, FirstFails}
+use Rattle.diagnosis.specs.Telling.{Line, tell, pass, FirstFails}
 use Rattle.diagnosis.specs.Asking.{asks}
-use Rattle.diagnosis.specs.Reasons.{mark_lines, width_lines, uses, field_lines, sort_lines, value_lines, clashing, clash_lines, first_clashing, table_reasons, term_reasons, setting_reasons, reasons, small, diagnosis}
+use Rattle.diagnosis.specs.Reasons.{mark_lines, width_lines, uses, field_lines, sort_lines, clashing, clash_lines, first_clashing, table_reasons, term_reasons, setting_reasons, reasons}
 use Rattle.diagnosis.specs.Laws.{Told, Answered, TableTold, SettingTold, SheetTold, AllowanceTold}
 
 -- Some test fails: the first that does tells

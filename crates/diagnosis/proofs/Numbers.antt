@@ -4,13 +4,12 @@ use mathlib.Core.Path.{◌≡◌, refl, sym, ap, ◌∙◌}
 use mathlib.Core.Bool.{Bool, true, false, cond}
 use mathlib.Core.List.{List, [], ◌∷◌}
 use mathlib.Core.Logic.{inl, inr}
-use Prim.Native.Nat.{ℕ, zero, suc, ◌-◌, ◌^◌, ◌≤◌, ◌<◌}
+use Prim.Native.Nat.{ℕ, suc, ◌-◌, ◌^◌, ◌≤◌, ◌<◌}
 use Prim.{tt}
 use native.Mathlib.Omega.{arith}
 use lib.Dec.{eqb, ltb, leb}
 use lib.Pow.{pow_pos}
 use borrow.Author.Tests.{eqb-true, eqb-false, leb-true, leb-false, ltb-true, ltb-false, le-leb, lt-leb}
-use Rattle.ops.specs.Fits.{fits}
 use Rattle.ops.proofs.Booleans.{never}
 use Rattle.table.specs.declared.words.Term.{Term}
 use Rattle.table.specs.Terms.{term_at}
@@ -22,7 +21,7 @@ use Rattle.diagnosis.specs.declared.terms.Use.{Use}
 use Rattle.diagnosis.specs.declared.terms.Use.TheVariants.{Number, Operand, Unused}
 use Rattle.diagnosis.specs.Telling.{Line, FirstFails}
 use Rattle.diagnosis.specs.Asking.{asks, sort_reason}
-use Rattle.diagnosis.specs.Reasons.{field_line, uses, most, table_reasons, term_reasons, setting_reasons, reasons}
+use Rattle.diagnosis.specs.Reasons.{field_line, uses, table_reasons, term_reasons, setting_reasons, reasons}
 use Rattle.diagnosis.specs.Laws.{refusal_of, OwnReasons, MostFits}
 
 -- where a line's test fails, its reason is for this number

@@ -1,6 +1,6 @@
 -- Where in a case a refusal points: a number of a part, or the word that begins it (docs/PROGRAM.md, "Refusals", LINE).
 -- Assumes nothing.
-use Rattle.std.specs.Prelude.{Bool, true, false, cond, ◌&&◌, ◌||◌, List, ℕ, ◌*◌, eqb, ltb, leb}
+use Rattle.std.specs.Prelude.{true, false, cond, ◌&&◌, ◌||◌, List, ℕ, ◌*◌, eqb, ltb, leb}
 use Rattle.table.specs.Terms.{term_at}
 use Rattle.diagnosis.specs.declared.spots.Spot.{Spot}
 

@@ -1,4 +1,6 @@
 // Which reason for a refusal applies, with the numbers seen, and where in the case it stands.
+#![tactic(auto)]
+
 mod asking; // refusal 6
 mod marks; // refusal 16
 mod settings; // refusals 11 to 15 and 23

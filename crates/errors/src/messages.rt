@@ -107,7 +107,7 @@ struct Listed {
 }
 
 // After one word more, by its kind: 2 is an opening parenthesis, 3 a closing one.
-fn one_more_lem(l: Listed, kind: u32) -> Listed {
+fn one_more(l: Listed, kind: u32) -> Listed {
     let outside = (l.open == 0) & (kind != 3);
     let opened = l.open.wrapping_add(if kind == 2 { 1 } else { 0 });
     Listed {
@@ -131,7 +131,7 @@ fn given(text: &[u8], at: usize) -> u64 {
             break;
         }
         let word = t.word;
-        l = one_more_lem(l, kind(word));
+        l = one_more(l, kind(word));
         next = t.next;
     }
     l.operands
@@ -140,7 +140,7 @@ fn given(text: &[u8], at: usize) -> u64 {
 // The numbers of 34: the operator, how many operands it takes, how many it has.
 fn operand_numbers(text: &[u8], at: usize) -> Numbers {
     let op = operator_before(text, at);
-    let count = parser::operands_of_lem(op);
+    let count = parser::operands_of(op);
     let there = given(text, at);
     let are = if there == 1 { 44 } else { 45 };
     let some = page::push_long(there, page::one(are));

@@ -1,4 +1,6 @@
 // Evaluating a table in a setting (paper 01, "Results"; 22 and 23).
+#![tactic(auto)]
+
 mod reads; // a read along its array
 mod room; // filling the work room
 mod spend; // steps, the room's length and the allowance

@@ -1,6 +1,8 @@
 // Why a condition is false, what would mend it, and what settled a term that is free: over the terms from the rule
 // down. Free is truth 1. Every routine takes a table and the two halves of the room that judging leaves, the terms'
 // values and truths.
+#![tactic(auto)]
+
 mod answers; // what is answered of a term
 mod operands; // an operand: whether it is free, and whether its value settles the operator
 mod repairs; // what would mend a rule's condition

@@ -1,4 +1,6 @@
 // Finishing a table: the condition as terms (paper 01, "The condition of each term", "A finished table is"; 21).
+#![tactic(auto)]
+
 mod room; // writing the finished table
 mod sizes; // how many terms it has
 

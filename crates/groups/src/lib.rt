@@ -1,4 +1,6 @@
 // The group of terms that is the condition of one term (paper 01, "The condition of each term").
+#![tactic(auto)]
+
 mod added; // the kinds of terms that are added
 mod groups; // writing each group
 mod kinds; // which group an operator's condition has

@@ -1,5 +1,7 @@
 // The C interface: each function answers 0, or the refusal's number with its place in answer[0] and the rest of
 // answer 0. include/hiranthok.h declares them.
+#![tactic(auto)]
+
 ghost use Rattle.std.specs.Prelude.{◌≡◌, length};
 ghost use Rattle.table.specs.Admission.{admission};
 ghost use Rattle.finish.specs.Finished.{finishing};

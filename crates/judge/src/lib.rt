@@ -1,4 +1,6 @@
 // Judging a setting under a mark sheet (paper 01, "Results"; demand 3; paper 02, request 06).
+#![tactic(auto)]
+
 mod leaves; // the variables that a read meets
 mod reads; // a read along its array: value and truth
 mod room; // filling the work room

@@ -134,7 +134,7 @@ fn labelled_read(
 }
 
 // The same at a place of the room.
-fn read_here_lem(
+fn read_here(
     table: &[u32],
     terms: u32,
     room: &[u32],
@@ -185,7 +185,7 @@ fn note_read(
     if !table::is_read(table::term_at(table, at)) {
         return at;
     }
-    let r = read_here_lem(table, terms, &work[..], at, array, cells);
+    let r = read_here(table, terms, &work[..], at, array, cells);
     note(work, terms, at, r.value, r.free);
     at + 1
 }

@@ -1,4 +1,6 @@
 // The operators on numbers: their values, as SMT-LIB 2.6 has them, and their conditions, as paper 01 does.
+#![tactic(auto)]
+
 ghost use Rattle.std.specs.Prelude.{◌≡◌, ◌+◌, ◌-◌, ◌*◌, ◌/◌, ◌%◌, ◌^◌, ◌<◌, ◌≤◌, true, false, not, ◌&&◌, ◌||◌, ◌-ℤ◌, neg_ℤ, if◌then◌else◌, ◌==◌, int_lt};
 ghost use Rattle.std.specs.Int.Signed.{shr_z};
 ghost use Rattle.ops.specs.Numbers.{op_of};

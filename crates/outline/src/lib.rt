@@ -1,4 +1,6 @@
 // Where the terms of a typed rule stand in its text.
+#![tactic(auto)]
+
 mod lines; // lines and columns, and whether a text is a rule
 mod names; // the declared names
 mod scan; // a text word by word

@@ -8,7 +8,6 @@ use Rattle.smtlib.specs.Bytes.{◌⧺◌, bytes, same_bytes, place_in}
 use Rattle.smtlib.specs.Numerals.{value_of}
 use Rattle.table.specs.Folds.{every}
 use Rattle.parser.specs.declared.words.Word.TheVariants.{Open, Close, Keyword, Operator, Literal, Width, Name, Other, End}
-use Rattle.parser.specs.declared.words.Token.{Token}
 use Rattle.parser.specs.declared.states.State.{State}
 use Rattle.parser.specs.Words.{among, symbol, private, marked, plain_of, word_of, ahead, word_from, token_at}
 use Rattle.parser.specs.Names.{closing, index_from}

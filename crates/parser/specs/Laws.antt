@@ -1,6 +1,6 @@
 -- What is proved of parsing, as named statements. The proofs are in proofs/.
 -- Assumes nothing.
-use Rattle.std.specs.Prelude.{◌≡◌, true, List, [], ◌∷◌, ◌++◌, ℕ, ◌≤◌, ◌<◌, length}
+use Rattle.std.specs.Prelude.{◌≡◌, true, List, [], ◌∷◌, ℕ, ◌≤◌, ◌<◌, length}
 use Rattle.table.specs.declared.words.Term.{Term}
 use Rattle.parser.specs.Rules.{rule_of}
 use Rattle.parser.specs.Parsing.{built}

@@ -1,11 +1,10 @@
 -- What parsing answers and leaves in the room: Req 02, "Errors".
 -- Assumes nothing.
-use Rattle.std.specs.Prelude.{Bool, cond, List, ◌++◌, ℕ, ◌*◌, eqb, ltb, length, take, drop}
+use Rattle.std.specs.Prelude.{cond, List, ◌++◌, ℕ, ◌*◌, eqb, ltb, take, drop}
 use Rattle.table.specs.Terms.{words}
 use Rattle.table.specs.Admission.{and_then, admission}
 use Rattle.parser.specs.declared.Parsing.{Parsing}
 use Rattle.parser.specs.declared.Parsing.TheVariants.{Parsed, NotParsed}
-use Rattle.parser.specs.declared.states.Progress.{Progress}
 use Rattle.parser.specs.Rules.{rule_of}
 
 abbrev pub not_parsed : ℕ → ℕ → Parsing

@@ -1,14 +1,12 @@
 -- What is asked of a rule besides the grammar (32 to 35), and the table that it becomes: Req 02, "The table holds the declared variables
 -- first, then each expression's operands left to right before their operator, nothing shared, each join after its second assert".
 -- Assumes nothing.
-use Rattle.std.specs.Prelude.{Bool, true, false, cond, not, ◌&&◌, ◌||◌, List, [], ◌∷◌, ◌++◌, ℕ, zero, suc, pred, ◌+◌, eqb, ltb, leb, length, get_or}
-use Rattle.ops.specs.Meaning.{bit}
+use Rattle.std.specs.Prelude.{Bool, true, false, not, ◌&&◌, List, [], ◌∷◌, ◌++◌, ℕ, zero, suc, ◌+◌, eqb, ltb, length, get_or}
 use Rattle.ops.specs.Numbers.{op_of}
-use Rattle.smtlib.specs.Bytes.{same_bytes, place_in, is_in}
+use Rattle.smtlib.specs.Bytes.{place_in, is_in}
 use Rattle.table.specs.declared.words.Sort.{Sort}
 use Rattle.table.specs.declared.words.Term.{Term}
-use Rattle.table.specs.Terms.{terms}
-use Rattle.table.specs.Ranks.{rank_of, fields_of, operand_count}
+use Rattle.table.specs.Ranks.{rank_of}
 use Rattle.parser.specs.Words.{marked}
 use Rattle.parser.specs.Expressions.{sort_by, operands_of, constant_term}
 use Rattle.parser.specs.Rules.{variable_term, and_term}

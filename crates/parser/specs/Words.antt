@@ -2,7 +2,7 @@
 -- parentheses". What each word is: a parenthesis, one of the language's own words, an operator, a constant, a width, a
 -- name, or none of these.
 -- Assumes nothing.
-use Rattle.std.specs.Prelude.{◌≡◌, Bool, true, false, cond, not, ◌&&◌, ◌||◌, List, [], ◌∷◌, ℕ, suc, ◌+◌, ◌-◌, ◌≤◌, ◌<◌, eqb, ltb, leb, length, take, drop, get_or}
+use Rattle.std.specs.Prelude.{◌≡◌, Bool, false, cond, not, ◌&&◌, ◌||◌, List, [], ◌∷◌, ℕ, suc, ◌+◌, ◌-◌, ◌≤◌, ◌<◌, eqb, ltb, leb, length, take, drop, get_or}
 use Rattle.smtlib.specs.Bytes.{bytes, part, same_bytes, place_in, is_in}
 use Rattle.smtlib.specs.Numerals.{value_of}
 use Rattle.smtlib.specs.Symbols.{operator_of}

@@ -91,7 +91,7 @@ fn too_few(levels: u32) -> u32
 }
 
 // How an expression begins, by its first word and, after a parenthesis, its second.
-fn head_in_lem(text: &[u8], names: usize, s: State, levels: u32, w: Words) -> Head
+fn head_in(text: &[u8], names: usize, s: State, levels: u32, w: Words) -> Head
     ensures { result ≡ head_in text.now names s levels w.first w.second w.first.word }
 {
     let t = w.first;
@@ -122,7 +122,7 @@ fn head_at(text: &[u8], names: usize, s: State, levels: u32) -> Head
     if s.fault != 0 {
         return Head::Done(s);
     }
-    head_in_lem(text, names, s, levels, reader::words_at(text, s.at))
+    head_in(text, names, s, levels, reader::words_at(text, s.at))
 }
 
 fn begin_list(s: State, at: usize) -> Listed
@@ -185,7 +185,7 @@ fn operand_count(fields: Fields) -> u32
 }
 
 // How many operands an operator has.
-pub fn operands_of_lem(op: u32) -> u32
+pub fn operands_of(op: u32) -> u32
     ensures { result ≡ operands_of op }
 {
     operand_count(table::fields_of(op))
@@ -313,7 +313,7 @@ pub fn expression(text: &[u8], names: usize, s: State, levels: u32, room: &mut [
                 names,
                 begin_list(s, next),
                 levels - 1,
-                operands_of_lem(op),
+                operands_of(op),
                 room,
             );
             write_list(room, op, l);

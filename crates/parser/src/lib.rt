@@ -1,4 +1,6 @@
 // Rules typed as SMT-LIB (Req 02).
+#![tactic(auto)]
+
 mod expressions; // expressions and their operands
 mod names; // names that are declared
 mod reader; // the text with a place in it
@@ -14,7 +16,7 @@ ghost use Rattle.parser.specs.declared.Parsing.TheVariants.{Parsed, NotParsed};
 ghost use Rattle.parser.specs.Parsing.{not_parsed, tabled, parsing, room_after, given_by};
 
 use crate::states::State;
-pub use expressions::operands_of_lem;
+pub use expressions::operands_of;
 pub use names::index_of;
 pub use rules::rule;
 use table::{Acceptance, Refusal, WORDS};

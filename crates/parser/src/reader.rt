@@ -1,5 +1,4 @@
-// The text reader: the lent text and the place in it, in one record. The borrow checker covers no function over such a
-// record, so these are few and thin, and proved by hand; `words_at`, with plain parameters, serves every other caller.
+// The text reader: the lent text and the place in it, in one record. `words_at`, with plain parameters, serves callers.
 ghost use Rattle.std.specs.Prelude.{◌≡◌};
 ghost use Rattle.parser.specs.Words.{token_at, words_at};
 

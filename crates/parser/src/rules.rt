@@ -77,7 +77,7 @@ fn conjunction(p: u32, q: u32) -> Term
 }
 
 // One name more: so many there are not.
-fn one_more_lem(names: usize) -> usize
+fn one_more(names: usize) -> usize
     ensures { result ≡ one_more names }
 {
     if names < 4611686018427387904 {
@@ -118,7 +118,7 @@ fn declaration(text: &[u8], p: Progress, s: State, room: &mut [u32]) -> Progress
     );
     Progress {
         state: added(e, e.at),
-        names: one_more_lem(p.names),
+        names: one_more(p.names),
         asserts: p.asserts,
         rule: p.rule,
         bare: p.bare,

@@ -1,4 +1,6 @@
 // A table as SMT-LIB text for a solver (Req 01).
+#![tactic(auto)]
+
 mod lines; // names, bodies and lines
 mod slots; // the first use of each slot
 mod text; // the whole text

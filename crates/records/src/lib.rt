@@ -1,4 +1,6 @@
 // The second entrance (paper 01, "A setting"): the cells as a row of records. Equal answers; 11 cannot occur.
+#![tactic(auto)]
+
 mod checks; // whether a table may be run, else the first refusal
 mod drive; // what a run starts with, and what it answers
 mod rows; // the records: one of them, and the lookup

@@ -1,4 +1,6 @@
 // The library's answers as C's: a number, and four numbers.
+#![tactic(auto)]
+
 ghost use Rattle.std.specs.Prelude.{◌≡◌};
 ghost use Rattle.replies.specs.Replies.{results, refusal, row, admission_reply, finishing_reply};
 ghost use Rattle.replies.specs.Replies.{evaluation_reply, judgement_reply, printing_reply, parsing_reply};

@@ -1,5 +1,7 @@
 // Settings: a row of values by slot, and cells, three numbers each: slot, index, value (paper 01, "A setting"; 11 to
 // 15).
+#![tactic(auto)]
+
 mod arrays; // the sort of each array slot
 mod cells; // the cells: lookup, and 14 and 15
 mod variables; // the values: 12 and 13

@@ -1,13 +1,12 @@
 -- A sheet is refused by 16 alone.
 -- Assumes nothing.
-use mathlib.Core.Path.{◌≡◌, refl}
+use mathlib.Core.Path.{refl}
 use mathlib.Core.Bool.{Bool, true, false, cond}
 use mathlib.Core.List.{List}
 use Prim.Native.Nat.{ℕ, zero, suc, ◌%◌}
 use Prim.{tt}
 use lib.Dec.{eqb}
 use lib.ListN.{length}
-use Rattle.table.specs.declared.Acceptance.{Acceptance}
 use Rattle.table.specs.declared.Acceptance.TheVariants.{Accepted}
 use Rattle.table.specs.Faults.{refuse_unless}
 use Rattle.table.specs.Admission.{refused, refused_by, scan}

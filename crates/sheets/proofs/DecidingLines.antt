@@ -1,14 +1,13 @@
 -- The deciding line is the one that marks or keeps.
 -- Assumes nothing.
-use mathlib.Core.Path.{◌≡◌, refl, sym, ap, subst, ◌∙◌}
-use mathlib.Core.Bool.{Bool, true, false, cond, ◌&&◌}
+use mathlib.Core.Path.{◌≡◌, refl, sym, subst, ◌∙◌}
+use mathlib.Core.Bool.{Bool, true, false}
 use mathlib.Core.List.{List}
 use Prim.Native.Nat.{ℕ, ◌≤◌, ◌<◌}
 use native.Mathlib.Omega.{arith}
 use lib.Dec.{eqb, ltb}
-use borrow.Author.Tests.{eqb-true, lt-ltb, ltb-true, ltb-false}
+use borrow.Author.Tests.{eqb-true, ltb-true, ltb-false}
 use Rattle.ops.proofs.Booleans.{never, and_parts}
-use Rattle.table.specs.declared.words.Term.{Term}
 use Rattle.table.proofs.Searches.{First, first_is, any_none, any_found}
 use Rattle.sheets.specs.Marks.{own_marks, line_at, line_count, names, speaks, says, marks_under, mark, keep}
 use Rattle.sheets.specs.Deciding.{first_of, deciding}

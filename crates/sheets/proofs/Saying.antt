@@ -2,22 +2,19 @@
 -- Assumes nothing.
 use mathlib.Core.Path.{◌≡◌, refl, sym, ap, ap₂, ◌∙◌}
 use mathlib.Core.Bool.{Bool, true, false, cond, ◌&&◌, ◌||◌}
-use mathlib.Core.List.{List, []}
-use Prim.Native.Nat.{ℕ, zero, suc, ◌+◌, ◌≤◌, ◌<◌}
+use mathlib.Core.List.{List}
+use Prim.Native.Nat.{ℕ, zero, suc, ◌+◌}
 use native.Mathlib.Numerals.{add-one}
-use native.Mathlib.Omega.{arith}
-use lib.Dec.{eqb, ltb}
-use lib.ListN.{length, get_or, replicate, get_or-replicate}
+use lib.Dec.{eqb}
+use lib.ListN.{replicate, get_or-replicate}
 use borrow.Author.Tests.{lt-ltb}
 use Rattle.ops.proofs.Booleans.{and_shut}
-use Rattle.table.specs.declared.words.Term.{Term}
-use Rattle.table.specs.declared.Acceptance.TheVariants.{Accepted}
 use Rattle.table.specs.Folds.{any_below}
 use Rattle.table.specs.Admission.{scan}
 use Rattle.sheets.specs.declared.lines.Line.{Line}
-use Rattle.sheets.specs.Marks.{own_marks, line_at, line_count, names, speaks, says, marks_under, mark, keep}
+use Rattle.sheets.specs.Marks.{own_marks, line_at, line_count, names, speaks, says, mark, keep}
 use Rattle.sheets.specs.Check.{sheet_check}
-use Rattle.sheets.specs.Code.Said.{weight, higher, over_by, said_below, Said, Over, mark_by, marks_by}
+use Rattle.sheets.specs.Code.Said.{higher, over_by, said_below, Said, Over, mark_by}
 use Rattle.sheets.specs.Laws.{Empty, MarksByRow}
 
 -- Line by line

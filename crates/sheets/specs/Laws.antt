@@ -4,7 +4,7 @@ use Rattle.std.specs.Prelude.{◌≡◌, true, false, List, [], ℕ, ◌<◌}
 use Rattle.table.specs.declared.words.Term.{Term}
 use Rattle.table.specs.declared.Acceptance.{Acceptance}
 use Rattle.table.specs.declared.Acceptance.TheVariants.{Accepted, Refused}
-use Rattle.sheets.specs.Marks.{own_marks, line_count, line_at, names, speaks, says, marks_under, mark, keep}
+use Rattle.sheets.specs.Marks.{own_marks, line_count, line_at, names, marks_under, mark, keep}
 use Rattle.sheets.specs.Check.{sheet_check}
 use Rattle.sheets.specs.Code.Said.{Said, marks_by}
 use Rattle.sheets.specs.Deciding.{deciding}

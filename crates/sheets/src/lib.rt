@@ -1,4 +1,6 @@
 // Mark sheets (paper 02, request 06): which inputs are marked, as a party says it; 16.
+#![tactic(auto)]
+
 mod faults; // 16
 mod lines; // the lines of a sheet
 mod marks; // what the sheet says of each slot

@@ -7,7 +7,7 @@ use Prim.Native.Nat.{ℕ, zero, suc, ◌+◌, ◌-◌, ◌*◌, ◌/◌, ◌%◌
 use native.Mathlib.Nat.{pow-suc, div-lt_iff_lt-mul}
 use native.Mathlib.Omega.{arith}
 use lib.Dec.{ltb}
-use borrow.Author.Tests.{ltb-true, ltb-false, lt-ltb, le-ltb}
+use borrow.Author.Tests.{ltb-false, lt-ltb, le-ltb}
 use Rattle.smtlib.specs.Numerals.{digit, numeral_within, numeral, bits, value_of}
 use Rattle.smtlib.specs.Laws.{above, NumeralsTold, BitsTold, NumeralsAbove, BitsAbove}
 use Rattle.smtlib.proofs.Cuts.{above-append}

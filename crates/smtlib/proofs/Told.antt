@@ -6,14 +6,13 @@ use mathlib.Core.List.{List, [], ◌∷◌, ◌++◌, append_cancel_left}
 use Prim.Native.Nat.{ℕ, zero, suc, ◌^◌, ◌≤◌, ◌<◌}
 use native.Mathlib.Omega.{arith}
 use lib.ListN.{get_or}
-use lib.Dec.{eqb, ltb, leb, eqb-suc-zero}
+use lib.Dec.{eqb, ltb, eqb-suc-zero}
 use borrow.Author.Tests.{eqb-true, leb-true, ltb-true, lt-ltb, le-ltb}
 use Rattle.ops.specs.Numbers.{last_op}
-use Rattle.ops.specs.Fits.{fits}
 use Rattle.smtlib.specs.Bytes.{bytes, same_bytes, place_in, is_in}
 use Rattle.smtlib.specs.Numerals.{numeral, bits}
 use Rattle.smtlib.specs.Symbols.{operators, operator_name, operator_of, vector_sort, sort_name, constant_name}
-use Rattle.smtlib.specs.Laws.{above, stops, Named, OperatorsTold, OperatorsAbove, OperatorsRead, OperatorsNamed, SortsTold, ConstantsTold}
+use Rattle.smtlib.specs.Laws.{above, stops, OperatorsTold, OperatorsAbove, OperatorsRead, OperatorsNamed, SortsTold, ConstantsTold}
 use Rattle.smtlib.proofs.Cuts.{above_less, head_same, tail_same, cut, regroup, and_left, and_right}
 use Rattle.smtlib.proofs.Searches.{word_at}
 use Rattle.smtlib.proofs.Operators.{passes, passed}

@@ -1,6 +1,6 @@
 -- Numbers as digits: SMT-LIB's numerals, and the digits of its binary constants.
 -- Assumes nothing.
-use Rattle.std.specs.Prelude.{Bool, true, false, List, [], ◌∷◌, ℕ, zero, suc, ◌+◌, ◌-◌, ◌*◌, ◌/◌, ◌%◌, ltb}
+use Rattle.std.specs.Prelude.{true, false, List, [], ◌∷◌, ℕ, zero, suc, ◌+◌, ◌-◌, ◌*◌, ◌/◌, ◌%◌, ltb}
 use Rattle.smtlib.specs.Bytes.{◌⧺◌}
 
 -- the digit of a number below ten

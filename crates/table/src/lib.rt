@@ -1,5 +1,7 @@
 // Tables of terms, and what refuses them (paper 01, "Refused because of the input", 1 to 10): the definitions of all,
 // the code of 4 to 7.
+#![tactic(auto)]
+
 mod operands; // refusals 5 to 7, by rank
 mod ranks; // the operators by what they ask of their fields and sorts
 mod sorts; // Boolean, vector, array

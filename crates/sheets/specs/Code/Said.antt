@@ -3,7 +3,7 @@
 use Rattle.std.specs.Prelude.{◌≡◌, Bool, true, false, cond, List, ℕ, zero, suc, ◌<◌, eqb, ltb, length, get_or}
 use Rattle.table.specs.declared.words.Term.{Term}
 use Rattle.sheets.specs.declared.lines.Line.{Line}
-use Rattle.sheets.specs.Marks.{own_marks, line_at, line_count, names, mark, keep}
+use Rattle.sheets.specs.Marks.{own_marks, line_at, names, mark, keep}
 
 -- the weight of a kind: mark is above keep
 abbrev pub weight : ℕ → ℕ

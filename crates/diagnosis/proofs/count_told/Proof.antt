@@ -1,8 +1,0 @@
-use Rattle.diagnosis.proofs.count_told.Statement.{statement}
-use Rattle.diagnosis.proofs.count_told.Tie as tie
-
-returns : tie.Need-returns
-returns c = rw (c.unless.ensures, c.before.nothing.ensures, c.before.before.plain.ensures)
-
-pub count-told-spec : {M : Type 1} → statement M
-count-told-spec = tie.close (tie.spec (λ c κs. tt) (λ c κs. tt) (λ c κs. tt) returns)

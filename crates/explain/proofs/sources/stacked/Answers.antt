@@ -1,0 +1,4 @@
+use Rattle.explain.proofs.sources.stacked.Goals as goal
+
+pub returns : goal.returns
+returns c = rw c.is_store.ensures

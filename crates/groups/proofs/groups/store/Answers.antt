@@ -1,0 +1,89 @@
+use mathlib.Core.Path.{refl, ◌∙◌}
+use lib.Dec.{lit≤}
+use Rattle.groups.specs.Code.Writing.{placed_from}
+use Rattle.groups.proofs.Laying.{fits, three_laid}
+use Rattle.groups.proofs.groups.store.Goals as goal
+
+pub returns : goal.returns
+unfolding placed_from
+returns c =
+    let b = c.args.b in
+    record {
+      value = c.grown.ensures;
+      room_after = (three_laid b 6 c.lay_three-3.ensures
+          c.and_term-3.ensures
+          c.and_term-4.ensures
+          c.or_term.ensures
+          (three_laid b 3 c.lay_three-2.ensures
+          c.and_term.ensures
+          c.and_term-2.ensures
+          c.equal_term-2.ensures
+          (three_laid b 0 c.lay_three.ensures
+          c.read_term.ensures
+          c.equal_term.ensures
+          c.choice_term.ensures
+          refl)));
+    }
+
+pub read_term-requires : goal.read_term-requires
+read_term-requires c = record {}
+
+pub equal_term-requires : goal.equal_term-requires
+equal_term-requires c = record {}
+
+pub overflow_add-b : goal.overflow_add-b
+overflow_add-b c = fits _ (lit≤ tt) c.requires
+
+pub choice_term-requires : goal.choice_term-requires
+choice_term-requires c = record {}
+
+pub lay_three-requires : goal.lay_three-requires
+lay_three-requires c = (c.requires, lit≤ tt)
+
+pub and_term-requires : goal.and_term-requires
+and_term-requires c = record {}
+
+pub overflow_add-b-2 : goal.overflow_add-b-2
+overflow_add-b-2 c = fits _ (lit≤ tt) c.requires
+
+pub overflow_add-b-3 : goal.overflow_add-b-3
+overflow_add-b-3 c = fits _ (lit≤ tt) c.requires
+
+pub and_term-requires-2 : goal.and_term-requires-2
+and_term-requires-2 c = record {}
+
+pub equal_term-requires-2 : goal.equal_term-requires-2
+equal_term-requires-2 c = record {}
+
+pub lay_three-requires-2 : goal.lay_three-requires-2
+lay_three-requires-2 c = (c.requires, lit≤ tt)
+
+pub and_term-requires-3 : goal.and_term-requires-3
+and_term-requires-3 c = record {}
+
+pub overflow_add-b-4 : goal.overflow_add-b-4
+overflow_add-b-4 c = fits _ (lit≤ tt) c.requires
+
+pub overflow_add-b-5 : goal.overflow_add-b-5
+overflow_add-b-5 c = fits _ (lit≤ tt) c.requires
+
+pub and_term-requires-4 : goal.and_term-requires-4
+and_term-requires-4 c = record {}
+
+pub overflow_add-b-6 : goal.overflow_add-b-6
+overflow_add-b-6 c = fits _ (lit≤ tt) c.requires
+
+pub overflow_add-b-7 : goal.overflow_add-b-7
+overflow_add-b-7 c = fits _ (lit≤ tt) c.requires
+
+pub or_term-requires : goal.or_term-requires
+or_term-requires c = record {}
+
+pub lay_three-requires-3 : goal.lay_three-requires-3
+lay_three-requires-3 c = (c.requires, lit≤ tt)
+
+pub grown-requires : goal.grown-requires
+grown-requires c = (c.requires, (lit≤ tt, lit≤ tt))
+
+pub shape_of-room : goal.shape_of-room
+shape_of-room c = c.lay_three-3.auto.room ∙ c.lay_three-2.auto.room ∙ c.lay_three.auto.room

@@ -1,0 +1,13 @@
+use Rattle.std.proofs.Common.{ap, ◌∙◌}
+use borrow.Author.Tests.{eq-eqb, ne_eqb}
+use Rattle.parser.specs.Expressions.{closed_in, closed_state}
+use Rattle.parser.specs.declared.words.Words.{Words}
+use Rattle.parser.proofs.expressions.closed.Goals as goal
+
+pub returns-then-s-ne0 : goal.returns-then-s-ne0
+unfolding closed_state
+returns-then-s-ne0 c = rw (ne_eqb _ _ c.if-s-ne0.true)
+
+pub returns : goal.returns
+unfolding closed_state
+returns c = rw (eq-eqb _ _ c.if-s-ne0.false) (c.closed_in.ensures ∙ ap (λ (w : Words). closed_in c.args.text.now c.args.names c.args.l.state c.args.levels w.first w.first.word) c.words_at.ensures)

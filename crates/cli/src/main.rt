@@ -86,6 +86,6 @@ fn main(rt: HostRuntime) -> ExitCode {
     if ends == status::CLOSED {
         return ExitCode::from(PIPE);
     }
-    let _ = status::tell(&rt, ends);
+    status::tell(ends);
     ExitCode::SUCCESS
 }

@@ -1,4 +1,5 @@
 // Reading an open file.
+ghost use Rattle.std.specs.Io.{ReadsAtMost};
 ghost use Rattle.io.specs.Counts.{IsPrefixLen};
 
 use std::fs::File;
@@ -11,7 +12,9 @@ pub enum Input {
     Opened(File),
 }
 
-fn read(input: &mut Input, bytes: &mut [u8]) -> Result<usize> {
+fn read(input: &mut Input, bytes: &mut [u8]) -> Result<usize>
+    ensures { ReadsAtMost result bytes.new }
+{
     match input {
         Input::Standard(stdin) => stdin.read(bytes),
         Input::Opened(file) => file.read(bytes),
@@ -19,7 +22,9 @@ fn read(input: &mut Input, bytes: &mut [u8]) -> Result<usize> {
 }
 
 // How many bytes were read; where that failed, none.
-fn read_some(input: &mut Input, bytes: &mut [u8]) -> usize {
+fn read_some(input: &mut Input, bytes: &mut [u8]) -> usize
+    ensures { IsPrefixLen result bytes.new }
+{
     match read(input, bytes) {
         Ok(count) => count,
         Err(_) => 0,

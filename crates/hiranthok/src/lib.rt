@@ -13,7 +13,7 @@ ghost use Rattle.judge.specs.Judgement.{judgement};
 ghost use Rattle.judge.specs.Judgement as judges;
 ghost use Rattle.judge.specs.Demand3 as judges-laws;
 ghost use Rattle.records.specs.Answers as recorded;
-ghost use Rattle.records.specs.Laws as Recorded-laws;
+ghost use Rattle.records.specs.Laws as recorded-laws;
 ghost use Rattle.printer.specs.Printing.{printing};
 ghost use Rattle.printer.specs.Printing as prints;
 ghost use Rattle.printer.specs.Meaning as prints-laws;
@@ -103,7 +103,7 @@ pub extern "C" fn hiranthok_judge(
     ensures judgement_promise { judges-laws.JudgementPromise table.now sheet.now values.now
         cells.now (judgement table.now sheet.now values.now
         cells.now allowance (length work.old)) }
-    ensures flat_judgement_promise { Recorded-laws.FlatJudgementPromise table.now sheet.now values.now
+    ensures flat_judgement_promise { recorded-laws.FlatJudgementPromise table.now sheet.now values.now
         cells.now (judgement table.now sheet.now values.now
         cells.now allowance (length work.old)) }
 {
@@ -156,7 +156,7 @@ pub extern "C" fn hiranthok_judge_records(
         sheet.now values.now cells.now allowance (length work.old))
         table.now sheet.now values.now
         cells.now work.old }
-    ensures record_judgement_promise { Recorded-laws.RecordJudgementPromise table.now sheet.now
+    ensures record_judgement_promise { recorded-laws.RecordJudgementPromise table.now sheet.now
         values.now cells.now (recorded.judgement table.now sheet.now
         values.now cells.now allowance (length work.old)) }
 {

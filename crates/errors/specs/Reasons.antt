@@ -1,6 +1,6 @@
 -- Which reason is told for a rule that is refused: by what is expected where it is refused, and what stands there.
 -- Assumes nothing.
-use Rattle.std.specs.Prelude.{ℕ, Bool, true, false, cond, not, ◌&&◌, ◌||◌, List, ◌==◌, nat_le}
+use Rattle.std.specs.Prelude.{ℕ, Bool, cond, not, ◌&&◌, ◌||◌, ◌==◌, nat_le}
 use Rattle.parser.specs.declared.words.Word.{Word}
 use Rattle.parser.specs.declared.words.Word.TheVariants.{Open, Close, Keyword, Operator, Literal, Width, Name, Other, End}
 

@@ -11,7 +11,7 @@ use Rattle.ops.specs.Signed.{greatest, least, signed}
 use Rattle.ops.specs.Meaning.{bit, holds, ones, operation, value_of}
 use Rattle.ops.specs.Ranks.{function_rank, rank_width}
 use Rattle.ops.specs.Fits.{fits}
-use Rattle.ops.specs.Laws.{first, second, operand_fits, Absorbs, Absorption}
+use Rattle.ops.specs.Laws.{first, second, Absorbs, Absorption}
 use Rattle.ops.proofs.Booleans.{never, or_parts, and_shut, or_open}
 use Rattle.ops.proofs.Widths.{mod_below, shifted_out, fits_below, fits_mod, fits-bit}
 use Rattle.ops.proofs.Wraps.{fits_wrap}

@@ -1,6 +1,6 @@
 -- Laws of truths.
 -- Assumes nothing.
-use Rattle.std.proofs.Common.{◌≡◌, Bool, true, false, cond, not, ◌&&◌, ◌||◌, ◌⊎◌, sym, refl, ◌∙◌, ap₂, inl, inr, true≢false}
+use Rattle.std.proofs.Common.{◌≡◌, Bool, true, false, cond, not, ◌&&◌, ◌||◌, ◌⊎◌, sym, refl, ap₂, inl, inr}
 use mathlib.Core.Bool.{false≢true}
 
 pub never : {A : Type 0} → false ≡ true → A

@@ -1,11 +1,9 @@
 -- Values fit their sort; on vectors not, and, or are bit by bit.
 -- Assumes nothing.
-use Rattle.std.proofs.Common.{◌≡◌, ℕ, zero, suc, ◌-◌, ◌%◌, ◌^◌, ◌<◌, Bool, true, false, cond, not, ◌&&◌, ◌||◌, eqb, ltb, leb, sym, refl, ap, ◌∙◌, mod-eq_of_lt, arith, pow_pos, lt-ltb, le-leb}
+use Rattle.std.proofs.Common.{◌≡◌, ℕ, ◌-◌, Bool, true, false, cond, refl, ap, mod-eq_of_lt, pow_pos}
 use lib.Bits.{and_lt, or_lt}
-use lib.Dec.{eqb-suc-zero}
-use lib.Pow.{ones_sub-lt}
 use Rattle.ops.specs.declared.Op.TheVariants.{Constant, Variable, Apply, Ite, Select, Store, Unknown}
-use Rattle.ops.specs.Meaning.{bit, holds, ones, value_of, apply}
+use Rattle.ops.specs.Meaning.{holds, ones, apply}
 use Rattle.ops.specs.Fits.{fits}
 use Rattle.ops.specs.Laws.{Fitting, Bitwise}
 use Rattle.ops.proofs.Widths.{fits_below}

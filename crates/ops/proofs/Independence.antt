@@ -1,6 +1,6 @@
 -- Two runs that agree on the operands agree on the result.
 -- Assumes nothing.
-use Rattle.std.proofs.Common.{◌≡◌, ℕ, Bool, true, false, cond, not, ◌&&◌, ◌||◌, eqb, sym, ap, ◌∙◌, ap₂, ⊎_elim, eqb-true}
+use Rattle.std.proofs.Common.{◌≡◌, ℕ, Bool, true, false, cond, ◌&&◌, ◌||◌, eqb, sym, ap, ◌∙◌, ap₂, ⊎_elim, eqb-true}
 use Rattle.ops.specs.Meaning.{Operation, operation, value_by}
 use Rattle.ops.specs.Meaning.Operation.{unary, strict, absorbing, shift, fixed}
 use Rattle.ops.specs.Ranks.{FunctionRank, arity, function_rank}

@@ -1,7 +1,7 @@
 -- The condition of each operator: paper 01, "The condition of each term", ops 2 to 14; requests 03 and 05. Written c,
 -- d, e are the conditions of the operands, C(p), C(q), C(r).
 -- Assumes nothing.
-use Rattle.std.specs.Prelude.{ℕ, Bool, true, false, cond, not, ◌&&◌, ◌||◌, ◌==◌}
+use Rattle.std.specs.Prelude.{ℕ, Bool, false, cond, ◌&&◌, ◌||◌, ◌==◌}
 use Rattle.ops.specs.declared.Op.{Op}
 use Rattle.ops.specs.declared.Op.TheVariants.{Constant, Variable, Apply, Ite, Select, Store, Unknown}
 use Rattle.ops.specs.declared.Function.{Function}

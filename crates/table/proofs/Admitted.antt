@@ -3,21 +3,19 @@
 use mathlib.Core.Path.{◌≡◌, refl, sym, ap, ◌∙◌}
 use mathlib.Core.Bool.{Bool, true, false, cond, not, ◌&&◌, ◌||◌}
 use mathlib.Core.List.{List}
-use Prim.Native.Nat.{ℕ, zero, suc, pred, ◌+◌, ◌*◌, ◌%◌, ◌/◌, ◌≤◌, ◌<◌}
+use Prim.Native.Nat.{ℕ, pred, ◌*◌, ◌%◌, ◌/◌, ◌≤◌, ◌<◌}
 use native.Mathlib.Decide.{dec_lt, ℕ_discrete}
 use native.Mathlib.Omega.{arith}
 use lib.Dec.{eqb, ltb, leb}
 use lib.ListN.{length}
 use borrow.Author.Tests.{leb-true, le-leb, ltb-false, le-ltb, ne_eqb, eq-eqb, not-false, not-true, eqb-true, eqb-false}
-use Rattle.ops.proofs.Booleans.{or_neither, and_parts}
-use Rattle.table.specs.declared.words.Sort.{Sort}
+use Rattle.ops.proofs.Booleans.{or_neither}
 use Rattle.table.specs.declared.Acceptance.{Acceptance}
 use Rattle.table.specs.declared.Acceptance.TheVariants.{Accepted}
 use Rattle.table.specs.Terms.{words, terms, term_at, sort_at, boolean}
 use Rattle.table.specs.Faults.{fields, is_variable, known, sorted, placed_as, typed, valued_as, conflicts, clash, size, refuse_unless, fault_if, fault}
-use Rattle.table.specs.Folds.{any_below}
 use Rattle.table.specs.Admission.{refused, scan, ended, admission_within}
-use Rattle.table.specs.WellFormed.{Sound, WellFormed, OneUse, AdmissionSound, AdmissionComplete, SlotsHaveOneUse}
+use Rattle.table.specs.WellFormed.{Sound, WellFormed, AdmissionSound, AdmissionComplete, SlotsHaveOneUse}
 use Rattle.table.proofs.Searches.{none_of-any}
 use Rattle.table.proofs.Slots.{one_sort}
 use Rattle.table.proofs.Scans.{not_both, scan-sound, scan_complete}

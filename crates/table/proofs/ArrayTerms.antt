@@ -1,10 +1,10 @@
 -- An array term of an admitted table is a tree of stores and choices over variables, of size at most 16.
 -- Assumes nothing.
-use mathlib.Core.Path.{◌≡◌, refl, sym, ap, subst, ◌∙◌}
-use mathlib.Core.Bool.{Bool, true, false, cond, ◌&&◌}
+use mathlib.Core.Path.{◌≡◌, sym, ap, subst, ◌∙◌}
+use mathlib.Core.Bool.{true, false, ◌&&◌}
 use mathlib.Core.Logic.{◌⊎◌, inl, inr}
 use mathlib.Core.List.{List}
-use Prim.Native.Nat.{ℕ, zero, suc, ◌+◌, ◌≤◌, ◌<◌}
+use Prim.Native.Nat.{ℕ, zero, suc, ◌≤◌, ◌<◌}
 use native.Mathlib.Nat.{not-suc-le-zero}
 use native.Mathlib.Omega.{arith}
 use Rattle.ops.specs.declared.Op.{Op}
@@ -13,7 +13,7 @@ use Rattle.ops.specs.Numbers.{op_of}
 use Rattle.table.specs.declared.words.Sort.{Sort}
 use Rattle.table.specs.Terms.{terms, term_at, sort_at, boolean, array, vector_of, same_sort}
 use Rattle.table.specs.Ranks.{slotted, picks, writes}
-use Rattle.table.specs.Faults.{is_variable, is_store, is_choice, size_within, size}
+use Rattle.table.specs.Faults.{is_store, is_choice, size_within, size}
 use Rattle.table.specs.WellFormed.{WellFormed, Tree, ArrayTerms}
 use Rattle.table.specs.WellFormed.Tree.{variable, store, choice}
 use Rattle.table.proofs.OperandSorts.{array_op, same_sort_lem, three, four, op_at, typing, typing_as, placing_as, three_placed}

@@ -1,6 +1,6 @@
 -- What refuses a term: paper 01, "Refused because of the input", 3 to 9, line by line.
 -- Assumes nothing.
-use Rattle.std.specs.Prelude.{Bool, true, false, cond, not, ◌&&◌, ◌||◌, List, ℕ, zero, suc, ◌+◌, eqb, ltb, leb}
+use Rattle.std.specs.Prelude.{Bool, true, false, not, ◌&&◌, ◌||◌, List, ℕ, zero, suc, ◌+◌, eqb, ltb, leb}
 use Rattle.ops.specs.Numbers.{op_of, last_op}
 use Rattle.ops.specs.Fits.{fits}
 use Rattle.table.specs.declared.ranks.Rank.{Rank}

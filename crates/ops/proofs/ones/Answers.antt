@@ -1,4 +1,4 @@
-use Rattle.std.proofs.Common.{◌≡◌, ◌-◌, arith, pow_pos}
+use Rattle.std.proofs.Common.{◌≡◌, arith, pow_pos}
 use Rattle.ops.proofs.Widths.{one_shifted}
 use Rattle.ops.proofs.ones.Goals as goal
 

@@ -3,7 +3,6 @@
 
 mod clashes; // refusal 8
 mod faults; // refusals 3 to 9, term by term
-mod sizes; // the size of an array term
 
 ghost use Rattle.std.specs.Prelude.{◌≡◌, pred, ◌*◌, ◌≤◌, ◌<◌, length};
 ghost use Rattle.table.specs.Terms.{words};
@@ -11,7 +10,7 @@ ghost use Rattle.table.specs.Admission.{scan, ended, admission_within, admission
 ghost use Rattle.table.specs.Faults.{fault};
 ghost use Rattle.table.specs.Code.Clashes.{first_clash};
 
-pub use sizes::{keep, kept_size, size};
+pub use faults::size;
 use table::{Acceptance, WORDS, boolean, refused, sort_at};
 
 fn ended(table: &[u32], last: u32) -> Acceptance
@@ -31,13 +30,11 @@ fn first_fault(table: &[u32], terms: u32, clash: u32) -> Acceptance
     requires clash_value { clash ≡ first_clash table.now terms }
     ensures { result ≡ scan (fault table.now) terms 0 (ended table.now (pred terms)) }
 {
-    let mut sizes = [0u8; 512];
     for i in 0..terms {
-        let number = faults::fault(table, &sizes, i, i == clash);
+        let number = faults::fault(table, i, i == clash);
         if number != 0 {
             return refused(number, i as u64);
         }
-        keep(table, &mut sizes, i);
     }
     ended(table, terms - 1)
 }

@@ -14,7 +14,7 @@ module _ (stops : ℕ → Bool) (write : List ℕ → ℕ → List ℕ) (n i : �
   left : i < n → n - i ≡ suc (n - (i + 1))
   left b = omega arith
 
-  on_more : i < n → stops i ≡ false → on_from stops write (n - i) room i ≡ on_from stops write (n - (i + 1)) (write room i) (i + 1)
+  pub on_more : i < n → stops i ≡ false → on_from stops write (n - i) room i ≡ on_from stops write (n - (i + 1)) (write room i) (i + 1)
   unfolding on_from
   on_more b e = rw (left b, e, add-one)
 
@@ -53,34 +53,6 @@ module _ (stops : ℕ → Bool) (write : List ℕ → ℕ → List ℕ) (n begin
 
     pub passed : n ≤ i → (i ≡ first_from stops (n - begin) begin) × (room ≡ on_from stops write (n - begin) entry begin)
     passed b = (sym (first_past stops n i b) ∙ h.next, sym (on_past stops write n i room b) ∙ h.rest)
-
--- a run past term at, whatever that is: where it stops there, what the term writes is given, and it goes on from the next; else it goes
--- on from the term itself
-module _ (stops : ℕ → Bool) (n at : ℕ) (b : at < n) where
-  abbrev begun : Bool → ℕ
-  begun z = cond z (at + 1) at
-
-  pub begun-within : begun (stops at) ≤ n
-  begun-within = by (stops at)
-    where
-      by : (z : Bool) → begun z ≤ n
-      by true = omega arith
-      by false = omega arith
-
-  pub begun-next : first_from stops (n - begun (stops at)) (begun (stops at)) ≡ first_from stops (n - (at + 1)) (at + 1)
-  begun-next = by (stops at) refl
-    where
-      by : (z : Bool) → stops at ≡ z → first_from stops (n - begun z) (begun z) ≡ first_from stops (n - (at + 1)) (at + 1)
-      by true e = refl
-      by false e = first_on stops n at b e
-
-  pub begun_room : (write : List ℕ → ℕ → List ℕ) (room given after : List ℕ) → (stops at ≡ true → given ≡ after) → (stops at ≡ false → write room at ≡ after)
-      → on_from stops write (n - begun (stops at)) (cond (stops at) given room) (begun (stops at)) ≡ on_from stops write (n - (at + 1)) after (at + 1)
-  begun_room write room given after stop plain = by (stops at) refl
-    where
-      by : (z : Bool) → stops at ≡ z → on_from stops write (n - begun z) (cond z given room) (begun z) ≡ on_from stops write (n - (at + 1)) after (at + 1)
-      by true e = ap (λ (l : List ℕ). on_from stops write (n - (at + 1)) l (at + 1)) (stop e)
-      by false e = on_more stops write n at room b e ∙ ap (λ (l : List ℕ). on_from stops write (n - (at + 1)) l (at + 1)) (plain e)
 
 -- where what each term writes is known, so is the room in the end
 module _ (stops : ℕ → Bool) (write : List ℕ → ℕ → List ℕ) (room_at : ℕ → List ℕ) (n : ℕ) (one : (k : ℕ) → k < n → stops k ≡ false → write (room_at k) k ≡ room_at (k + 1)) where

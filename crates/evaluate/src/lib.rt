@@ -16,7 +16,7 @@ ghost use Rattle.evaluate.specs.declared.Evaluation.TheVariants.{NotEvaluated};
 pub use reads::{Found, find};
 pub use spend::afford;
 use table::{Acceptance, Refusal, accepts};
-pub use turns::{Turn, advance, step, turn_at, variable_number};
+pub use turns::{Turn, advance, number, step, turn_at, variable_number};
 
 // The steps that were spent, and the allowance that is left.
 #[derive(Clone, Copy)]

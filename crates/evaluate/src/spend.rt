@@ -1,8 +1,6 @@
 // What a run spends: the room's length, and steps of the allowance.
-ghost use Rattle.std.specs.Prelude.{◌≡◌, true, ◌≤◌};
+ghost use Rattle.std.specs.Prelude.{◌≡◌, ◌≤◌};
 ghost use Rattle.table.specs.Terms.{terms};
-ghost use Rattle.table.specs.Faults.{is_read};
-ghost use Rattle.table.specs.Code.Sizes.{Holds};
 ghost use Rattle.table.specs.WellFormed.{WellFormed};
 ghost use Rattle.evaluate.specs.Steps.{steps_of, steps};
 ghost use Rattle.evaluate.specs.Evaluation.{afford};
@@ -10,13 +8,12 @@ ghost use Rattle.evaluate.specs.Evaluation.{afford};
 use crate::{Evaluation, Spent};
 use table::{Refusal, Term};
 
-// The steps of a term: of a read the size of its whole array, which sizes holds.
-fn steps_of(table: &[u32], sizes: &[u8; 512], x: Term) -> u32
-    requires { is_read x ≡ true → Holds table.now sizes.now x.p }
+// The steps of a term: of a read the size of its whole array.
+fn steps_of(table: &[u32], x: Term) -> u32
     ensures { result ≡ steps_of table.now x }
 {
     if table::is_read(x) {
-        admission::kept_size(table, sizes, x.p)
+        admission::size(table, x.p)
     } else {
         0
     }
@@ -28,11 +25,9 @@ fn steps(table: &[u32]) -> u64
     ensures { result ≡ steps table.now (terms table.now) }
 {
     let terms = table::count(table);
-    let mut sizes = [0u8; 512];
     let mut sum = 0u64;
     for i in 0..terms {
-        sum += steps_of(table, &sizes, table::term_in(table, i)) as u64;
-        admission::keep(table, &mut sizes, i);
+        sum += steps_of(table, table::term_in(table, i)) as u64;
     }
     sum
 }

@@ -1,9 +1,9 @@
 // One term of a run: what it asks, and its value from the answer.
-ghost use Rattle.std.specs.Prelude.{◌≡◌, cond, ◌+◌, ◌≤◌, ◌<◌, length, take, set};
+ghost use Rattle.std.specs.Prelude.{◌≡◌, ◌+◌, ◌≤◌, ◌<◌, length, take};
 ghost use Rattle.table.specs.Terms as tables;
 ghost use Rattle.table.specs.WellFormed.{WellFormed};
 ghost use Rattle.evaluate.specs.Code.Turns.{told, turn_of, Next, Behind, variable_number, operated_number};
-ghost use Rattle.evaluate.specs.Code.Turns.{number_of, is_read_at, next_read, onward, numbered};
+ghost use Rattle.evaluate.specs.Code.Turns.{number_of, next_read, onward, numbered};
 
 use crate::reads::find;
 use table::{Term, number_at};
@@ -88,7 +88,7 @@ fn operated_number(table: &[u32], front: &[u32], x: Term) -> u32
 }
 
 // The value of a term, 0 for an array; that of a read is the answer.
-fn number(table: &[u32], values: &[u32], front: &[u32], x: Term, answer: u32) -> u32
+pub fn number(table: &[u32], values: &[u32], front: &[u32], x: Term, answer: u32) -> u32
     requires well_formed { WellFormed 80000 table.now }
     requires next { Next table.now front.now x }
     ensures { result ≡ number_of table.now values.now front.now x answer }
@@ -139,22 +139,7 @@ pub fn advance(
     turn_at(table, values, count, terms, &work[..end], i)
 }
 
-// Writes the answer to a turn's term where it is a read, and answers which term is next.
-fn note_read(table: &[u32], work: &mut [u32], at: u32, answer: u32) -> u32
-    requires { (at < 4294967295) × (at < length work.old) }
-    ensures value { result ≡ cond (is_read_at table.now at) (at + 1) at }
-    ensures work_after { work.new ≡ cond (is_read_at table.now at) (set work.old at answer)
-        work.old }
-{
-    if !table::is_read(table::term_at(table, at)) {
-        return at;
-    }
-    let k = at as usize;
-    work[k] = answer;
-    at + 1
-}
-
-// Writes the value of a turn's term, and goes on.
+// Writes the value of a turn's read, and goes on.
 pub fn step(
     table: &[u32],
     values: &[u32],
@@ -174,6 +159,9 @@ pub fn step(
         ≡ onward table.now (numbered table.now values.now 0) terms (numbered
         table.now values.now answer work.old turn.at) (turn.at + 1) }
 {
-    let next = note_read(table, work, turn.at, answer);
-    advance(table, values, count, terms, work, next)
+    let i = turn.at;
+    let at = i as usize;
+    let value = number(table, values, &work[..at], table::term_at(table, i), answer);
+    work[at] = value;
+    advance(table, values, count, terms, work, i + 1)
 }

@@ -1,8 +1,6 @@
 // How many terms the finished table has.
-ghost use Rattle.std.specs.Prelude.{◌≡◌, true};
+ghost use Rattle.std.specs.Prelude.{◌≡◌};
 ghost use Rattle.table.specs.Terms.{terms};
-ghost use Rattle.table.specs.Faults.{is_read};
-ghost use Rattle.table.specs.Code.Sizes.{Holds};
 ghost use Rattle.table.specs.WellFormed.{WellFormed};
 ghost use Rattle.groups.specs.Sizes.{size_of, sizes};
 ghost use Rattle.finish.specs.Finished.{finished};
@@ -10,9 +8,8 @@ ghost use Rattle.finish.specs.Finished.{finished};
 use groups::{GroupKind, kind_of};
 use table::Term;
 
-// The terms of a term's group: none for a choice between arrays. Sizes holds the size of a read's array.
-fn size_of(table: &[u32], sizes: &[u8; 512], x: Term) -> u32
-    requires { is_read x ≡ true → Holds table.now sizes.now x.p }
+// The terms of a term's group: none for a choice between arrays.
+fn size_of(table: &[u32], x: Term) -> u32
     ensures { result ≡ size_of table.now x }
 {
     if table::is_choice(x) {
@@ -33,7 +30,7 @@ fn size_of(table: &[u32], sizes: &[u8; 512], x: Term) -> u32
         GroupKind::Fixed => 9,
         GroupKind::Shift => 6,
         GroupKind::Choice => 6,
-        GroupKind::Read => 1 + 9 * admission::kept_size(table, sizes, x.p),
+        GroupKind::Read => 1 + 9 * admission::size(table, x.p),
         GroupKind::Write => 0,
     }
 }
@@ -44,11 +41,9 @@ fn sizes(table: &[u32]) -> u32
     ensures { result ≡ sizes table.now (terms table.now) }
 {
     let terms = table::count(table);
-    let mut sizes = [0u8; 512];
     let mut sum = 0u32;
     for i in 0..terms {
-        sum += size_of(table, &sizes, table::term_in(table, i));
-        admission::keep(table, &mut sizes, i);
+        sum += size_of(table, table::term_in(table, i));
     }
     sum
 }

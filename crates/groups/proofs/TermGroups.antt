@@ -85,10 +85,6 @@ read-kind Select e = refl
 read-kind Store e = absurd (omega (arith, e))
 read-kind Unknown e = absurd (omega (arith, e))
 
-pub read_only : (op : Op) → kind_of op ≡ Read → op ≡ Select
-unfolding row
-read_only op e = read-kind op (ap row e)
-
 -- term i, of a kind, where its group is written: conditions has the numbers of those before it
 pub record Here (w conditions : List ℕ) (b i yes : ℕ) (x : Term) (kind : GroupKind) : Type 0 where
   pub formed : WellFormed 512 w
@@ -176,8 +172,9 @@ module _ {w conditions : List ℕ} {b i yes : ℕ} {x : Term} {kind : GroupKind}
 
   -- a read's array is an earlier term
   read_below : kind ≡ Read → x.p < length conditions
+  unfolding row
   read_below e =
-      let op : op_of x.op ≡ Select = read_only (op_of x.op) (sym here.kind_is ∙ e) in
+      let op : op_of x.op ≡ Select = read-kind (op_of x.op) (ap row (sym here.kind_is ∙ e)) in
       let op_at : op_of (term_at w i).op ≡ Select = ap (λ (y : Term). op_of y.op) (sym here.is) ∙ op in
       let low : (term_at w i).p < i = (two_placed i (term_at w i) (subst (λ (o : Op). placed_as (fields_of (rank_of o)) i (term_at w i) ≡ true) op_at (here.formed.sound i here.inside).is_placed)).0 in
       subst (λ (y : Term). y.p < length conditions) (sym here.is) (omega (arith, here.all))

@@ -1,5 +1,4 @@
-// The kinds of groups (paper 01, "The condition of each term"; of less and the signed operators paper 02, requests 03
-// and 05), and which of them an operator has.
+// The kinds of groups (paper 01, "The condition of each term"; of less and the signed operators paper 02, requests 03 and 05), and which of them an operator has.
 ghost use Rattle.std.specs.Prelude.{◌≡◌};
 ghost use Rattle.ops.specs.Numbers.{op_of};
 ghost use Rattle.groups.specs.FunctionGroups.{kind_of};

@@ -44,8 +44,7 @@ fn input(x: Term, yes: u32) -> u32
     if x.q == 1 { yes + 1 } else { yes }
 }
 
-// The value that settles less as its first operand, of width `n`: nothing is above it; of signed less in the signed
-// order.
+// The value that settles less as its first operand, of width `n`: nothing is above it; of signed less in the signed order.
 fn highest(signed: bool, n: u32) -> u32
     requires { n ≤ 32 }
     ensures { result ≡ cond signed (greatest n) (ones n) }
@@ -129,7 +128,7 @@ pub fn write_group(
         GroupKind::Fixed => apart(bounds(room, b, n, 0, ops::ones(n), x.p, x.p, cp, cp, cq)),
         GroupKind::Shift => shift(room, b, n, x.q, cp, cq),
         GroupKind::Choice => choice(room, b, x.p, x.q, x.r, cp, cq, number_at(conditions, x.r)),
-        GroupKind::Read => apart(read_group(&table, &conditions, room, b, x.p, x.q, cq)),
+        GroupKind::Read => apart(read_group(table, conditions, room, b, x.p, x.q, cq)),
         GroupKind::Write => taken(0, b),
     }
 }

@@ -1,13 +1,13 @@
 -- What a turn of a judgement says of itself, and what is answered to it: cell by cell, what a read asks for.
 -- Assumes nothing.
 use mathlib.Core.Path.{◌≡◌, refl, sym, ap, ap₂, ◌∙◌}
-use mathlib.Core.Bool.{Bool, true, false, not, cond, ◌&&◌}
+use mathlib.Core.Bool.{Bool, true, false, cond, ◌&&◌}
 use mathlib.Core.List.{List}
 use Prim.Native.Nat.{ℕ, ◌+◌, ◌≤◌, ◌<◌}
 use native.Mathlib.Decide.{ℕ_discrete}
 use native.Mathlib.Nat.{zero-add}
 use native.Mathlib.Omega.{arith}
-use lib.Dec.{eqb, ltb}
+use lib.Dec.{ltb}
 use lib.ListN.{length, get_or, set, replicate}
 use lib.Seq.{get_or-set_same, get_or-set_other}
 use borrow.Author.Tests.{ltb-true, ltb-false}
@@ -21,13 +21,12 @@ use Rattle.setting.specs.Cells.{look_from}
 use Rattle.evaluate.specs.declared.turns.Turn.{Turn as Asked}
 use Rattle.evaluate.specs.Values.{numbers}
 use Rattle.evaluate.specs.Code.Turns as evaluating
-use Rattle.evaluate.proofs.Meaning.{value_read}
 use Rattle.evaluate.proofs.Runs as runs
 use Rattle.evaluate.proofs.Runs.{in_cells, looked, Turning}
 use Rattle.judge.specs.declared.turns.Turn.{Turn}
 use Rattle.judge.specs.Conditions.{truths}
 use Rattle.judge.specs.Code.Leaves.{leaves_at}
-use Rattle.judge.specs.Code.Labelled.{truth_in, picked_by, shut_by}
+use Rattle.judge.specs.Code.Labelled.{truth_in, picked_by}
 use Rattle.judge.specs.Code.Reach.{reach_at, held_at}
 use Rattle.judge.specs.Code.Turns.{alone, held, asks_for, array_of, turn_of, gathered}
 use Rattle.judge.proofs.LeafLaws.{few_leaves}
@@ -48,19 +47,9 @@ reached = array_of
 abbrev pub held_read : List ℕ → List ℕ → List ℕ → ℕ → Bool
 held_read w front ts i = held_at w front ts (get_or front (term_at w i).q 0) (reached w front ts i)
 
--- whether that is a store with neither index nor value free: no read of it is free
-abbrev pub shut_read : List ℕ → List ℕ → List ℕ → ℕ → Bool
-shut_read w front ts i = shut_by ts (term_at w (reached w front ts i))
-
--- such a store is not picked
-unpicked : (s a b e : Bool) → (s && not a && not b) ≡ true → (s && (a && true && e)) ≡ false
-unpicked true true b e h = never h
-unpicked true false b e h = refl
-unpicked false a b e h = refl
-
--- such a read asks for cells, unless a store answers or it is not free
+-- such a read asks for cells, unless a store answers
 abbrev pub Seeking : List ℕ → List ℕ → List ℕ → ℕ → Type 0
-Seeking w front ts i = (free_read w ts i ≡ true) × (held_read w front ts i ≡ false) × (shut_read w front ts i ≡ false)
+Seeking w front ts i = (free_read w ts i ≡ true) × (held_read w front ts i ≡ false)
 
 -- as the code finds them
 module _ (w front ts : List ℕ) (i : ℕ) (x : Term) (index to : ℕ) (y : Term) (x-is : x ≡ term_at w i) (found : index ≡ get_or front x.q 0) (came : to ≡ reach_at w front ts index x.p) (y-is : y ≡ term_at w to) where
@@ -73,9 +62,6 @@ module _ (w front ts : List ℕ) (i : ℕ) (x : Term) (index to : ℕ) (y : Term
   pub held_is : is_store y && picked_by front ts y index true ≡ held_read w front ts i
   held_is = ap (λ (z : Term). is_store z && picked_by front ts z index true) y-is ∙ ap₂ (λ (j k : ℕ). held_at w front ts j k) index_is reached_is
 
-  pub shut_is : shut_by ts y ≡ shut_read w front ts i
-  shut_is = ap (shut_by ts) (y-is ∙ ap (term_at w) reached_is)
-
 module _ (w row front ts had : List ℕ) (count n i met : ℕ) where
   -- what such a read asks
   abbrev pub asks_cell : Turn
@@ -84,76 +70,61 @@ module _ (w row front ts had : List ℕ) (count n i met : ℕ) where
   abbrev asks_none : Turn
   asks_none = held (ltb i n) i (reached w front ts i)
 
-  abbrev asks_value : ℕ → Turn
-  asks_value to = alone (evaluating.turn_of w row count n front i) to
+  abbrev asks_value : Turn
+  asks_value = alone (evaluating.turn_of w row count n front i)
 
-  abbrev asks_by : Bool → Bool → Bool → Turn
-  asks_by z y s = cond z (cond y asks_none (cond s (asks_value (reached w front ts i)) asks_cell)) (asks_value 0)
+  abbrev asks_by : Bool → Bool → Turn
+  asks_by z y = cond z (cond y asks_none asks_cell) asks_value
 
   pub turning : Turning n count i (asked (turn_of w row count n front ts had i met))
   unfolding turn_of
-  turning = by (free_read w ts i) (held_read w front ts i) (shut_read w front ts i)
+  turning = by (free_read w ts i) (held_read w front ts i)
     where
-      by : (z y s : Bool) → Turning n count i (asked (asks_by z y s))
-      by true true s = record { going = refl; place = refl; most = omega arith }
-      by true false true = runs.turning w row front count n i
-      by true false false = record { going = refl; place = refl; most = omega arith }
-      by false y s = runs.turning w row front count n i
+      by : (z y : Bool) → Turning n count i (asked (asks_by z y))
+      by true true = record { going = refl; place = refl; most = omega arith }
+      by true false = record { going = refl; place = refl; most = omega arith }
+      by false y = runs.turning w row front count n i
 
   pub free-asks : Seeking w front ts i → turn_of w row count n front ts had i met ≡ asks_cell
   unfolding turn_of
-  free-asks e = λ k. asks_by (e.0 k) (e.1 k) (e.2 k)
+  free-asks e = λ k. asks_by (e.0 k) (e.1 k)
 
   pub held_asks : free_read w ts i ≡ true → held_read w front ts i ≡ true → turn_of w row count n front ts had i met ≡ asks_none
   unfolding turn_of
-  held_asks e h = λ k. asks_by (e k) (h k) (shut_read w front ts i)
+  held_asks e h = λ k. asks_by (e k) (h k)
 
-  pub shut_asks : free_read w ts i ≡ true → shut_read w front ts i ≡ true → turn_of w row count n front ts had i met ≡ asks_value (reached w front ts i)
+  pub plain-asks : free_read w ts i ≡ false → turn_of w row count n front ts had i met ≡ asks_value
   unfolding turn_of
-  shut_asks e s = λ k. asks_by (e k) (unheld k) (s k)
-    where
-      y : Term
-      y = term_at w (reached w front ts i)
+  plain-asks e = λ k. asks_by (e k) (held_read w front ts i)
 
-      unheld : held_read w front ts i ≡ false
-      unheld = unpicked (is_store y) (truth_in ts y.q) (truth_in ts y.r) (eqb (get_or front y.q 0) (get_or front (term_at w i).q 0)) s
+  -- which of the three it is
+  way : {A : Type 0} (z y : Bool) → free_read w ts i ≡ z → held_read w front ts i ≡ y → (Seeking w front ts i → A) → (free_read w ts i ≡ true → held_read w front ts i ≡ true → A) → (free_read w ts i ≡ false → A) → A
+  way true true e h seeks holds-it plain = holds-it e h
+  way true false e h seeks holds-it plain = seeks (e, h)
+  way false y e h seeks holds-it plain = plain e
 
-  pub plain-asks : free_read w ts i ≡ false → turn_of w row count n front ts had i met ≡ asks_value 0
-  unfolding turn_of
-  plain-asks e = λ k. asks_by (e k) (held_read w front ts i) (shut_read w front ts i)
-
-  -- which of the four it is
-  module _ {A : Type 0} (seeks : Seeking w front ts i → A) (held_by : free_read w ts i ≡ true → held_read w front ts i ≡ true → A) (shut_by_lem : free_read w ts i ≡ true → shut_read w front ts i ≡ true → A) (plain : free_read w ts i ≡ false → A) where
-    way : (z y s : Bool) → free_read w ts i ≡ z → held_read w front ts i ≡ y → shut_read w front ts i ≡ s → A
-    way true true s e h g = held_by e h
-    way true false true e h g = shut_by_lem e g
-    way true false false e h g = seeks (e, h, g)
-    way false y s e h g = plain e
-
-    pub by_ways : A
-    by_ways = way (free_read w ts i) (held_read w front ts i) (shut_read w front ts i) refl refl refl
+  pub by_ways : {A : Type 0} → (Seeking w front ts i → A) → (free_read w ts i ≡ true → held_read w front ts i ≡ true → A) → (free_read w ts i ≡ false → A) → A
+  by_ways = way (free_read w ts i) (held_read w front ts i) refl refl
 
   -- it has room for 17 cells
   pub long_cells : length had ≡ 17 → length (turn_of w row count n front ts had i met).cells ≡ 17
   unfolding turn_of
-  long_cells long = by (free_read w ts i) (held_read w front ts i) (shut_read w front ts i)
+  long_cells long = by (free_read w ts i) (held_read w front ts i)
     where
-      by : (z y s : Bool) → length (asks_by z y s).cells ≡ 17
-      by true true s = refl
-      by true false true = refl
-      by true false false = long
-      by false y s = refl
+      by : (z y : Bool) → length (asks_by z y).cells ≡ 17
+      by true true = refl
+      by true false = long
+      by false y = refl
 
   -- a turn that goes on after its cell is such a read's
   pub more-free : (turn_of w row count n front ts had i met).more ≡ true → Seeking w front ts i × (met + 1 < length (leaves_at w (reached w front ts i)))
   unfolding turn_of
-  more-free = by (free_read w ts i) (held_read w front ts i) (shut_read w front ts i)
+  more-free = by (free_read w ts i) (held_read w front ts i)
     where
-      by : (z y s : Bool) → (asks_by z y s).more ≡ true → ((z ≡ true) × (y ≡ false) × (s ≡ false)) × (met + 1 < length (leaves_at w (reached w front ts i)))
-      by true true s h = never h
-      by true false true h = never h
-      by true false false h = ((refl, refl, refl), ltb-true (met + 1) (length (leaves_at w (reached w front ts i))) h)
-      by false y s h = never h
+      by : (z y : Bool) → (asks_by z y).more ≡ true → ((z ≡ true) × (y ≡ false)) × (met + 1 < length (leaves_at w (reached w front ts i)))
+      by true true h = never h
+      by true false h = ((refl, refl), ltb-true (met + 1) (length (leaves_at w (reached w front ts i))) h)
+      by false y h = never h
 
 -- Of term i of a table in an interpretation: the cells of its variables
 module _ (w : List ℕ) (marked : Term → Bool) (row : List ℕ) (cells : ℕ → Cell) (count i : ℕ) where
@@ -188,7 +159,6 @@ module _ (limit : ℕ) (w : List ℕ) (marked : Term → Bool) (row : List ℕ) 
     room = by_ways w row N T had count n i met
         (λ e. omega (arith, ap (λ (t : Turn). t.met) (asks ∙ free-asks w row N T had count n i met e), (going e).next, few_leaves limit w f (reached w N T i)))
         (λ e h. omega (arith, ap (λ (t : Turn). t.met) (asks ∙ held_asks w row N T had count n i met e h)))
-        (λ e s. omega (arith, ap (λ (t : Turn). t.met) (asks ∙ shut_asks w row N T had count n i met e s)))
         (λ e. omega (arith, ap (λ (t : Turn). t.met) (asks ∙ plain-asks w row N T had count n i met e)))
 
     module _ (answer : ℕ) (answered : answer ≡ looked cells (asked turn)) where
@@ -227,25 +197,19 @@ module _ (limit : ℕ) (w : List ℕ) (marked : Term → Bool) (row : List ℕ) 
           array_is e = by_ways w row N T had count n i met
               (λ s. ap (λ (t : Turn). t.array) (asks ∙ free-asks w row N T had count n i met s))
               (λ g h. ap (λ (t : Turn). t.array) (asks ∙ held_asks w row N T had count n i met g h))
-              (λ g s. ap (λ (t : Turn). t.array) (asks ∙ shut_asks w row N T had count n i met g s))
               (λ g. never (sym g ∙ e))
-
-          -- asking as in evaluating, it has its value
-          valued : (to : ℕ) → turn ≡ asks_value w row N T had count n i met to → get_or (gathered turn answer) 0 0 ≡ value_read limit w row (λ slot j other. look_from cells count 0 slot j other) f i b
-          valued to once =
-              ap (λ (t : Turn). get_or (set t.cells t.met answer) 0 0) once
-              ∙ get_or-set_same (replicate 17 0) 0 answer 0 (omega arith)
-              ∙ runs.answer_is limit w row cells count n f i b (asked turn) (ap asked once) answer answered r
 
           by : (z : Bool) → truth_in T (term_at w i).q ≡ z → Answers limit w marked row (λ slot j other. look_from cells count 0 slot j other) f i b z turn.array (gathered turn answer)
           by true z =
               let e : free_read w T i ≡ true = ap₂ (λ (x y : Bool). x && y) r z in (
                 array_is e,
-                λ s. valued (reached w N T i) (asks ∙ shut_asks w row N T had count n i met e s),
-                λ s h m c.
-                    let last : length slots ≤ met + 1 = ltb-false (met + 1) (length slots) (sym (ap (λ (t : Turn). t.more) (is (e, h, s))) ∙ none) in
-                    ap (λ (k : ℕ). get_or (gathered turn answer) k 0) (zero-add m) ∙ one_more_lem (e, h, s) m (omega arith),
+                λ h m c.
+                    let last : length slots ≤ met + 1 = ltb-false (met + 1) (length slots) (sym (ap (λ (t : Turn). t.more) (is (e, h))) ∙ none) in
+                    ap (λ (k : ℕ). get_or (gathered turn answer) k 0) (zero-add m) ∙ one_more_lem (e, h) m (omega arith),
               )
           by false z =
               let e : free_read w T i ≡ false = ap₂ (λ (x y : Bool). x && y) r z in
-              valued 0 (asks ∙ plain-asks w row N T had count n i met e)
+              let is = asks ∙ plain-asks w row N T had count n i met e in
+              ap (λ (t : Turn). get_or (set t.cells t.met answer) 0 0) is
+              ∙ get_or-set_same (replicate 17 0) 0 answer 0 (omega arith)
+              ∙ runs.answer_is limit w row cells count n f i b (asked turn) (ap asked is) answer answered r

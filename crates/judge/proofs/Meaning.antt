@@ -4,7 +4,7 @@ use mathlib.Core.Path.{◌≡◌, refl, sym, ap, ap₂, subst, ◌∙◌}
 use mathlib.Core.Bool.{Bool, true, false, cond, not, ◌&&◌}
 use mathlib.Core.List.{List, [], ◌∷◌, map, ◌++◌}
 use Prim.Native.Nat.{ℕ, zero, suc, ◌+◌, ◌≤◌, ◌<◌}
-use native.Mathlib.Decide.{dec_lt}
+use native.Mathlib.Decide.{dec_lt, ℕ_discrete}
 use native.Mathlib.Nat.{not-suc-le-zero, zero-add, add_assoc}
 use native.Mathlib.Omega.{arith}
 use lib.Dec.{eqb}
@@ -18,7 +18,7 @@ use Rattle.ops.specs.Condition.{chosen, settles}
 use Rattle.ops.proofs.Booleans.{never, and_parts, and_shut}
 use Rattle.table.specs.declared.words.Term.{Term}
 use Rattle.table.specs.Terms.{terms, term_at, sort_at, array, vector_of, same_sort}
-use Rattle.table.specs.Ranks.{slotted, immediate, picks, reads, writes}
+use Rattle.table.specs.Ranks.{slotted, immediate, picks, reads}
 use Rattle.table.specs.Faults.{is_read, is_store}
 use Rattle.table.specs.WellFormed.{WellFormed}
 use Rattle.table.proofs.FoldLaws.{length-map-fold, map-fold_in, map-fold-more}
@@ -32,12 +32,12 @@ use Rattle.table.proofs.OperandSorts.{three, typing_as, placing_as, two_placed}
 use Rattle.judge.specs.declared.reads.Labelled.{Labelled}
 use Rattle.judge.specs.Code.Leaves.{leaves_at}
 use Rattle.judge.specs.Conditions.{Condition, plain, settled, condition_by, condition_in, condition_from, conditions, condition_at, truths}
-use Rattle.judge.specs.Code.Labelled.{truth_in, overlaid, picked_by, shut_by, either_of, labelled_at, unfree, labelled_by, truth_of, plain_labelled, labelled_of}
+use Rattle.judge.specs.Code.Labelled.{truth_in, overlaid, picked_by, either_of, labelled_at, labelled_by, truth_of, plain_labelled, labelled_of}
 use Rattle.judge.specs.Code.Reach.{passed_by, reach_at, held_at}
 use Rattle.judge.proofs.Alike.{choice_shut, store_shut, condition_below, condition_past}
 use Rattle.judge.proofs.LeafLaws.{leaves_variable, leaves_store, leaves_choice}
-use Rattle.judge.proofs.Trees.{overlaid-passed, either-picked, labelled_variable, labelled_store, labelled_choice, read-picked}
-use Rattle.judge.proofs.Reaching.{at_variable, past-store, at_store-here, at_choice-here, into_picked}
+use Rattle.judge.proofs.Trees.{overlaid-passed, either_first, either_second, labelled_variable, labelled_store, labelled_choice, read-picked}
+use Rattle.judge.proofs.Reaching.{at_variable, past-store, at_store-here, at_choice-here, into_first, into_second}
 
 pub holds-bit : (b : Bool) → holds (bit b) ≡ b
 holds-bit true = refl
@@ -61,15 +61,15 @@ module _ (w : List ℕ) (marked : Term → Bool) (I : Interpretation) where
 
 -- A read at an index that is not free is not free
 
-shut_by_lem : (marked : Term → Bool) (v : ℕ → Value) (c : ℕ → Condition) (width : ℕ) (t : Term) (j : ℕ) → ((i : ℕ) → (c i).read_free j false ≡ false) → (op : Op) → (condition_by marked v c width t op).read_free j false ≡ false
+shut_by : (marked : Term → Bool) (v : ℕ → Value) (c : ℕ → Condition) (width : ℕ) (t : Term) (j : ℕ) → ((i : ℕ) → (c i).read_free j false ≡ false) → (op : Op) → (condition_by marked v c width t op).read_free j false ≡ false
 unfolding condition_by
-shut_by_lem marked v c width t j shut Constant = refl
-shut_by_lem marked v c width t j shut Variable = and_shut (not (marked t))
-shut_by_lem marked v c width t j shut (Apply f) = and_shut (settled marked v c width t (Apply f))
-shut_by_lem marked v c width t j shut Ite = choice_shut (c t.p).free (holds (v t.p).num) ((c t.q).read_free j false) ((c t.r).read_free j false) (eqb ((v t.q).cell j) ((v t.r).cell j)) (shut t.q) (shut t.r)
-shut_by_lem marked v c width t j shut Select = and_shut ((c t.p).read_free (v t.q).num (c t.q).free)
-shut_by_lem marked v c width t j shut Store = store_shut (c t.q).free (c t.r).free ((c t.p).read_free j false) (eqb (v t.q).num j) (eqb (v t.r).num ((v t.p).cell j)) (shut t.p)
-shut_by_lem marked v c width t j shut Unknown = refl
+shut_by marked v c width t j shut Constant = refl
+shut_by marked v c width t j shut Variable = and_shut (not (marked t))
+shut_by marked v c width t j shut (Apply f) = and_shut (settled marked v c width t (Apply f))
+shut_by marked v c width t j shut Ite = choice_shut (c t.p).free (holds (v t.p).num) ((c t.q).read_free j false) ((c t.r).read_free j false) (eqb ((v t.q).cell j) ((v t.r).cell j)) (shut t.q) (shut t.r)
+shut_by marked v c width t j shut Select = and_shut ((c t.p).read_free (v t.q).num (c t.q).free)
+shut_by marked v c width t j shut Store = store_shut (c t.q).free (c t.r).free ((c t.p).read_free j false) (eqb (v t.q).num j) (eqb (v t.r).num ((v t.p).cell j)) (shut t.p)
+shut_by marked v c width t j shut Unknown = refl
 
 module _ (w : List ℕ) (marked : Term → Bool) (I : Interpretation) (j : ℕ) where
   shut_in : (k : ℕ) → ((i : ℕ) → i < k → (condition_at w marked I i).read_free j false ≡ false) → (i : ℕ) → (condition_in (conditions w marked I k) i).read_free j false ≡ false
@@ -83,18 +83,10 @@ module _ (w : List ℕ) (marked : Term → Bool) (I : Interpretation) (j : ℕ) 
   shut_within zero k b = absurd (not-suc-le-zero b)
   shut_within (suc n) k b =
       let x = term_at w k in
-      shut_by_lem marked (value_in (values w I k)) (condition_in (conditions w marked I k)) (sort_at w x.p).n x j (shut_in k (λ i c. shut_within n i (omega arith))) (op_of x.op)
+      shut_by marked (value_in (values w I k)) (condition_in (conditions w marked I k)) (sort_at w x.p).n x j (shut_in k (λ i c. shut_within n i (omega arith))) (op_of x.op)
 
   pub unfree-index : (k : ℕ) → (condition_at w marked I k).read_free j false ≡ false
   unfree-index k = shut_within (suc k) k (omega arith)
-
--- Nor is a read of a store with neither index nor value free
-
-shut_chosen : (s a b : Bool) → (s && not a && not b) ≡ true → (test e same : Bool) → chosen (a && true) test b e same ≡ false
-shut_chosen true true b h test e same = never h
-shut_chosen true false true h test e same = never h
-shut_chosen true false false h test e same = refl
-shut_chosen false a b h test e same = never h
 
 -- One array term
 
@@ -282,22 +274,18 @@ module _ (limit : ℕ) (w : List ℕ) (marked : Term → Bool) (row : List ℕ) 
         by false p = stays (at_store-here w Ns Ts (stacked limit w f) j a y refl (is-store limit w I f k a c d r e) p)
 
     choice_reach : op_of y.op ≡ Ite → Reached k j a (reach_at w Ns Ts j a)
-    choice_reach e = by (truth_in Ts y.p) refl
+    choice_reach e = by (truth_in Ts y.p) refl (ℕ_discrete (get_or Ns y.p 0) 1)
       where
-        branch : Bool → ℕ
-        branch b = cond b y.q y.r
-
-        below : (b : Bool) → (branch b < a) × (array (sort_at w (branch b)) ≡ true)
-        below true = ((choice-placed limit w I f k a c d r e).1, (choice_arrays limit w I f k a c d r e).0)
-        below false = ((choice-placed limit w I f k a c d r e).2, (choice_arrays limit w I f k a c d r e).1)
-
-        by : (z : Bool) → truth_in Ts y.p ≡ z → Reached k j a (reach_at w Ns Ts j a)
-        by true p =
-            let picked = holds (get_or Ns y.p 0) in
-            goes (branch picked) (below picked).0 (below picked).1
-            (choice_meant_lem k a c d r j true e ∙ sym (either-picked Ns Ts y (λ b. meant (branch b) j true) p))
-            (into_picked w Ns Ts (stacked limit w f) j a y refl (is-choice limit w I f k a c d r e) p)
-        by false p = stays (at_choice-here w Ns Ts (stacked limit w f) j a y refl (is-choice limit w I f k a c d r e) p)
+        by : (z : Bool) → truth_in Ts y.p ≡ z → Dec (get_or Ns y.p 0 ≡ 1) → Reached k j a (reach_at w Ns Ts j a)
+        by true p (yes h) =
+            goes y.q (choice-placed limit w I f k a c d r e).1 (choice_arrays limit w I f k a c d r e).0
+            (choice_meant_lem k a c d r j true e ∙ sym (either_first Ns Ts y (meant y.q j true) (meant y.r j true) p h))
+            (into_first w Ns Ts (stacked limit w f) j a y refl (is-choice limit w I f k a c d r e) p h)
+        by true p (no h) =
+            goes y.r (choice-placed limit w I f k a c d r e).2 (choice_arrays limit w I f k a c d r e).1
+            (choice_meant_lem k a c d r j true e ∙ sym (either_second Ns Ts y (meant y.q j true) (meant y.r j true) p h))
+            (into_second w Ns Ts (stacked limit w f) j a y refl (is-choice limit w I f k a c d r e) p h)
+        by false p h = stays (at_choice-here w Ns Ts (stacked limit w f) j a y refl (is-choice limit w I f k a c d r e) p)
 
     reach_step : Reached k j a (reach_at w Ns Ts j a)
     reach_step = array_by limit w I f k a c d r variable_reach store_reach choice_reach
@@ -317,13 +305,13 @@ module _ (limit : ℕ) (w : List ℕ) (marked : Term → Bool) (row : List ℕ) 
     right_had : Had right j to 0
     right_had m b = ap (λ (i : ℕ). get_or right i 0) (zero-add m) ∙ mapped (cell_of limit w row look f j) (leaves_at w to) m b
 
-    on : Reached k j a to
-    on = reach_within_lem (suc a) k a (omega arith) c d r j
-
     pub reached_labelled : (held_at w (numbers w I k) (truths w marked I k) j to ≡ false → Had cells j to 0)
         → labelled_at w (numbers w I k) (truths w marked I k) cells j true to 0 ≡ meant a j true
     reached_labelled had = by (held_at w (numbers w I k) (truths w marked I k) j to) refl ∙ sym on.same
       where
+        on : Reached k j a to
+        on = reach_within_lem (suc a) k a (omega arith) c d r j
+
         meant_by : (l : List ℕ) → Had l j to 0 → labelled_at w (numbers w I k) (truths w marked I k) l j true to 0 ≡ meant to j true
         meant_by l h = labelled_within_lem (suc to) k to (omega arith) (omega (arith, on.low)) (omega (arith, on.low)) on.kind j true l 0 h
 
@@ -334,35 +322,6 @@ module _ (limit : ℕ) (w : List ℕ) (marked : Term → Bool) (row : List ℕ) 
             ∙ read-picked w (numbers w I k) (truths w marked I k) right (stacked limit w f) j true to (term_at w to) refl 0 parts.0 parts.1
             ∙ meant_by right right_had
         by false e = meant_by cells (had e)
-
-    -- where it is a store with neither index nor value free, the read is not free
-    pub shut_reached : shut_by (truths w marked I k) (term_at w to) ≡ true → (K a).read_free j true ≡ false
-    shut_reached s =
-        ap (λ (l : Labelled). l.free) on.same
-        ∙ array_by limit w I f k to low_k low_terms on.kind (λ e. never (sym (ap (λ (o : Op). writes o) e) ∙ stores)) by_store (λ e. never (sym (ap (λ (o : Op). writes o) e) ∙ stores))
-      where
-        z : Term
-        z = term_at w to
-
-        tq : Bool
-        tq = truth_in (truths w marked I k) z.q
-
-        tr : Bool
-        tr = truth_in (truths w marked I k) z.r
-
-        low_k : to < k
-        low_k = omega (arith, on.low)
-
-        low_terms : to < terms w
-        low_terms = omega (arith, on.low)
-
-        stores : is_store z ≡ true
-        stores = (and_parts (is_store z) (not tq) (and_parts (is_store z && not tq) (not tr) s).0).0
-
-        by_store : op_of z.op ≡ Store → (K to).read_free j true ≡ false
-        by_store e =
-            ap (λ (l : Labelled). l.free) (store_meant_lem k to low_k low_terms on.kind j true e)
-            ∙ shut_chosen (is_store z) tq tr s (eqb (get_or (numbers w I k) z.q 0) j) ((K z.p).read_free j true) (eqb (get_or (numbers w I k) z.r 0) ((W z.p).cell j))
 
 -- A term that is no read: its truth by its operator
 
@@ -414,35 +373,19 @@ module _ (limit : ℕ) (w : List ℕ) (marked : Term → Bool) (row : List ℕ) 
   abbrev pub array_of : ℕ
   array_of = reach_at w N T index_of here.p
 
-  -- its value is had
-  abbrev pub Valued : List ℕ → Type 0
-  Valued cells = get_or cells 0 0 ≡ value_read limit w row look f k b
-
   -- the cells that answer a read, by its index's condition: those of the variables of the array that it reaches, none where a store
-  -- is picked, or its value alone where the index is not free or no read of that array is
+  -- is picked, or its value alone
   abbrev pub Answers : Bool → ℕ → List ℕ → Type 0
-  Answers true to cells =
-      (to ≡ array_of) × (shut_by T (term_at w array_of) ≡ true → Valued cells)
-      × (shut_by T (term_at w array_of) ≡ false → held_at w N T index_of array_of ≡ false → Had limit w marked row look f cells index_of array_of 0)
-  Answers false to cells = Valued cells
-
-  valued_is : (cells : List ℕ) (pb : here.p < k) → array (sort_at w here.p) ≡ true → Valued cells → get_or cells 0 0 ≡ (value_at w In here.p).cell index_of
-  valued_is cells pb arr h = h ∙ sym (ap (λ (v : Value). v.cell index_of) (sym (value-below w In k here.p pb)) ∙ read_is limit w row look f k here.p pb (omega arith) arr index_of)
+  Answers true to cells = (to ≡ array_of) × (held_at w N T index_of array_of ≡ false → Had limit w marked row look f cells index_of array_of 0)
+  Answers false to cells = get_or cells 0 0 ≡ value_read limit w row look f k b
 
   -- either way its array is read as it is meant
   answered : (to : ℕ) (cells : List ℕ) (pb : here.p < k) → array (sort_at w here.p) ≡ true → (cj : Bool) → Answers cj to cells
       → labelled_by cj w N T here to cells ≡ record { value = (value_at w In here.p).cell index_of; free = (condition_at w marked In here.p).read_free index_of cj }
-  answered to cells pb arr true h = ap (λ (i : ℕ). labelled_by true w N T here i cells) h.0 ∙ by (shut_by T (term_at w array_of)) refl
-    where
-      by : (z : Bool) → shut_by T (term_at w array_of) ≡ z → cond z (unfree cells) (labelled_at w N T cells index_of true array_of 0)
-          ≡ record { value = (value_at w In here.p).cell index_of; free = (condition_at w marked In here.p).read_free index_of true }
-      by true s =
-          let vs = valued_is cells pb arr (h.1 s) in
-          let fs = sym (shut_reached limit w marked row look f k here.p pb (omega arith) arr index_of cells s) in
-          λ i. record { value = vs i; free = fs i }
-      by false s = reached_labelled limit w marked row look f k here.p pb (omega arith) arr index_of cells (h.2 s)
+  answered to cells pb arr true h =
+      ap (λ (i : ℕ). labelled_at w N T cells index_of true i 0) h.0 ∙ reached_labelled limit w marked row look f k here.p pb (omega arith) arr index_of cells h.1
   answered to cells pb arr false h =
-      let vs = valued_is cells pb arr h in
+      let vs = h ∙ sym (ap (λ (v : Value). v.cell index_of) (sym (value-below w In k here.p pb)) ∙ read_is limit w row look f k here.p pb (omega arith) arr index_of) in
       let fs = sym (unfree-index w marked In index_of here.p) in
       λ i. record { value = vs i; free = fs i }
 

@@ -5,6 +5,7 @@ use mathlib.Core.Bool.{Bool, true, false, cond}
 use mathlib.Core.List.{List}
 use Prim.Native.Nat.{ℕ, zero, suc}
 use lib.ListN.{get_or}
+use borrow.Author.Tests.{eq-eqb, ne_eqb}
 use Rattle.ops.specs.Meaning.{holds}
 use Rattle.table.specs.declared.words.Term.{Term}
 use Rattle.table.specs.Terms.{term_at}
@@ -63,10 +64,8 @@ module _ (w front truths : List ℕ) (stacked : Stacked w) (j : ℕ) where
     pub at_choice-here : is_choice x ≡ true → truth_in truths x.p ≡ false → a ≡ reach_at w front truths j a
     at_choice-here c e = by_choice c false e (holds (get_or front x.p 0)) refl
 
-    -- into the branch that is picked
-    pub into_picked : is_choice x ≡ true → truth_in truths x.p ≡ true → reach_at w front truths j (cond (holds (get_or front x.p 0)) x.q x.r) ≡ reach_at w front truths j a
-    into_picked c e = by (holds (get_or front x.p 0)) ∙ by_choice c true e (holds (get_or front x.p 0)) refl
-      where
-        by : (b : Bool) → reach_at w front truths j (cond b x.q x.r) ≡ cond b (reach_at w front truths j x.q) (reach_at w front truths j x.r)
-        by true = refl
-        by false = refl
+    pub into_first : is_choice x ≡ true → truth_in truths x.p ≡ true → get_or front x.p 0 ≡ 1 → reach_at w front truths j x.q ≡ reach_at w front truths j a
+    into_first c e h = by_choice c true e true (eq-eqb (get_or front x.p 0) 1 h)
+
+    pub into_second : is_choice x ≡ true → truth_in truths x.p ≡ true → (get_or front x.p 0 ≡ 1 → ⊥) → reach_at w front truths j x.r ≡ reach_at w front truths j a
+    into_second c e h = by_choice c true e false (ne_eqb (get_or front x.p 0) 1 h)

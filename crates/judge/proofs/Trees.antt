@@ -63,19 +63,11 @@ module _ (front truths : List ℕ) (x : Term) (q r : Labelled) (open-test : trut
   either_by b e =
       sym (ap₂ (λ (c d : Bool). record { value = cond d q.value r.value; free = chosen c d q.free r.free (eqb q.value r.value) }) open-test e)
 
-  either_first : get_or front x.p 0 ≡ 1 → q ≡ either_of front truths x q r
+  pub either_first : get_or front x.p 0 ≡ 1 → q ≡ either_of front truths x q r
   either_first h = ap (λ (f : Bool). record { value = q.value; free = f }) (sym (chosen-first q.free r.free (eqb q.value r.value))) ∙ either_by true (eq-eqb (get_or front x.p 0) 1 h)
 
-  either_second : (get_or front x.p 0 ≡ 1 → ⊥) → r ≡ either_of front truths x q r
+  pub either_second : (get_or front x.p 0 ≡ 1 → ⊥) → r ≡ either_of front truths x q r
   either_second h = ap (λ (f : Bool). record { value = r.value; free = f }) (sym (chosen-second q.free r.free (eqb q.value r.value))) ∙ either_by false (ne_eqb (get_or front x.p 0) 1 h)
-
--- of a choice whose test is free, by any labels of its branches: that of the one that is picked
-pub either-picked : (front truths : List ℕ) (x : Term) (of : Bool → Labelled) → truth_in truths x.p ≡ true → of (holds (get_or front x.p 0)) ≡ either_of front truths x (of true) (of false)
-either-picked front truths x of o = by (ℕ_discrete (get_or front x.p 0) 1)
-  where
-    by : Dec (get_or front x.p 0 ≡ 1) → of (holds (get_or front x.p 0)) ≡ either_of front truths x (of true) (of false)
-    by (yes h) = ap of (eq-eqb (get_or front x.p 0) 1 h) ∙ either_first front truths x (of true) (of false) o h
-    by (no h) = ap of (ne_eqb (get_or front x.p 0) 1 h) ∙ either_second front truths x (of true) (of false) o h
 
 module _ (w front truths cells : List ℕ) (stacked : Stacked w) (j : ℕ) (cj : Bool) where
   abbrev read : ℕ → ℕ → Labelled
@@ -138,7 +130,14 @@ module _ (w front truths cells : List ℕ) (stacked : Stacked w) (j : ℕ) (cj :
     from b = cond b first (first + length (leaves_at w x.q))
 
     pub read_taken : is_choice x ≡ true → truth_in truths x.p ≡ true → read (taken (holds (get_or front x.p 0))) (from (holds (get_or front x.p 0))) ≡ read a first
-    read_taken c o = either-picked front truths x (λ b. read (taken b) (from b)) o ∙ read-either c
+    read_taken c o = by (ℕ_discrete (get_or front x.p 0) 1) ∙ read-either c
+      where
+        either-taken : Labelled
+        either-taken = either_of front truths x (read x.q first) (read x.r (first + length (leaves_at w x.q)))
+
+        by : Dec (get_or front x.p 0 ≡ 1) → read (taken (holds (get_or front x.p 0))) (from (holds (get_or front x.p 0))) ≡ either-taken
+        by (yes h) = ap (λ (b : Bool). read (taken b) (from b)) (eq-eqb (get_or front x.p 0) 1 h) ∙ either_first front truths x (read x.q first) (read x.r (first + length (leaves_at w x.q))) o h
+        by (no h) = ap (λ (b : Bool). read (taken b) (from b)) (ne_eqb (get_or front x.p 0) 1 h) ∙ either_second front truths x (read x.q first) (read x.r (first + length (leaves_at w x.q))) o h
 
     -- the cells of its parts are among its own
     pub store-within : is_store x ≡ true → first + length (leaves_at w a) ≤ 17 → first + length (leaves_at w x.p) ≤ 17

@@ -1,10 +1,9 @@
-// A read along its array, a tree of stores and choices over variables: value and truth. A recursion takes its slices by
-// reference: each is then one pointer in a register, and a call that comes last is a jump.
+// A read along its array, a tree of stores and choices over variables: value and truth.
 ghost use Rattle.std.specs.Prelude.{◌≡◌, ◌&&◌, ◌+◌, ◌≤◌, length};
 ghost use Rattle.table.specs.WellFormed.{WellFormed};
 ghost use Rattle.judge.specs.Code.Leaves.{leaves_at};
 ghost use Rattle.judge.specs.Code.Reach.{passed_by, reach_at};
-ghost use Rattle.judge.specs.Code.Labelled.{truth_in, overlaid, picked_by, shut_by, stored_by, either_of, labelled_at};
+ghost use Rattle.judge.specs.Code.Labelled.{truth_in, overlaid, picked_by, stored_by, either_of, labelled_at};
 
 use crate::leaves::leaf_count;
 use table::{Term, number_at};
@@ -50,13 +49,6 @@ pub fn picked(front: &[u32], truths: &[u32], x: Term, j: u32, cj: bool) -> bool
     truth_at(truths, x.q) & cj & (number_at(front, x.q) == j)
 }
 
-// Whether a store has neither index nor value free: no read of it is free.
-pub fn shut(truths: &[u32], y: Term) -> bool
-    ensures { result ≡ shut_by truths.now y }
-{
-    table::is_store(y) & !truth_at(truths, y.q) & !truth_at(truths, y.r)
-}
-
 // Whether a free test passes over a store: what it holds does not count.
 fn passed(front: &[u32], truths: &[u32], x: Term, j: u32) -> bool
     ensures { result ≡ passed_by front.now truths.now x j }
@@ -66,14 +58,14 @@ fn passed(front: &[u32], truths: &[u32], x: Term, j: u32) -> bool
 
 // Where free tests lead a read of the array term `a` at a free index `j`: past the stores at other indexes, into the
 // branches that are picked, to a variable, a store that is picked or a test that is not free. The array's number falls.
-pub fn reach(table: &&[u32], front: &&[u32], truths: &&[u32], a: u32, j: u32) -> u32
-    requires { WellFormed 80000 table.now.now }
+pub fn reach(table: &[u32], front: &[u32], truths: &[u32], a: u32, j: u32) -> u32
+    requires { WellFormed 80000 table.now }
     ensures { result
-        ≡ reach_at table.now.now front.now.now truths.now.now j a }
+        ≡ reach_at table.now front.now truths.now j a }
 {
-    let x = table::term_at(*table, a);
+    let x = table::term_at(table, a);
     if table::is_store(x) {
-        if passed(*front, *truths, x, j) {
+        if passed(front, truths, x, j) {
             return reach(table, front, truths, x.p, j);
         }
         return a;
@@ -81,11 +73,13 @@ pub fn reach(table: &&[u32], front: &&[u32], truths: &&[u32], a: u32, j: u32) ->
     if !table::is_choice(x) {
         return a;
     }
-    if !truth_at(*truths, x.p) {
+    if !truth_at(truths, x.p) {
         return a;
     }
-    let branch = ops::ite(number_at(*front, x.p) == 1, x.q, x.r);
-    reach(table, front, truths, branch, j)
+    if number_at(front, x.p) == 1 {
+        return reach(table, front, truths, x.q, j);
+    }
+    reach(table, front, truths, x.r, j)
 }
 
 // What a store holds.
@@ -111,42 +105,42 @@ fn either(front: &[u32], truths: &[u32], x: Term, q: Labelled, r: Labelled) -> L
     }
 }
 
-// The read of the array term `a` at index `j`, whose condition is `cj`: the outermost store or choice first, and the
-// array's number falls. Cells holds what the variables hold there that it meets, from number `first` on. Below a
-// store that is picked nothing counts; of a choice whose test is free the branch that it picks counts alone.
+// The read of the array term `a` at index `j`, whose condition is `cj`: the outermost store or choice first, and the array's number
+// falls. Cells holds what the variables hold there that it meets, from number `first` on. Below a store that is picked
+// nothing counts; of a choice whose test is free the branch that it picks counts alone.
 pub fn read(
-    table: &&[u32],
-    front: &&[u32],
-    truths: &&[u32],
-    cells: &[u32; 17],
+    table: &[u32],
+    front: &[u32],
+    truths: &[u32],
+    cells: &[u32],
     a: u32,
     j: u32,
     cj: bool,
     first: u32,
 ) -> Labelled
-    requires well_formed { WellFormed 80000 table.now.now }
-    requires a_bound { first + length (leaves_at table.now.now a) ≤ 17 }
+    requires well_formed { WellFormed 80000 table.now }
+    requires a_bound { first + length (leaves_at table.now a) ≤ 17 }
     ensures { result
-        ≡ labelled_at table.now.now front.now.now truths.now.now
+        ≡ labelled_at table.now front.now truths.now
         cells.now j cj a first }
 {
-    let x = table::term_at(*table, a);
+    let x = table::term_at(table, a);
     if table::is_store(x) {
-        if picked(*front, *truths, x, j, cj) {
-            return stored(*front, *truths, x);
+        if picked(front, truths, x, j, cj) {
+            return stored(front, truths, x);
         }
         let below = read(table, front, truths, cells, x.p, j, cj, first);
-        return overlay(*front, *truths, x, j, cj, below);
+        return overlay(front, truths, x, j, cj, below);
     }
     if !table::is_choice(x) {
         return Labelled {
-            value: cells[first as usize],
-            free: truth_at(*truths, a) & cj,
+            value: number_at(cells, first),
+            free: truth_at(truths, a) & cj,
         };
     }
     let second = first + leaf_count(table, x.q);
-    if truth_at(*truths, x.p) {
-        let taken = number_at(*front, x.p) == 1;
+    if truth_at(truths, x.p) {
+        let taken = number_at(front, x.p) == 1;
         let branch = ops::ite(taken, x.q, x.r);
         let from = ops::ite(taken, first, second);
         let picked = read(table, front, truths, cells, branch, j, cj, from);
@@ -157,5 +151,5 @@ pub fn read(
     }
     let q = read(table, front, truths, cells, x.q, j, cj, first);
     let r = read(table, front, truths, cells, x.r, j, cj, second);
-    either(*front, *truths, x, q, r)
+    either(front, truths, x, q, r)
 }

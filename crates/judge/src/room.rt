@@ -11,8 +11,7 @@ ghost use Rattle.judge.specs.Conditions.{truths};
 use crate::terms::step;
 use crate::turns::first_turn;
 
-// Said is what the sheet says by slot. The front of work holds the terms' values, and after them the truths of their
-// conditions.
+// Said is what the sheet says by slot. The front of work holds the terms' values, and after them the truths of their conditions.
 pub fn fill(table: &[u32], said: &[u32; 256], values: &[u32], cells: &[u32], work: &mut [u32])
     requires well_formed { WellFormed 80000 table.now }
     requires table_in_bounds { terms table.now * 2 ≤ length work.old }

@@ -9,7 +9,7 @@ ghost use Rattle.judge.specs.Code.Labelled.{operated_labelled, read_labelled, pl
 ghost use Rattle.judge.specs.Code.Labelled.{read_here, plain_here, entered_as, entered, plain_noted};
 ghost use Rattle.judge.specs.Code.Turns.{note_on, gathered, next_room, next_turn};
 
-use crate::reads::{Labelled, read, shut, truth_at};
+use crate::reads::{Labelled, read, truth_at};
 use crate::turns::{Turn, asks_more, turn_here};
 use table::{Term, number_at};
 
@@ -99,14 +99,14 @@ fn plain_here(
 }
 
 // Value and truth of a read, from the array that it reaches and the cells that it asked for. Where its index is not
-// free, or no read of the array is, it asked for its value.
+// free, it asked for its value.
 fn labelled_read(
     table: &[u32],
     front: &[u32],
     truths: &[u32],
     x: Term,
     array: u32,
-    cells: &[u32; 17],
+    cells: &[u32],
 ) -> Labelled
     requires { WellFormed 80000 table.now }
     ensures { result ≡ read_labelled table.now front.now truths.now x array
@@ -115,18 +115,12 @@ fn labelled_read(
     let free = truth_at(truths, x.q);
     if !free {
         return Labelled {
-            value: cells[0],
-            free: false,
-        };
-    }
-    if shut(truths, table::term_at(table, array)) {
-        return Labelled {
-            value: cells[0],
+            value: number_at(cells, 0),
             free: false,
         };
     }
     let index = number_at(front, x.q);
-    let r = read(&table, &front, &truths, cells, array, index, free, 0);
+    let r = read(table, front, truths, cells, array, index, free, 0);
     Labelled {
         value: r.value,
         free: r.free,
@@ -140,7 +134,7 @@ fn read_here(
     room: &[u32],
     at: u32,
     array: u32,
-    cells: &[u32; 17],
+    cells: &[u32],
 ) -> Labelled
     requires well_formed { WellFormed 80000 table.now }
     requires at_lt_terms { (at < terms) × (terms + at ≤ length room.now) }
@@ -167,14 +161,7 @@ fn note(work: &mut [u32], terms: u32, at: u32, value: u32, free: bool)
 }
 
 // Writes value and truth of a turn's term where it is a read, and answers which term is next.
-fn note_read(
-    table: &[u32],
-    terms: u32,
-    work: &mut [u32],
-    at: u32,
-    array: u32,
-    cells: &[u32; 17],
-) -> u32
+fn note_read(table: &[u32], terms: u32, work: &mut [u32], at: u32, array: u32, cells: &[u32]) -> u32
     requires well_formed { WellFormed 80000 table.now }
     requires at_lt_terms { (at < terms) × (terms + terms ≤ length work.old) }
     ensures value { result ≡ cond (is_read_at table.now at) (at + 1) at }
@@ -241,7 +228,7 @@ fn run(
     let mut cells = turn.cells;
     let k = turn.met as usize;
     cells[k] = answer;
-    let next = note_read(table, terms, work, turn.at, turn.array, &cells);
+    let next = note_read(table, terms, work, turn.at, turn.array, &cells[..]);
     advance(table, said, values, terms, work, next)
 }
 

@@ -5,7 +5,7 @@ ghost use Rattle.judge.specs.Code.Turns as turns;
 ghost use Rattle.judge.specs.Code.Turns.{asks_for, asks_first, asks_more, turn_here, first_turn};
 
 use crate::leaves::leaves;
-use crate::reads::{picked, reach, shut, truth_at};
+use crate::reads::{picked, reach, truth_at};
 use table::number_at;
 
 // Whether there is a term at, and the cell that it asks for: among count cells, by slot and index, else the other. Of a
@@ -27,9 +27,9 @@ pub struct Turn {
     pub cells: [u32; 17],
 }
 
-// A term that asks once, as in evaluating; array is what a read at a free index reaches.
-fn alone(t: evaluate::Turn, array: u32) -> Turn
-    ensures { result ≡ turns.alone t array }
+// A term that asks once, as in evaluating.
+fn alone(t: evaluate::Turn) -> Turn
+    ensures { result ≡ turns.alone t }
 {
     Turn {
         pending: t.pending,
@@ -40,7 +40,7 @@ fn alone(t: evaluate::Turn, array: u32) -> Turn
         other: t.other,
         met: 0,
         more: false,
-        array,
+        array: 0,
         leaves: 0,
         cells: [0u32; 17],
     }
@@ -117,8 +117,8 @@ pub fn asks_more(values: &[u32], turn: Turn, answer: u32) -> Turn
     )
 }
 
-// A read whose index is free asks for the cells of the variables of the array that it reaches, unless a store answers.
-// Where its index is not free, or no read of that array is, it asks as in evaluating, and so does any other term.
+// A read whose index is free asks for the cells of the variables of the array that it reaches, unless a store answers;
+// any other term asks as in evaluating.
 fn turn_at(
     table: &[u32],
     values: &[u32],
@@ -134,24 +134,18 @@ fn turn_at(
 {
     let x = table::term_at(table, at);
     if !(table::is_read(x) & truth_at(truths, x.q)) {
-        return alone(evaluate::turn_at(table, values, count, terms, front, at), 0);
+        return alone(evaluate::turn_at(table, values, count, terms, front, at));
     }
     let pending = at < terms;
     let index = number_at(front, x.q);
-    let array = reach(&table, &front, &truths, x.p, index);
+    let array = reach(table, front, truths, x.p, index);
     let y = table::term_at(table, array);
     if table::is_store(y) & picked(front, truths, y, index, true) {
         return held(pending, at, array);
     }
-    if shut(truths, y) {
-        return alone(
-            evaluate::turn_at(table, values, count, terms, front, at),
-            array,
-        );
-    }
     let mut slots = [0u32; 17];
-    let all = leaves(table, array, &mut slots);
-    asks_for(values, pending, at, count, index, 0, array, all, slots)
+    let met = leaves(table, array, &mut slots[..]);
+    asks_for(values, pending, at, count, index, 0, array, met, slots)
 }
 
 // The same at a place of the room: the numbers stand at its front, the truths from number terms on.
@@ -186,8 +180,5 @@ pub fn first_turn(table: &[u32], values: &[u32], count: usize, terms: u32) -> Tu
     requires { WellFormed 80000 table.now }
     ensures { result ≡ first_turn table.now values.now count terms }
 {
-    alone(
-        evaluate::turn_at(table, values, count, terms, &table[..0], 0),
-        0,
-    )
+    alone(evaluate::turn_at(table, values, count, terms, &table[..0], 0))
 }

@@ -31,7 +31,7 @@ one_term n h =
 
 -- One term
 
-pub fault-sound : (t : List ℕ) (k : ℕ) → fault t k ≡ 0 → Sound t k
+fault-sound : (t : List ℕ) (k : ℕ) → fault t k ≡ 0 → Sound t k
 unfolding fault fault_if
 fault-sound t k h =
     let x = term_at t k in

@@ -11,7 +11,6 @@ use Rattle.table.specs.declared.words.Term.{Term}
 use Rattle.table.specs.Terms.{term_at, sort_at}
 use Rattle.table.specs.Ranks.{fields_of}
 use Rattle.table.specs.Faults.{rank, fields, known, sorted, placed_as, typed_as, typed, valued_as, size, refuse_unless, fault_if}
-use Rattle.table.specs.Code.Sizes.{Placed}
 
 abbrev three : Bool → Bool → Bool → ℕ → ℕ
 three a b c rest = refuse_unless 5 a (refuse_unless 6 b (refuse_unless 7 c rest))
@@ -31,20 +30,6 @@ none false b c rest h = absurd (omega arith)
 none true false c rest h = absurd (omega arith)
 none true true false rest h = absurd (omega arith)
 none true true true rest h = refl
-
-passes : (a b c : Bool) → three a b c 0 ≡ 0 → (a ≡ true) × (b ≡ true)
-passes false b c h = absurd (omega arith)
-passes true false c h = absurd (omega arith)
-passes true true c h = (refl, refl)
-
--- what 5 and 6 do not refuse is placed
-pub ranked_placed : (t : List ℕ) (i n : ℕ) → n ≡ ranked t i (rank (term_at t i)) (term_at t i) 0 → n ≡ 0 → Placed t i
-unfolding typed
-ranked_placed t i n e z =
-    let x = term_at t i in
-    let ok =
-    passes (placed_as (fields x) i x) (typed_as (rank x) x.sort (sort_at t x.p) (sort_at t x.q) (sort_at t x.r)) (valued_as (fields x) x) (sym e ∙ z) in
-    record { below = ok.0; sorts = ok.1 }
 
 module _ (t : List ℕ) (i : ℕ) (clashing : Bool) where
   pub refused_3 : known (term_at t i) ≡ false → 3 ≡ fault_if t i clashing

@@ -8,7 +8,6 @@ pub mod Admitted
 pub mod Stacks
 pub mod Sizes
 pub mod SoundTerms
-pub mod KeptSizes
 pub mod Places
 pub mod OpNumbers
 pub mod InTable

@@ -44,22 +44,6 @@ size_below (suc left) t k =
     by false true b d e = omega arith
     by false false b d e = omega arith
 
--- where the size is no more than the terms that are left, as many as that are enough
-pub size_enough : (left : ℕ) (t : List ℕ) (k : ℕ) → size_within (suc left) t k ≤ left → size_within left t k ≡ size_within (suc left) t k
-unfolding size_within
-size_enough zero t k b = omega arith
-size_enough (suc left) t k b =
-    by (is_store (term_at t k)) (is_choice (term_at t k)) (size_enough left t (term_at t k).p) (size_enough left t (term_at t k).q) (size_enough left t (term_at t k).r) b
-  where
-    enough : ℕ → Type 0
-    enough j = size_within (suc left) t j ≤ left → size_within left t j ≡ size_within (suc left) t j
-
-    by : (s c : Bool) → enough (term_at t k).p → enough (term_at t k).q → enough (term_at t k).r
-        → size_from (size_within (suc left) t) (term_at t k) s c ≤ suc left → size_from (size_within left t) (term_at t k) s c ≡ size_from (size_within (suc left) t) (term_at t k) s c
-    by true c p q r b = ap suc (p (omega arith))
-    by false true p q r b = omega (arith, q (omega arith), r (omega arith))
-    by false false p q r b = refl
-
 -- a term that is neither store nor choice is small
 pub size-short : (t : List ℕ) (k : ℕ) → is_store (term_at t k) ≡ false → is_choice (term_at t k) ≡ false → leb (size t k) 16 ≡ true
 size-short t k s c = rw (size_none 16 t k s c)
@@ -90,14 +74,3 @@ module _ (t : List ℕ) (k left : ℕ) (x : Term) (here : x ≡ term_at t k) (so
   none-sized =
       subst (λ (y : Term). is_store y ≡ false → is_choice y ≡ false → 0 ≡ size_within left t k) (sym here)
       (λ s c. omega (arith, size_none (left - 1) t k s c, ap (λ (n : ℕ). size_within n t k) fewer))
-
--- of a term at hand whose operands' sizes are at most 16
-module _ (t : List ℕ) (k : ℕ) (x : Term) (here : x ≡ term_at t k) where
-  pub store-grown : is_store x ≡ true → size t x.p ≤ 16 → size t x.p + 1 ≡ size t k
-  store-grown s b = omega (arith, size_enough 16 t x.p b, store-sized t k 17 x here (λ e. omega arith) s)
-
-  pub choice-grown : is_choice x ≡ true → size t x.q ≤ 16 → size t x.r ≤ 16 → size t x.q + size t x.r + 1 ≡ size t k
-  choice-grown c b d = omega (arith, size_enough 16 t x.q b, size_enough 16 t x.r d, choice-sized t k 17 x here (λ e. omega arith) c)
-
-  pub none-grown : is_store x ≡ false → is_choice x ≡ false → 0 ≡ size t k
-  none-grown = none-sized t k 17 x here (λ e. omega arith)

@@ -17,8 +17,8 @@ use Rattle.ops.proofs.Booleans.{never, and_parts, or_parts}
 use Rattle.table.specs.declared.words.Sort.{Sort}
 use Rattle.table.specs.declared.words.Term.{Term}
 use Rattle.table.specs.Terms.{words, terms, word_at, term_at, sort_at, boolean, array}
-use Rattle.table.specs.Ranks.{rank_of, fields_of, picks, reads, writes}
-use Rattle.table.specs.Faults.{is_variable, is_store, is_choice, width, sorted, placed_as}
+use Rattle.table.specs.Ranks.{rank_of, fields_of, picks, writes}
+use Rattle.table.specs.Faults.{rank, is_variable, is_store, is_choice, fields, width, sorted, placed_as}
 use Rattle.table.specs.WellFormed.{Sound, WellFormed}
 use Rattle.table.proofs.TermFaults.{slot-valued}
 use Rattle.table.proofs.Stacks.{Stacked}
@@ -64,7 +64,7 @@ slot-most t k s v =
     leb-true x.p 255 (and_parts (leb x.p 255) (leb x.q 1) (sym (slot-valued (op_of x.op) x v) ∙ s.is_valued)).0
 
 -- a store's array is an earlier term
-pub writes-placed : (op : Op) (i : ℕ) (x : Term) → writes op ≡ true → placed_as (fields_of (rank_of op)) i x ≡ true → x.p < i
+writes-placed : (op : Op) (i : ℕ) (x : Term) → writes op ≡ true → placed_as (fields_of (rank_of op)) i x ≡ true → x.p < i
 writes-placed Constant i x s h = never s
 writes-placed Variable i x s h = never s
 writes-placed (Apply f) i x s h = never s
@@ -74,7 +74,7 @@ writes-placed Store i x s h = ltb-true x.p i (and_parts (ltb x.p i) (ltb x.q i) 
 writes-placed Unknown i x s h = never s
 
 -- a choice's branches are
-pub picks-placed : (op : Op) (i : ℕ) (x : Term) → picks op ≡ true → placed_as (fields_of (rank_of op)) i x ≡ true → (x.q < i) × (x.r < i)
+picks-placed : (op : Op) (i : ℕ) (x : Term) → picks op ≡ true → placed_as (fields_of (rank_of op)) i x ≡ true → (x.q < i) × (x.r < i)
 picks-placed Constant i x s h = never s
 picks-placed Variable i x s h = never s
 picks-placed (Apply f) i x s h = never s
@@ -84,16 +84,6 @@ picks-placed Ite i x s h =
 picks-placed Select i x s h = never s
 picks-placed Store i x s h = never s
 picks-placed Unknown i x s h = never s
-
--- a read's array is an earlier term
-pub reads-placed : (op : Op) (i : ℕ) (x : Term) → reads op ≡ true → placed_as (fields_of (rank_of op)) i x ≡ true → x.p < i
-reads-placed Constant i x s h = never s
-reads-placed Variable i x s h = never s
-reads-placed (Apply f) i x s h = never s
-reads-placed Ite i x s h = never s
-reads-placed Select i x s h = ltb-true x.p i (and_parts (ltb x.p i) (ltb x.q i) (and_parts (ltb x.p i && ltb x.q i) (eqb x.r 0) h).0).0
-reads-placed Store i x s h = never s
-reads-placed Unknown i x s h = never s
 
 -- past a table's end every number is 0
 module _ (limit : ℕ) (t : List ℕ) (w : WellFormed limit t) where

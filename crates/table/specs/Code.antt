@@ -1,4 +1,3 @@
 -- How the code goes: what contracts inside the crate say. Nobody needs to believe it: laws connect it with the definitions beside.
 pub mod Clashes
-pub mod Sizes
 pub mod Writing

@@ -29,10 +29,6 @@ picked_by front truths x j cj = truth_in truths x.q && cj && eqb (get_or front x
 abbrev pub stored_by : List ℕ → List ℕ → Term → Labelled
 stored_by front truths x = record { value = get_or front x.r 0; free = truth_in truths x.r }
 
--- whether store x has neither index nor value free: no read of it is free
-abbrev pub shut_by : List ℕ → Term → Bool
-shut_by truths x = is_store x && not (truth_in truths x.q) && not (truth_in truths x.r)
-
 -- a choice x between what is read in its two branches
 abbrev pub either_of : List ℕ → List ℕ → Term → Labelled → Labelled → Labelled
 either_of front truths x q r =
@@ -69,15 +65,10 @@ operated_labelled w front truths x = record { value = operated_number w front x;
 abbrev pub truth_of : List ℕ → (Term → Bool) → List ℕ → List ℕ → Term → Bool
 truth_of w marked front truths x = cond (is_constant x) true (cond (is_variable x) (not (marked x)) (settled_by w front truths x))
 
--- a read that is not free: the first of the cells is its value
-abbrev pub unfree : List ℕ → Labelled
-unfree cells = record { value = get_or cells 0 0; free = false }
-
--- a read, whose index's condition is cj, from the array term that it reaches and the cells that it asked for: it is not free where cj is
--- false or no read of that array is free
+-- a read, whose index's condition is cj, from the array term that it reaches and the cells that it asked for: where cj is false, the
+-- read's condition is too, and the first of the cells is its value
 abbrev pub labelled_by : Bool → List ℕ → List ℕ → List ℕ → Term → ℕ → List ℕ → Labelled
-labelled_by cj w front truths x array cells =
-    cond cj (cond (shut_by truths (term_at w array)) (unfree cells) (labelled_at w front truths cells (get_or front x.q 0) cj array 0)) (unfree cells)
+labelled_by cj w front truths x array cells = cond cj (labelled_at w front truths cells (get_or front x.q 0) cj array 0) (record { value = get_or cells 0 0; free = false })
 
 abbrev pub read_labelled : List ℕ → List ℕ → List ℕ → Term → ℕ → List ℕ → Labelled
 read_labelled w front truths x array cells = labelled_by (truth_in truths x.q) w front truths x array cells

@@ -10,13 +10,13 @@ use Rattle.evaluate.specs.Code.Turns as evaluating
 use Rattle.evaluate.specs.Code.Turns.{next_read, onward}
 use Rattle.judge.specs.declared.turns.Turn.{Turn}
 use Rattle.judge.specs.Code.Leaves.{leaves_at}
-use Rattle.judge.specs.Code.Labelled.{truth_in, shut_by, noted, plain_noted}
+use Rattle.judge.specs.Code.Labelled.{truth_in, noted, plain_noted}
 use Rattle.judge.specs.Code.Reach.{reach_at, held_at}
 
--- a term that asks once, as in evaluating; array is what a read at a free index reaches
-abbrev pub alone : Asked → ℕ → Turn
-alone t array =
-    record { pending = t.pending; at = t.at; count = t.count; slot = t.slot; index = t.index; other = t.other; met = 0; more = false; array = array; leaves = 0; cells = replicate 17 0 }
+-- a term that asks once, as in evaluating
+abbrev pub alone : Asked → Turn
+alone t =
+    record { pending = t.pending; at = t.at; count = t.count; slot = t.slot; index = t.index; other = t.other; met = 0; more = false; array = 0; leaves = 0; cells = replicate 17 0 }
 
 -- a read that a store answers: it asks for nothing
 abbrev pub held : Bool → ℕ → ℕ → Turn
@@ -49,17 +49,15 @@ abbrev pub array_of : List ℕ → List ℕ → List ℕ → ℕ → ℕ
 array_of w front truths at = reach_at w front truths (get_or front (term_at w at).q 0) (term_at w at).p
 
 -- a read whose index is free asks for the cells there of the variables of the array that it reaches, by which its value and its truth are
--- found: met says how many are had, in cells; one whose index is not free, or whose array is a store with neither index nor value free,
--- has a false condition and asks for its value alone, as in evaluating, and so does any other term
+-- found: met says how many are had, in cells; one whose index is not free has a false condition and asks for its value alone, as in
+-- evaluating, and so does any other term
 unfoldable pub turn_of : List ℕ → List ℕ → ℕ → ℕ → List ℕ → List ℕ → List ℕ → ℕ → ℕ → Turn
 turn_of w row count terms front truths cells at met =
     let x = term_at w at in
     let index = get_or front x.q 0 in
     let array = array_of w front truths at in
-    let value = evaluating.turn_of w row count terms front at in
-    let some = asks_for row (ltb at terms) at count index met array (length (leaves_at w array)) cells in
-    let asked = cond (held_at w front truths index array) (held (ltb at terms) at array) (cond (shut_by truths (term_at w array)) (alone value array) some) in
-    cond (is_read x && truth_in truths x.q) asked (alone value 0)
+    let asked = cond (held_at w front truths index array) (held (ltb at terms) at array) (asks_for row (ltb at terms) at count index met array (length (leaves_at w array)) cells) in
+    cond (is_read x && truth_in truths x.q) asked (alone (evaluating.turn_of w row count terms front at))
 
 -- what a term asks first
 abbrev pub asks_first : List ℕ → List ℕ → ℕ → ℕ → List ℕ → List ℕ → ℕ → Turn

@@ -4,7 +4,7 @@ use Rattle.table.specs.declared.ranks.Rank.{Rank}
 use Rattle.table.specs.declared.words.Term.{Term}
 use Rattle.table.specs.Terms.{term_at}
 use Rattle.table.specs.Faults.{rank, known, sorted}
-use Rattle.table.proofs.FaultOrder.{ranked, refused_3, refused_4, refused_ranked, left_to_8, ranked_placed}
+use Rattle.table.proofs.FaultOrder.{ranked, refused_3, refused_4, refused_ranked, left_to_8}
 use Rattle.admission.proofs.faults.fault.Goals as goal
 
 -- what the code tests of x is what the definition asks of term i
@@ -27,11 +27,7 @@ returns-then-number-ne0 c =
     refused_ranked c.args.table.now c.args.i c.args.clashing known-here sorted-here c.rank_fault-number.result ranked-here c.if-number-ne0.true
 
 pub short-requires : goal.short-requires
-short-requires c =
-    let ranked-here : c.rank_fault-number.result ≡ ranked c.args.table.now c.args.i (rank (term_at c.args.table.now c.args.i)) (term_at c.args.table.now c.args.i) 0 = c.rank_fault-number.ensures
-    ∙ ap (λ (r : Rank). ranked c.args.table.now c.args.i r c.term_in-x.result 0) c.rank_of.ensures
-    ∙ ap (λ (y : Term). ranked c.args.table.now c.args.i (rank y) y 0) c.term_in-x.ensures in
-    record { has_term = (c.requires.has_term, ranked_placed c.args.table.now c.args.i c.rank_fault-number.result ranked-here c.if-number-ne0.false); kept = c.requires.kept }
+short-requires c = c.term_in-x.ensures
 
 pub returns : goal.returns
 returns c =

@@ -1,14 +1,17 @@
 use mathlib.Core.Path.{sym, ap, ◌∙◌}
-use lib.Dec.{leb}
-use Prim.Native.Nat.{ℕ}
-use Rattle.table.specs.Terms.{scalar}
-use Rattle.table.proofs.KeptSizes.{scalar-sized}
+use borrow.Author.Tests.{not-true}
+use Rattle.ops.proofs.Booleans.{and_parts}
+use Rattle.table.specs.Faults.{is_store, is_choice}
+use Rattle.table.proofs.Sizes.{size-short}
 use Rattle.admission.proofs.faults.short.Goals as goal
 
-pub returns-then-scalar : goal.returns-then-scalar
-returns-then-scalar c =
-    ap (λ (n : ℕ). leb n 16)
-    (scalar-sized c.args.table.now c.args.i c.requires.has_term.1 (sym (c.scalar.ensures ∙ ap scalar c.sort_in.ensures) ∙ c.if-scalar.true))
+pub returns-then-is_store-is_choice : goal.returns-then-is_store-is_choice
+returns-then-is_store-is_choice c =
+    let neither = and_parts _ _ c.if-is_store-is_choice.true in
+    sym
+    (size-short c.args.table.now c.args.i
+    (ap is_store (sym c.requires) ∙ sym c.is_store.ensures ∙ not-true _ neither.0)
+    (ap is_choice (sym c.requires) ∙ sym c.is_choice.ensures ∙ not-true _ neither.1))
 
 pub returns : goal.returns
-returns c = rw c.sized.ensures
+returns c = rw c.size.ensures

@@ -61,9 +61,9 @@ returns c =
     let writes = numbered c.args.table.now c.args.values.now 0 in
     -- where the loop was left: past the last term, or at a read
     let there : (c.loop-i.i ≡ first_from reads (c.args.terms - c.args.at) c.args.at) × (c.loop-i.work ≡ on_from reads writes (c.args.terms - c.args.at) c.args.work.now c.args.at) =
-        elim c.loop-i-test.branch [
-            else-loop-i-test w ↦ passed reads writes c.args.terms c.args.at c.args.work.now c.loop-i.i c.loop-i.work c.loop-i.invariant.0 w.loop-i-test.false
-          | then-loop-i-test+then-is_read w ↦ stopped reads writes c.args.terms c.args.at c.args.work.now c.loop-i.i c.loop-i.work c.loop-i.invariant.0 w.loop-i-test.true
-              (sym (w.is_read.ensures ∙ ap is_read w.term_at-x.ensures) ∙ w.if-is_read.true)
-        ] in
+    elim c.loop-i-test.branch [
+      | else-loop-i-test w ↦ passed reads writes c.args.terms c.args.at c.args.work.now c.loop-i.i c.loop-i.work c.loop-i.invariant.0 w.loop-i-test.false
+      | then-loop-i-test+then-is_read w ↦ stopped reads writes c.args.terms c.args.at c.args.work.now c.loop-i.i c.loop-i.work c.loop-i.invariant.0 w.loop-i-test.true
+          (sym (w.is_read.ensures ∙ ap is_read w.term_at-x.ensures) ∙ w.if-is_read.true)
+    ] in
     record { value = c.turn_at.ensures ∙ ap (λ (k : ℕ). turn_of c.args.table.now c.args.values.now c.args.count c.args.terms (take k c.loop-i.work) k) there.0; work_after = there.1 }

@@ -1,35 +1,28 @@
-use mathlib.Core.Path.{◌≡◌, sym, ap, ap₂, subst, ◌∙◌}
-use mathlib.Core.Bool.{true, false}
-use mathlib.Core.List.{List}
-use Prim.Native.Nat.{ℕ, ◌≤◌}
-use lib.ListN.{set, take}
-use Rattle.evaluate.specs.Code.Turns.{number_of, turn_of, is_read_at, next_read, onward, numbered}
-use Rattle.evaluate.proofs.Onward.{begun-within, begun-next, begun_room}
+use mathlib.Core.Path.{◌≡◌, sym, ap, subst, ◌∙◌}
+use Prim.Native.Nat.{ℕ, ◌+◌, ◌<◌}
+use native.Mathlib.Omega.{arith}
+use lib.ListN.{length, length-set, set, take}
+use lib.Seq.{length-take-le}
+use Rattle.table.specs.declared.words.Term.{Term}
+use Rattle.table.specs.Terms.{terms, term_at}
+use Rattle.evaluate.specs.Code.Turns.{number_of, onward, numbered}
 use Rattle.evaluate.proofs.turns.step.Goals as goal
 
--- a read writes its answer
-module _ (w values room : List ℕ) (answer at : ℕ) where
-  read-writes : is_read_at w at ≡ true → set room at answer ≡ numbered w values answer room at
-  unfolding number_of
-  read-writes e = rw e
+pub slice_bounds-number-end-2 : goal.slice_bounds-number-end-2
+slice_bounds-number-end-2 c = sym (length-take-le c.args.turn.at c.args.work.now (omega (arith, c.requires.at_lt_terms)))
 
-  plain-writes : is_read_at w at ≡ false → numbered w values 0 room at ≡ numbered w values answer room at
-  unfolding number_of
-  plain-writes e = rw e
+pub number-value-requires : goal.number-value-requires
+number-value-requires c =
+    let long : length (take c.args.turn.at c.args.work.now) ≡ c.args.turn.at = length-take-le c.args.turn.at c.args.work.now (omega (arith, c.requires.at_lt_terms.0, c.requires.at_lt_terms.1)) in
+    record { well_formed = c.requires.well_formed; next = record { inside = subst (λ (k : ℕ). k < terms c.args.table.now) (sym long) (omega (arith, c.requires.terms_value, c.requires.at_lt_terms)); is = c.term_at.ensures ∙ ap (term_at c.args.table.now) (sym long) } }
 
--- a read writes its answer, and only a read has one
 pub advance-requires : goal.advance-requires
-advance-requires c =
-    let within = begun-within (is_read_at c.args.table.now) c.args.terms c.args.turn.at c.requires.at_lt_terms.0 in
-    record { well_formed = c.requires.well_formed; terms_value = c.requires.terms_value; at_le_terms = (subst (λ (k : ℕ). k ≤ c.args.terms) (sym c.note_read-next.ensures.value) within, subst (λ (k : ℕ). c.args.terms ≤ k) (sym c.note_read-next.auto.work) c.requires.at_lt_terms.1) }
+advance-requires c = record { well_formed = c.requires.well_formed; terms_value = c.requires.terms_value; at_le_terms = (omega (arith, c.requires.at_lt_terms), simp length-set c.requires.at_lt_terms.1) }
+
+pub shape_of-work : goal.shape_of-work
+shape_of-work c = c.advance.auto.work ∙ length-set c.args.work.now c.args.turn.at c.number-value.result
 
 pub returns : goal.returns
 returns c =
-    let w = c.args.table.now in
-    let noted = c.note_read-next.ensures in
-    let next = ap (next_read w c.args.terms) noted.value ∙ begun-next (is_read_at w) c.args.terms c.args.turn.at c.requires.at_lt_terms.0 in
-    record { value = c.advance.ensures.value ∙ ap (λ (k : ℕ). turn_of w c.args.values.now c.args.count c.args.terms (take k c.advance.new.work) k) next; work_after = c.advance.ensures.work_after
-          ∙ ap₂ (λ (l : List ℕ) (k : ℕ). onward w (numbered w c.args.values.now 0) c.args.terms l k) noted.work_after noted.value
-          ∙ begun_room (is_read_at w) c.args.terms c.args.turn.at c.requires.at_lt_terms.0 (numbered w c.args.values.now 0) c.args.work.now (set c.args.work.now c.args.turn.at c.args.answer) (numbered w c.args.values.now c.args.answer c.args.work.now c.args.turn.at)
-          (read-writes w c.args.values.now c.args.work.now c.args.answer c.args.turn.at)
-          (plain-writes w c.args.values.now c.args.work.now c.args.answer c.args.turn.at) }
+    let value = c.number-value.ensures ∙ ap (λ (x : Term). number_of c.args.table.now c.args.values.now (take c.args.turn.at c.args.work.now) x c.args.answer) c.term_at.ensures in
+    record { value = c.advance.ensures.value; work_after = c.advance.ensures.work_after ∙ ap (λ (v : ℕ). onward c.args.table.now (numbered c.args.table.now c.args.values.now 0) c.args.terms (set c.args.work.now c.args.turn.at v) (c.args.turn.at + 1)) value }

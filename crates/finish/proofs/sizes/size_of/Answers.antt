@@ -4,7 +4,6 @@ use mathlib.Core.Bool.{Bool, true, false, cond}
 use mathlib.Core.List.{List}
 use native.Mathlib.Omega.{arith}
 use Rattle.ops.specs.Numbers.{op_of}
-use Rattle.table.specs.Ranks.{reads}
 use Rattle.table.specs.declared.words.Term.{Term}
 use Rattle.table.specs.Faults.{is_choice, size}
 use Rattle.table.proofs.Sizes.{size_below}
@@ -12,7 +11,6 @@ use Rattle.groups.specs.declared.kinds.GroupKind.{GroupKind}
 use Rattle.groups.specs.declared.kinds.GroupKind.TheVariants.{Literal, Input, Unary, Strict, Conjunction, Disjunction, Implication, Zero, Ones, Bounds, SignedBounds, Fixed, Shift, Choice, Read, Write}
 use Rattle.groups.specs.FunctionGroups.{kind_of}
 use Rattle.groups.specs.Sizes.{size_by, size_of}
-use Rattle.groups.proofs.TermGroups.{read_only}
 use Rattle.finish.proofs.sizes.size_of.Goals as goal
 
 -- the size of a term, by whether it is a choice between arrays
@@ -23,16 +21,12 @@ sized_as w x z is = ap (λ (y : Bool). cond y 0 (size_by (kind_of (op_of x.op)) 
 sized : (w : List ℕ) (x : Term) (k l : GroupKind) {z : Bool} → z ≡ is_choice x → z ≡ false → k ≡ kind_of (op_of x.op) → k ≡ l → size_by l (size w x.p) ≡ size_of w x
 sized w x k l is none kind e = ap (λ (y : GroupKind). size_by y (size w x.p)) (sym e ∙ kind) ∙ sized_as w x false (sym none ∙ is)
 
-pub kept_size-requires : goal.kept_size-requires
-kept_size-requires c =
-    c.requires (ap reads (read_only (op_of c.args.x.op) (sym c.kind_of.ensures ∙ c.in-Read.is)))
-
 -- a size counted through 17 terms in a row
 pub overflow_mul-result : goal.overflow_mul-result
-overflow_mul-result c = omega (arith, c.kept_size.ensures, size_below 17 c.args.table.now c.args.x.p)
+overflow_mul-result c = omega (arith, c.size.ensures, size_below 17 c.args.table.now c.args.x.p)
 
 pub overflow_add-result : goal.overflow_add-result
-overflow_add-result c = omega (arith, c.kept_size.ensures, size_below 17 c.args.table.now c.args.x.p)
+overflow_add-result c = omega (arith, c.size.ensures, size_below 17 c.args.table.now c.args.x.p)
 
 pub returns-then-is_choice : goal.returns-then-is_choice
 returns-then-is_choice c = sized_as c.args.table.now c.args.x true (sym c.if-is_choice.true ∙ c.is_choice.ensures)
@@ -80,7 +74,7 @@ pub returns-in-Choice : goal.returns-in-Choice
 returns-in-Choice c = sized c.args.table.now c.args.x c.kind_of.result Choice c.is_choice.ensures c.if-is_choice.false c.kind_of.ensures c.in-Choice.is
 
 pub returns-in-Read : goal.returns-in-Read
-returns-in-Read c = ap (λ (n : ℕ). 1 + 9 * n) c.kept_size.ensures ∙ sized c.args.table.now c.args.x c.kind_of.result Read c.is_choice.ensures c.if-is_choice.false c.kind_of.ensures c.in-Read.is
+returns-in-Read c = ap (λ (n : ℕ). 1 + 9 * n) c.size.ensures ∙ sized c.args.table.now c.args.x c.kind_of.result Read c.is_choice.ensures c.if-is_choice.false c.kind_of.ensures c.in-Read.is
 
 pub returns-in-Write : goal.returns-in-Write
 returns-in-Write c = sized c.args.table.now c.args.x c.kind_of.result Write c.is_choice.ensures c.if-is_choice.false c.kind_of.ensures c.in-Write.is

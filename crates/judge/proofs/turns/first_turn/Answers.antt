@@ -12,7 +12,7 @@ use Rattle.judge.proofs.turns.first_turn.Goals as goal
 pub returns : goal.returns
 returns c =
     c.alone.ensures
-    ∙ ap (λ (t : Asked). alone t 0) c.turn_at.ensures
+    ∙ ap (λ (t : Asked). alone t) c.turn_at.ensures
     ∙ sym (plain-asks c.args.table.now c.args.values.now [] [] (slots_of c.args.table.now (array_of c.args.table.now [] [] 0)) c.args.count c.args.terms 0 0 (and_shut (is_read (term_at c.args.table.now 0))))
 
 pub slice_bounds-turn_at-end : goal.slice_bounds-turn_at-end

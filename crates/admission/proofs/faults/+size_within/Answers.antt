@@ -3,7 +3,7 @@ use mathlib.Core.Path.{sym, ap, ◌∙◌}
 use native.Mathlib.Omega.{arith}
 use Rattle.table.specs.Faults.{size_within}
 use Rattle.table.proofs.Sizes.{size_end, size_fits, store-sized, choice-sized, none-sized}
-use Rattle.admission.proofs.sizes.+size_within.Goals as goal
+use Rattle.admission.proofs.faults.+size_within.Goals as goal
 
 pub returns-then-left-eq0 : goal.returns-then-left-eq0
 returns-then-left-eq0 t c = sym (ap (λ (n : ℕ). size_within n c.args.table.now c.args.k) c.if-left-eq0.true ∙ size_end c.args.table.now c.args.k)

@@ -1,7 +1,7 @@
 use Prim.Native.Nat.{◌+◌, ◌-◌, ◌≤◌}
 use mathlib.Core.Path.{◌≡◌}
 use Rattle.table.specs.Faults.{size_within, size}
-use Rattle.admission.proofs.sizes.size.Given as goal
+use Rattle.admission.proofs.faults.size.Given as goal
 
 -- so many stores are passed, and the rest is counted from the array that they stand on
 abbrev pub invariant-loop-count : goal.invariant-loop-count

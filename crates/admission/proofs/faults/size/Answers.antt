@@ -3,7 +3,7 @@ use mathlib.Core.Path.{◌≡◌, sym, ap, ◌∙◌}
 use native.Mathlib.Omega.{arith}
 use Rattle.table.specs.Faults.{size_within}
 use Rattle.table.proofs.Sizes.{size_below, store-sized, none-sized}
-use Rattle.admission.proofs.sizes.size.Goals as goal
+use Rattle.admission.proofs.faults.size.Goals as goal
 
 pub loop-count-init : goal.loop-count-init
 loop-count-init c = (omega arith, omega arith)

@@ -1,6 +1,6 @@
 -- What the work of a command comes to, and the status that it ends with.
 -- Assumes nothing.
-use Rattle.std.specs.Prelude.{ℕ, Bool, cond, not, ◌&&◌, ◌||◌, List, ◌==◌}
+use Rattle.std.specs.Prelude.{ℕ, cond, not, ◌&&◌, ◌||◌, List, ◌==◌}
 use Rattle.table.specs.declared.Refusal.{Refusal}
 use Rattle.evaluate.specs.declared.Evaluation.{Evaluation}
 use Rattle.evaluate.specs.declared.Evaluation.TheVariants.{Evaluated, NotEvaluated}

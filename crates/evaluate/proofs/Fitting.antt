@@ -3,7 +3,7 @@
 use mathlib.Core.Path.{◌≡◌, refl, sym, ap, ap₂, subst, ◌∙◌}
 use mathlib.Core.Bool.{Bool, true, false, cond, ◌&&◌}
 use mathlib.Core.List.{List}
-use Prim.Native.Nat.{ℕ, zero, suc, ◌^◌, ◌≤◌, ◌<◌}
+use Prim.Native.Nat.{ℕ, zero, suc, ◌^◌, ◌<◌}
 use native.Mathlib.Nat.{not-suc-le-zero}
 use native.Mathlib.Omega.{arith}
 use lib.Dec.{eqb, ltb}
@@ -17,7 +17,7 @@ use Rattle.ops.specs.declared.Function.{Function}
 use Rattle.ops.specs.Ranks.{Arity, FunctionRank, function_rank, rank_width}
 use Rattle.ops.specs.Ranks.Arity.{one, two}
 use Rattle.ops.specs.Ranks.FunctionRank.{bool_unary, bool_binary, equality, bv_unary, bv_binary, bv_compare}
-use Rattle.ops.specs.Laws.{result_width, chooses, operand_fits, OperandsFit}
+use Rattle.ops.specs.Laws.{result_width, chooses, OperandsFit}
 use Rattle.ops.proofs.Booleans.{never, and_parts}
 use Rattle.ops.proofs.Widths.{fits_below}
 use Rattle.ops.proofs.Fitting.{fitting}
@@ -25,7 +25,7 @@ use Rattle.table.specs.declared.words.Sort.{Sort}
 use Rattle.table.specs.declared.words.Term.{Term}
 use Rattle.table.specs.Terms.{terms, term_at, sort_at, boolean, vector, scalar, array, vector_of, same_sort}
 use Rattle.table.specs.Ranks.{applied, rank_of, fields_of, slotted}
-use Rattle.table.specs.Faults.{is_variable, placed_as, typed_as, valued_as}
+use Rattle.table.specs.Faults.{placed_as, typed_as, valued_as}
 use Rattle.table.specs.WellFormed.{WellFormed}
 use Rattle.table.proofs.SoundTerms.{widths}
 use Rattle.setting.specs.Interpretation.{Value, Interpretation, Fit, FitInputs}

@@ -6,7 +6,7 @@ use Prim.Native.Nat.{ℕ, ◌+◌, ◌<◌}
 use lib.ListN.{length, get_or}
 use Rattle.table.specs.Terms.{term_at}
 use Rattle.table.proofs.FoldLaws.{fold-below, length-map-fold, map-fold_in, map-fold-more}
-use Rattle.setting.specs.Interpretation.{Value, Interpretation}
+use Rattle.setting.specs.Interpretation.{Interpretation}
 use Rattle.evaluate.specs.Values.{scalar_value, value_in, value_from, values, value_at, numbers}
 
 module _ (w : List ℕ) (I : Interpretation) where

@@ -1,26 +1,26 @@
 -- What the code computes of a term is its value: a read along its array is the array's cell, and a number is the value's.
 -- Assumes nothing.
-use mathlib.Core.Path.{◌≡◌, refl, sym, ap, ap₂, subst, ◌∙◌}
+use mathlib.Core.Path.{◌≡◌, refl, sym, ap, ap₂, ◌∙◌}
 use mathlib.Core.Bool.{Bool, true, false, cond, ◌&&◌}
-use mathlib.Core.Logic.{◌⊎◌, inl, inr, ⊎_elim}
+use mathlib.Core.Logic.{⊎_elim}
 use mathlib.Core.List.{List}
-use Prim.Native.Nat.{ℕ, zero, suc, ◌≤◌, ◌<◌}
+use Prim.Native.Nat.{ℕ, zero, suc, ◌<◌}
 use native.Mathlib.Nat.{not-suc-le-zero}
 use native.Mathlib.Omega.{arith}
-use lib.Dec.{eqb, ltb, leb}
+use lib.Dec.{eqb, ltb}
 use lib.ListN.{get_or}
 use borrow.Author.Tests.{ltb-true, ne_eqb}
 use Rattle.ops.specs.declared.Op.{Op}
 use Rattle.ops.specs.declared.Op.TheVariants.{Constant, Variable, Apply, Ite, Select, Store, Unknown}
 use Rattle.ops.specs.Numbers.{op_of}
 use Rattle.ops.specs.Meaning.{apply, holds}
-use Rattle.ops.proofs.Booleans.{never, and_parts}
+use Rattle.ops.proofs.Booleans.{never}
 use Rattle.table.specs.declared.words.Sort.{Sort}
 use Rattle.table.specs.declared.words.Term.{Term}
-use Rattle.table.specs.Terms.{terms, term_at, sort_at, boolean, scalar, array, vector_of, same_sort}
-use Rattle.table.specs.Ranks.{rank_of, fields_of, slotted, immediate, picks, reads, writes}
-use Rattle.table.specs.Faults.{fields, rank, is_store, is_choice, is_read, placed_as, typed_as, typed}
-use Rattle.table.specs.WellFormed.{Sound, WellFormed}
+use Rattle.table.specs.Terms.{terms, term_at, sort_at, boolean, array, vector_of, same_sort}
+use Rattle.table.specs.Ranks.{slotted, immediate, picks, reads, writes}
+use Rattle.table.specs.Faults.{is_store, is_choice, is_read}
+use Rattle.table.specs.WellFormed.{WellFormed}
 use Rattle.table.proofs.SoundTerms.{stacked}
 use Rattle.setting.specs.Interpretation.{Value, Interpretation, interpret}
 use Rattle.evaluate.specs.Values.{scalar_value, array_value, value_by, value_in, values, value_at, numbers}

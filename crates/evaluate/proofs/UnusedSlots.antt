@@ -1,7 +1,7 @@
 -- Values of slots that no variable uses are not looked at.
 -- Assumes nothing.
-use mathlib.Core.Path.{◌≡◌, refl, sym, ap, ap₂, ◌∙◌}
-use mathlib.Core.Bool.{Bool, true, cond}
+use mathlib.Core.Path.{◌≡◌, refl, ap, ◌∙◌}
+use mathlib.Core.Bool.{true, cond}
 use mathlib.Core.List.{List, map, ◌++◌}
 use Prim.Native.Nat.{ℕ, ◌≤◌, ◌<◌}
 use native.Mathlib.Omega.{arith}
@@ -22,7 +22,7 @@ use Rattle.setting.proofs.UnusedSlots.{input-same, unused_unchecked}
 use Rattle.evaluate.specs.declared.Evaluation.{Evaluation}
 use Rattle.evaluate.specs.declared.Evaluation.TheVariants.{Evaluated, NotEvaluated}
 use Rattle.evaluate.specs.Values.{scalar_value, array_value, value_by, value_in, value_from, values, value_at, numbers}
-use Rattle.evaluate.specs.Evaluation.{ready_by, evaluation, room_in, room_after}
+use Rattle.evaluate.specs.Evaluation.{ready_by, evaluation, room_after}
 use Rattle.evaluate.specs.Laws.{UnusedUnevaluated}
 
 -- a term's value asks the interpretation for the slot of a variable alone

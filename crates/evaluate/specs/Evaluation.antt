@@ -1,15 +1,12 @@
 -- What evaluating answers, and what it leaves in the work room: paper 01, "Results", 22 and 23.
 -- Assumes nothing.
-use Rattle.std.specs.Prelude.{Bool, true, false, cond, List, ◌++◌, ℕ, ◌-◌, ◌*◌, ltb, length, drop}
-use Rattle.table.specs.declared.Refusal.{Refusal}
+use Rattle.std.specs.Prelude.{Bool, true, false, cond, List, ◌++◌, ℕ, ◌-◌, ◌*◌, ltb, drop}
 use Rattle.table.specs.declared.Acceptance.{Acceptance}
-use Rattle.table.specs.declared.Acceptance.TheVariants.{Accepted, Refused}
 use Rattle.table.specs.Terms.{terms}
 use Rattle.table.specs.Admission.{and_then, admission_within}
 use Rattle.setting.specs.Cells.{look}
 use Rattle.setting.specs.Check.{check}
 use Rattle.setting.specs.Interpretation.{Interpretation, interpret}
-use Rattle.evaluate.specs.declared.Spent.{Spent}
 use Rattle.evaluate.specs.declared.Evaluation.{Evaluation}
 use Rattle.evaluate.specs.declared.Evaluation.TheVariants.{Evaluated, NotEvaluated}
 use Rattle.evaluate.specs.Values.{numbers}

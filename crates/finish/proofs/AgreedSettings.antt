@@ -1,15 +1,13 @@
 -- The promise of finishing applied to settings; and by which numbers finishing refuses.
 -- Assumes nothing.
-use mathlib.Core.Path.{◌≡◌, refl, sym, ap, ◌∙◌}
+use mathlib.Core.Path.{◌≡◌, refl, ap, ◌∙◌}
 use mathlib.Core.Bool.{Bool, true, false, cond}
-use mathlib.Core.List.{List, []}
-use Prim.Native.Nat.{ℕ, ◌*◌}
+use mathlib.Core.List.{[]}
+use Prim.Native.Nat.{◌*◌}
 use Prim.{tt}
 use lib.Dec.{ltb}
-use lib.ListN.{length}
 use Rattle.ops.specs.Meaning.{apply}
 use Rattle.ops.specs.Condition.{settles}
-use Rattle.table.specs.declared.Acceptance.{Acceptance}
 use Rattle.table.specs.Folds.{fold, any_below}
 use Rattle.table.specs.Terms.{words, terms, term_at}
 use Rattle.table.specs.Faults.{typed, clash, size_within, fault_if, fault}
@@ -31,7 +29,6 @@ use Rattle.sheets.specs.Check.{sheet_check}
 use Rattle.sheets.proofs.Saying.{empty}
 use Rattle.groups.specs.Added.{flat}
 use Rattle.groups.specs.Plans.{plan_by, groups}
-use Rattle.finish.specs.declared.Finishing.{Finishing}
 use Rattle.finish.specs.declared.Finishing.TheVariants.{Finished, NotFinished}
 use Rattle.finish.specs.Finished.{finished, extent, not_finished}
 use Rattle.finish.specs.Laws.{finish_numbers, NotFinishedBy, FinishingNumbers}

@@ -1,6 +1,6 @@
 -- The finished table in the room, as the code writes it.
 -- Assumes nothing.
-use mathlib.Core.Path.{◌≡◌, refl, sym, ap, ap₂, ◌∙◌}
+use mathlib.Core.Path.{◌≡◌, sym, ap, ap₂, ◌∙◌}
 use mathlib.Core.List.{List, [], ◌∷◌, ◌++◌}
 use Prim.Native.Nat.{ℕ, pred, suc, ◌+◌, ◌-◌, ◌*◌, ◌≤◌, ◌<◌}
 use native.Mathlib.Nat.{add-zero}
@@ -17,9 +17,8 @@ use Rattle.groups.specs.Code.Writing.{placed_from, placed_all, written}
 use Rattle.groups.specs.Plans.{groups, next, plans}
 use Rattle.groups.specs.Sizes.{sizes}
 use Rattle.finish.specs.Finished.{condition_number, added, finished}
-use Rattle.finish.specs.Laws.{Few}
 use Rattle.finish.proofs.AddedSizes.{added-size, added-few}
-use Rattle.finish.proofs.Layouts.{Layout, finished_layout}
+use Rattle.finish.proofs.Layouts.{finished_layout}
 use Rattle.groups.proofs.Rooms.{laid_append, laid_front}
 
 module _ (w : List ℕ) (f : WellFormed 512 w) where

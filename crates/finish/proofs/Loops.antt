@@ -1,21 +1,20 @@
 -- What is known at each turn of the loops: counting the groups, writing them.
 -- Assumes nothing.
 use mathlib.Core.Path.{◌≡◌, refl, sym, ap, ap₂, ◌∙◌}
-use mathlib.Core.List.{List, [], ◌∷◌, ◌++◌, map}
+use mathlib.Core.List.{List, [], ◌∷◌, ◌++◌}
 use Prim.Native.Nat.{ℕ, suc, pred, ◌+◌, ◌*◌, ◌≤◌, ◌<◌}
 use native.Mathlib.Numerals.{add-one}
 use native.Mathlib.Omega.{arith}
 use lib.ListN.{length, take, set, length-set}
 use lib.Seq.{length-take-le, take-suc-set}
-use Rattle.table.specs.declared.words.Term.{Term}
 use Rattle.table.specs.Folds.{fold}
 use Rattle.table.specs.Terms.{terms, term_at}
 use Rattle.table.specs.WellFormed.{WellFormed}
-use Rattle.table.proofs.FoldLaws.{length-map-fold, map-fold-more}
+use Rattle.table.proofs.FoldLaws.{map-fold-more}
 use Rattle.sheets.specs.Marks.{own_marks}
 use Rattle.groups.specs.declared.groups.Written.{Written}
 use Rattle.groups.specs.Code.Writing.{placed_from, placed_all, condition_numbers, Numbered, written}
-use Rattle.groups.specs.Plans.{Plan, plan_of, groups, next, plans, plan_at}
+use Rattle.groups.specs.Plans.{plan_of, groups, next, plans, plan_at}
 use Rattle.groups.specs.Sizes.{size_of, sizes}
 use Rattle.groups.proofs.GroupSizes.{groups-more, groups-size, sizes_by_terms}
 use Rattle.groups.proofs.Rooms.{length_laid, laid_append}

@@ -2,8 +2,6 @@
 -- Assumes nothing.
 use Rattle.std.specs.Prelude.{cond, List, [], ◌∷◌, ◌++◌, ℕ, pred, ◌*◌, ltb, length, drop}
 use Rattle.table.specs.declared.words.Term.{Term}
-use Rattle.table.specs.declared.Acceptance.{Acceptance}
-use Rattle.table.specs.declared.Acceptance.TheVariants.{Accepted, Refused}
 use Rattle.table.specs.Terms.{words, terms}
 use Rattle.table.specs.Admission.{and_then, admission}
 use Rattle.sheets.specs.Marks.{own_marks}

@@ -1,12 +1,11 @@
 -- The promise of finishing, of evaluating through the record entrance: that of the cells laid flat.
 -- Assumes nothing.
-use mathlib.Core.Path.{◌≡◌, sym, ap, ap₂, subst, ◌∙◌}
+use mathlib.Core.Path.{sym, ap, subst, ◌∙◌}
 use mathlib.Core.List.{List}
 use Prim.Native.Nat.{ℕ}
 use Prim.{tt}
 use lib.ListN.{length}
 use Rattle.table.specs.Admission.{and_then}
-use Rattle.setting.specs.declared.cells.Cell.{Cell}
 use Rattle.evaluate.specs.declared.Evaluation.TheVariants.{Evaluated, NotEvaluated}
 use Rattle.evaluate.specs.Evaluation.{afford, room_in}
 use Rattle.finish.specs.declared.Extent.{Extent}

@@ -1,7 +1,7 @@
 -- By which numbers the C interface answers.
 -- Assumes nothing.
 use mathlib.Core.Path.{◌≡◌, refl, sym, ap, ◌∙◌}
-use mathlib.Core.Bool.{Bool, true, false, ◌||◌}
+use mathlib.Core.Bool.{Bool, true, false}
 use Prim.Native.Nat.{ℕ}
 use Rattle.ops.proofs.Booleans.{never, or_open}
 use lib.Dec.{eqb}

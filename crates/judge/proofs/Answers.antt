@@ -1,6 +1,6 @@
 -- What holds of every answer of judging: its numbers, and that values of unused slots do not enter; and P12 at every value.
 -- Assumes nothing.
-use mathlib.Core.Path.{◌≡◌, refl, sym, ap, ap₂, ◌∙◌}
+use mathlib.Core.Path.{◌≡◌, refl, ap, ap₂, ◌∙◌}
 use mathlib.Core.Bool.{Bool, true, false, not, ◌||◌}
 use mathlib.Core.List.{List, map, ◌++◌}
 use Prim.Native.Nat.{ℕ, pred, ◌*◌, ◌≤◌, ◌<◌}
@@ -37,13 +37,12 @@ use Rattle.evaluate.proofs.UnusedSlots.{values_same, value_at-same, numbers-same
 use Rattle.judge.specs.declared.Judgement.{Judgement}
 use Rattle.judge.specs.declared.Judgement.TheVariants.{Judged, NotJudged}
 use Rattle.judge.specs.Conditions.{Condition, condition_by, condition_in, condition_from, conditions, condition_at, truths}
-use Rattle.sheets.specs.Marks.{own_marks, marks_under}
+use Rattle.sheets.specs.Marks.{marks_under}
 use Rattle.sheets.specs.Check.{sheet_check}
 use Rattle.sheets.specs.Laws.{RefusedBy16}
 use Rattle.sheets.proofs.Checking.{sheet_numbers}
 use Rattle.judge.proofs.SheetMarks.{passed_under}
 use Rattle.judge.specs.Judgement.{admission_under, rule_in, rule_condition, verdict_by, verdict, judgement, room_after}
-use Rattle.judge.specs.Bench.{either}
 use Rattle.judge.specs.Laws.{judge_numbers, NotJudgedBy, JudgementNumbers, UnusedUnjudged, AlwaysDependent}
 
 -- The numbers

@@ -11,7 +11,7 @@ use lib.Dec.{ltb}
 use lib.ListN.{length, get_or, set, replicate}
 use lib.Seq.{get_or-set_same, get_or-set_other}
 use borrow.Author.Tests.{ltb-true, ltb-false}
-use Rattle.ops.proofs.Booleans.{never, and_parts, and_shut}
+use Rattle.ops.proofs.Booleans.{never}
 use Rattle.table.specs.declared.words.Term.{Term}
 use Rattle.table.specs.Terms.{terms, term_at}
 use Rattle.table.specs.Faults.{is_read, is_store}
@@ -30,7 +30,7 @@ use Rattle.judge.specs.Code.Labelled.{truth_in, picked_by}
 use Rattle.judge.specs.Code.Reach.{reach_at, held_at}
 use Rattle.judge.specs.Code.Turns.{alone, held, asks_for, array_of, turn_of, gathered}
 use Rattle.judge.proofs.LeafLaws.{few_leaves}
-use Rattle.judge.proofs.Meaning.{index_of, Answers}
+use Rattle.judge.proofs.Meaning.{Answers}
 
 -- the part of a turn that evaluating has too
 abbrev pub asked : Turn → Asked

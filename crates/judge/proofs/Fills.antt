@@ -6,8 +6,7 @@ use mathlib.Core.List.{List, [], ◌∷◌, ◌++◌}
 use Prim.Native.Nat.{ℕ, ◌+◌, ◌-◌, ◌*◌, ◌≤◌, ◌<◌}
 use native.Mathlib.Nat.{not-suc-le-zero}
 use native.Mathlib.Omega.{arith}
-use lib.Dec.{ltb}
-use lib.ListN.{length, take, drop, set, replicate, length-set}
+use lib.ListN.{length, take, drop, replicate, length-set}
 use lib.Seq.{length-sets}
 use borrow.Author.Tests.{ltb-true, ltb-false}
 use Rattle.ops.specs.Meaning.{bit}
@@ -23,14 +22,13 @@ use Rattle.setting.specs.declared.cells.Cell.{Cell}
 use Rattle.setting.specs.Cells.{look_from}
 use Rattle.setting.specs.Interpretation.{Interpretation}
 use Rattle.evaluate.specs.Values.{value_in, values, value_at, numbers}
-use Rattle.evaluate.specs.Code.Turns as evaluating
 use Rattle.evaluate.specs.Code.Turns.{is_read_at, next_read}
 use Rattle.evaluate.proofs.Folds.{length-numbers, numbers_more}
 use Rattle.evaluate.proofs.Onward.{Arrived, arrived}
 use Rattle.evaluate.proofs.Runs.{in_cells, Turning}
 use Rattle.judge.specs.declared.turns.Turn.{Turn}
 use Rattle.judge.specs.declared.reads.Labelled.{Labelled}
-use Rattle.judge.specs.Conditions.{plain, condition_in, condition_from, conditions, condition_at, truths}
+use Rattle.judge.specs.Conditions.{condition_in, condition_from, condition_at, truths}
 use Rattle.judge.specs.Code.Leaves.{leaves_at}
 use Rattle.judge.specs.Code.Labelled.{truth_in, labelled_of, entered, noted, plain_noted}
 use Rattle.judge.specs.Code.Turns.{slots_of, turn_of, asks_first, turn_here, first_turn, gathered, asks_for, asks_more, note_on, next_room, next_turn}

@@ -1,7 +1,7 @@
 -- The variables that a read meets: those of the arrays that an array stands on, one after the other; at most 17.
 -- Assumes nothing.
-use mathlib.Core.Path.{◌≡◌, refl, sym, ap, ap₂, subst, ◌∙◌}
-use mathlib.Core.Bool.{Bool, true, false, cond, ◌&&◌}
+use mathlib.Core.Path.{◌≡◌, refl, sym, ap, subst, ◌∙◌}
+use mathlib.Core.Bool.{Bool, true, false, ◌&&◌}
 use mathlib.Core.List.{List, [], ◌∷◌, ◌++◌}
 use Prim.Native.Nat.{ℕ, zero, suc, ◌+◌, ◌≤◌, ◌<◌}
 use native.Mathlib.Decide.{dec_lt}
@@ -16,7 +16,7 @@ use Rattle.ops.proofs.Booleans.{never, and_parts}
 use Rattle.table.specs.declared.words.Term.{Term}
 use Rattle.table.specs.Terms.{terms, term_at, sort_at, array, vector_of, same_sort}
 use Rattle.table.specs.Ranks.{rank_of, slotted, picks, writes}
-use Rattle.table.specs.Faults.{is_variable, is_store, is_choice, size, typed_as}
+use Rattle.table.specs.Faults.{is_store, is_choice, size, typed_as}
 use Rattle.table.specs.WellFormed.{WellFormed, Tree}
 use Rattle.table.specs.WellFormed.Tree.{variable, store, choice}
 use Rattle.table.proofs.ArrayTerms.{array-terms}

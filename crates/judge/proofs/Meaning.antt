@@ -17,14 +17,13 @@ use Rattle.ops.specs.Meaning.{bit, holds}
 use Rattle.ops.specs.Condition.{chosen, settles}
 use Rattle.ops.proofs.Booleans.{never, and_parts, and_shut}
 use Rattle.table.specs.declared.words.Term.{Term}
-use Rattle.table.specs.Terms.{terms, term_at, sort_at, array, vector_of, same_sort}
+use Rattle.table.specs.Terms.{terms, term_at, sort_at, array, vector_of}
 use Rattle.table.specs.Ranks.{slotted, immediate, picks, reads}
 use Rattle.table.specs.Faults.{is_read, is_store}
 use Rattle.table.specs.WellFormed.{WellFormed}
-use Rattle.table.proofs.FoldLaws.{length-map-fold, map-fold_in, map-fold-more}
+use Rattle.table.proofs.FoldLaws.{length-map-fold, map-fold_in}
 use Rattle.table.proofs.SoundTerms.{stacked}
 use Rattle.setting.specs.Interpretation.{Value, Interpretation, interpret}
-use Rattle.evaluate.specs.Code.Turns.{number_of}
 use Rattle.evaluate.specs.Values.{value_by, value_in, values, value_at, numbers}
 use Rattle.evaluate.proofs.Folds.{value-below, number_in}
 use Rattle.evaluate.proofs.Meaning.{reads_select, number-below, cell_of, variable_ends, cell_variable, is-store, store-placed, store-array, cell-store, is-choice, choice-placed, choice_arrays, cell-choice, array_by, read_is, value_read, number_is}
@@ -32,7 +31,7 @@ use Rattle.table.proofs.OperandSorts.{three, typing_as, placing_as, two_placed}
 use Rattle.judge.specs.declared.reads.Labelled.{Labelled}
 use Rattle.judge.specs.Code.Leaves.{leaves_at}
 use Rattle.judge.specs.Conditions.{Condition, plain, settled, condition_by, condition_in, condition_from, conditions, condition_at, truths}
-use Rattle.judge.specs.Code.Labelled.{truth_in, overlaid, picked_by, either_of, labelled_at, labelled_by, truth_of, plain_labelled, labelled_of}
+use Rattle.judge.specs.Code.Labelled.{truth_in, overlaid, picked_by, either_of, labelled_at, labelled_by, plain_labelled, labelled_of}
 use Rattle.judge.specs.Code.Reach.{passed_by, reach_at, held_at}
 use Rattle.judge.proofs.Alike.{choice_shut, store_shut, condition_below, condition_past}
 use Rattle.judge.proofs.LeafLaws.{leaves_variable, leaves_store, leaves_choice}

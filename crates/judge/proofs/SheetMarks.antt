@@ -1,7 +1,7 @@
 -- What depends on marks depends on those of the table's variables alone; and what admission under a sheet leaves.
 -- Assumes nothing.
-use mathlib.Core.Path.{◌≡◌, refl, sym, ap, ap₂, ◌∙◌}
-use mathlib.Core.Bool.{Bool, true, false, not}
+use mathlib.Core.Path.{◌≡◌, refl, ap, ◌∙◌}
+use mathlib.Core.Bool.{Bool, true}
 use mathlib.Core.List.{List, map, ◌++◌}
 use Prim.Native.Nat.{ℕ, pred, ◌*◌, ◌≤◌, ◌<◌}
 use native.Mathlib.Omega.{arith}
@@ -31,9 +31,8 @@ use Rattle.evaluate.specs.declared.Evaluation.TheVariants.{Evaluated, NotEvaluat
 use Rattle.evaluate.specs.Evaluation.{evaluates, ready_by}
 use Rattle.evaluate.proofs.Answers.{passed_by}
 use Rattle.evaluate.specs.Values.{value_in, values, numbers}
-use Rattle.judge.specs.declared.Judgement.{Judgement}
 use Rattle.judge.specs.Conditions.{Condition, condition_by, condition_in, condition_from, conditions, condition_at, truths}
-use Rattle.judge.specs.Judgement.{admission_under, rule_in, rule_condition, verdict_by, verdict, room_in}
+use Rattle.judge.specs.Judgement.{admission_under, rule_in, verdict_by, verdict, room_in}
 
 -- two sets of marks that say the same of each variable of a table
 abbrev pub SameMarks : List ℕ → (Term → Bool) → (Term → Bool) → Type 0

@@ -7,7 +7,6 @@ use Prim.Native.Nat.{ℕ, ◌<◌}
 use lib.Dec.{eqb}
 use lib.ListN.{length}
 use Rattle.table.specs.declared.Acceptance.TheVariants.{Accepted}
-use Rattle.table.specs.declared.words.Term.{Term}
 use Rattle.table.specs.Terms.{terms, term_at}
 use Rattle.table.proofs.Admitted.{admission-sound}
 use Rattle.sheets.specs.Marks.{own_marks, marks_under, LeavesMarks}
@@ -20,8 +19,8 @@ use Rattle.evaluate.specs.declared.Evaluation.{Evaluation}
 use Rattle.evaluate.specs.Evaluation.{evaluates, ready}
 use Rattle.evaluate.proofs.Answers.{passed}
 use Rattle.judge.specs.declared.Judgement.{Judgement}
-use Rattle.judge.specs.Judgement.{rule_in, rule_condition, verdict, verdict_by, judgement_under, judgement, room_in, room_after}
-use Rattle.judge.specs.Sheets.{JudgedBy, JudgedUnder, JudgedAsMarked, EmptySheet, Party, Asked, judged, served, after, answers, standing, own, Alone, PartiesApart}
+use Rattle.judge.specs.Judgement.{rule_in, rule_condition, verdict, judgement_under, judgement, room_in}
+use Rattle.judge.specs.Sheets.{JudgedBy, JudgedUnder, JudgedAsMarked, EmptySheet, Party, Asked, judged, served, after, answers, standing, own, PartiesApart}
 use Rattle.judge.proofs.SheetMarks.{ready_under, verdict_alike, room_alike}
 
 module _ (w sheet values cells : List ℕ) (allowance : ℕ) (room : List ℕ) (sound : sheet_check sheet ≡ Accepted) where

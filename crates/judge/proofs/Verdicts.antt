@@ -1,14 +1,13 @@
 -- What a verdict leaves: of a refusal, of the room, and of the last term.
 -- Assumes nothing.
-use mathlib.Core.Path.{◌≡◌, refl, sym, ap, ap₂, ◌∙◌}
+use mathlib.Core.Path.{◌≡◌, refl, sym, ap, ◌∙◌}
 use mathlib.Core.Bool.{Bool, true, false}
 use mathlib.Core.List.{List, ◌++◌}
 use Prim.Native.Nat.{ℕ, pred, ◌+◌, ◌-◌, ◌*◌, ◌<◌}
 use native.Mathlib.Omega.{arith}
-use lib.Dec.{eqb}
-use lib.ListN.{length, get_or, drop, length-append, get_or-append}
+use lib.ListN.{get_or, drop, length-append, get_or-append}
 use lib.Seq.{get_or-append-add}
-use Rattle.ops.specs.Meaning.{bit, holds}
+use Rattle.ops.specs.Meaning.{holds}
 use Rattle.ops.proofs.Booleans.{never}
 use Rattle.table.specs.declared.words.Term.{Term}
 use Rattle.table.specs.Terms.{terms}
@@ -16,11 +15,10 @@ use Rattle.setting.specs.Interpretation.{Interpretation}
 use Rattle.evaluate.specs.declared.Evaluation.{Evaluation}
 use Rattle.evaluate.specs.declared.Evaluation.TheVariants.{Evaluated, NotEvaluated}
 use Rattle.evaluate.specs.Evaluation.{evaluates}
-use Rattle.evaluate.specs.Values.{values, value_at, numbers}
+use Rattle.evaluate.specs.Values.{value_at, numbers}
 use Rattle.evaluate.proofs.Folds.{length-numbers, number_in, value-below}
 use Rattle.setting.specs.Interpretation.{Value}
 use Rattle.judge.specs.Conditions.{Condition, condition_at, truths}
-use Rattle.judge.specs.Code.Labelled.{truth_in}
 use Rattle.judge.specs.Judgement.{rule_in, rule_condition, verdict_by, room_in}
 use Rattle.judge.proofs.Alike.{condition_below}
 use Rattle.judge.proofs.Meaning.{length-truths, truth_in_lem}

@@ -6,11 +6,9 @@ use Rattle.table.specs.WellFormed.{WellFormed}
 use Rattle.sheets.specs.Marks.{marks_under}
 use Rattle.setting.specs.Cells.{look}
 use Rattle.setting.specs.Interpretation.{Interpretation, interpret, FitInputs, AgreeUnmarked}
-use Rattle.evaluate.specs.Values.{value_at}
 use Rattle.judge.specs.declared.Verdict.{Verdict}
 use Rattle.judge.specs.declared.Judgement.{Judgement}
 use Rattle.judge.specs.declared.Judgement.TheVariants.{Judged, NotJudged}
-use Rattle.judge.specs.Conditions.{condition_at}
 use Rattle.judge.specs.Judgement.{rule_in, rule_condition, judgement, passes}
 
 -- Of interpretations, under any marks: two that fit and agree on every unmarked input give the rule one condition, and where it is true one value.

@@ -1,6 +1,6 @@
 -- What judging answers, and what it leaves in the work room: paper 01, "Results".
 -- Assumes nothing.
-use Rattle.std.specs.Prelude.{Bool, true, false, ◌&&◌, List, ◌++◌, ℕ, pred, ◌*◌, length, drop}
+use Rattle.std.specs.Prelude.{Bool, ◌&&◌, List, ◌++◌, ℕ, pred, ◌*◌, drop}
 use Rattle.ops.specs.Meaning.{holds}
 use Rattle.table.specs.declared.words.Term.{Term}
 use Rattle.table.specs.Terms.{terms}

@@ -1,6 +1,6 @@
 -- Judging under a mark sheet (paper 02, request 06): an empty sheet, sheets that leave the marks, and two parties with a table lent to both.
 -- Assumes nothing.
-use Rattle.std.specs.Prelude.{◌≡◌, Bool, true, false, cond, List, [], ◌∷◌, ℕ, eqb, length}
+use Rattle.std.specs.Prelude.{◌≡◌, Bool, cond, List, [], ◌∷◌, ℕ, eqb, length}
 use Rattle.table.specs.declared.words.Term.{Term}
 use Rattle.table.specs.declared.Acceptance.TheVariants.{Accepted}
 use Rattle.sheets.specs.Marks.{own_marks, marks_under, LeavesMarks}

@@ -1,15 +1,12 @@
 -- Agreement on the unmarked inputs, from equal values and equal lookups.
 -- Assumes nothing.
-use mathlib.Core.Path.{◌≡◌, refl, sym, ap, ◌∙◌}
-use mathlib.Core.Bool.{Bool, true, false, not, ◌&&◌, cond}
-use mathlib.Core.List.{List}
+use mathlib.Core.Path.{◌≡◌}
+use mathlib.Core.Bool.{true, false, not}
 use Prim.Native.Nat.{ℕ, ◌^◌, ◌<◌}
 use native.Mathlib.Omega.{arith}
 use lib.Dec.{eqb, ltb}
 use lib.ListN.{get_or}
 use borrow.Author.Tests.{eqb-true, ltb-true, ne_eqb, not-false}
-use Rattle.ops.proofs.Booleans.{never}
-use Rattle.table.specs.declared.words.Term.{Term}
 use Rattle.table.specs.Terms.{terms, term_at, sort_at, scalar, array}
 use Rattle.table.specs.Faults.{is_variable}
 use Rattle.table.specs.Folds.{any_below}

@@ -1,11 +1,11 @@
 -- A setting that is not refused fits.
 -- Assumes nothing.
-use mathlib.Core.Path.{◌≡◌, refl, sym, ap, subst, ◌∙◌}
-use mathlib.Core.Bool.{Bool, true, false, cond, not, ◌&&◌, ◌||◌}
+use mathlib.Core.Path.{◌≡◌, ap, subst, ◌∙◌}
+use mathlib.Core.Bool.{Bool, true, false, not, ◌&&◌, ◌||◌}
 use mathlib.Core.List.{List}
-use Prim.Native.Nat.{ℕ, zero, suc, ◌^◌, ◌%◌, ◌<◌}
+use Prim.Native.Nat.{ℕ, ◌^◌, ◌%◌, ◌<◌}
 use native.Mathlib.Omega.{arith}
-use lib.Dec.{eqb, ltb, leb}
+use lib.Dec.{eqb, ltb}
 use lib.ListN.{length, get_or}
 use borrow.Author.Tests.{ltb-true, eqb-true, ne_eqb, le-leb}
 use Rattle.ops.specs.Fits.{fits}
@@ -13,7 +13,7 @@ use Rattle.ops.proofs.Booleans.{never, and_parts}
 use Rattle.table.specs.declared.words.Sort.{Sort}
 use Rattle.table.specs.declared.words.Term.{Term}
 use Rattle.table.specs.declared.Acceptance.TheVariants.{Accepted}
-use Rattle.table.specs.Terms.{terms, term_at, sort_at, scalar, array}
+use Rattle.table.specs.Terms.{terms, term_at, sort_at, array}
 use Rattle.table.specs.Faults.{is_variable, refuse_unless}
 use Rattle.table.specs.Admission.{scan}
 use Rattle.table.specs.WellFormed.{WellFormed}
@@ -21,10 +21,10 @@ use Rattle.table.proofs.Admitted.{cond_admitted}
 use Rattle.table.proofs.Scans.{scan-sound}
 use Rattle.table.proofs.SoundTerms.{widths, slot-most}
 use Rattle.table.proofs.TermFaults.{refuse_zero}
-use Rattle.setting.specs.Cells.{cell_at, cell_count, matches, look_from, look}
+use Rattle.setting.specs.Cells.{cell_at, cell_count, matches, look}
 use Rattle.setting.specs.Arrays.{array_variable, slot_sort}
 use Rattle.setting.specs.Check.{variable_fault, cell_fault, check_cells, check}
-use Rattle.setting.specs.Interpretation.{interpret, Fit, FitInputs, CheckedFits}
+use Rattle.setting.specs.Interpretation.{interpret, Fit, CheckedFits}
 use Rattle.setting.specs.declared.cells.Cell.{Cell}
 use Rattle.setting.proofs.Looks.{look-all}
 use Rattle.setting.proofs.Latest.{slot_sort_is}

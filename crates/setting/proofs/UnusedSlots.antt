@@ -4,21 +4,20 @@ use mathlib.Core.Path.{◌≡◌, refl, sym, ap, ap₂, ◌∙◌}
 use mathlib.Core.Bool.{Bool, true, false, cond, not, ◌||◌}
 use mathlib.Core.Logic.{inl, inr}
 use mathlib.Core.List.{List}
-use Prim.Native.Nat.{ℕ, ◌%◌, ◌≤◌, ◌<◌}
+use Prim.Native.Nat.{ℕ, ◌%◌, ◌<◌}
 use native.Mathlib.Omega.{arith}
 use lib.Dec.{eqb, ltb}
 use lib.ListN.{length, get_or, length-append, get_or-append, get_or-eq_default}
 use borrow.Author.Tests.{lt-ltb, le-ltb}
 use Rattle.ops.specs.Fits.{fits}
 use Rattle.table.specs.declared.words.Term.{Term}
-use Rattle.table.specs.declared.Acceptance.TheVariants.{Accepted}
 use Rattle.table.specs.Terms.{terms, term_at}
 use Rattle.table.specs.Faults.{is_variable, refuse_unless}
-use Rattle.table.specs.Admission.{refused, scan}
+use Rattle.table.specs.Admission.{refused}
 use Rattle.table.proofs.Scans.{scan-same}
 use Rattle.setting.specs.declared.cells.Cell.{Cell}
 use Rattle.setting.specs.Cells.{cell_at, cell_count}
-use Rattle.setting.specs.Check.{variable_fault, cell_fault, check_cells, check}
+use Rattle.setting.specs.Check.{variable_fault, check_cells, check}
 use Rattle.setting.specs.Interpretation.{interpret}
 use Rattle.setting.specs.Laws.{OneValue, OneUsedValues, UnusedUnchecked, MoreValues}
 

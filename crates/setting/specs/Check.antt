@@ -1,6 +1,6 @@
 -- What refuses a setting: paper 01, "Refused because of the input", 11 to 15.
 -- Assumes nothing.
-use Rattle.std.specs.Prelude.{Bool, cond, not, ◌&&◌, ◌||◌, List, ℕ, ◌%◌, eqb, ltb, length, get_or}
+use Rattle.std.specs.Prelude.{cond, not, ◌&&◌, ◌||◌, List, ℕ, ◌%◌, eqb, ltb, length, get_or}
 use Rattle.ops.specs.Fits.{fits}
 use Rattle.table.specs.declared.words.Term.{Term}
 use Rattle.table.specs.declared.Acceptance.{Acceptance}

@@ -18,7 +18,7 @@ use Rattle.table.specs.declared.words.Sort.{Sort}
 use Rattle.table.specs.declared.words.Term.{Term}
 use Rattle.table.specs.Terms.{words, terms, word_at, term_at, sort_at, boolean, array}
 use Rattle.table.specs.Ranks.{rank_of, fields_of, picks, writes}
-use Rattle.table.specs.Faults.{rank, is_variable, is_store, is_choice, fields, width, sorted, placed_as}
+use Rattle.table.specs.Faults.{is_variable, is_store, is_choice, width, sorted, placed_as}
 use Rattle.table.specs.WellFormed.{Sound, WellFormed}
 use Rattle.table.proofs.TermFaults.{slot-valued}
 use Rattle.table.proofs.Stacks.{Stacked}

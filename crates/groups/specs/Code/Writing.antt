@@ -1,6 +1,6 @@
 -- What writing the groups keeps and answers.
 -- Assumes nothing.
-use Rattle.std.specs.Prelude.{◌≡◌, Bool, cond, List, [], ◌∷◌, map, ℕ, pred, suc, ◌+◌, ◌≤◌, length}
+use Rattle.std.specs.Prelude.{◌≡◌, Bool, cond, List, [], ◌∷◌, map, ℕ, suc, ◌+◌, ◌≤◌, length}
 use Rattle.ops.specs.Meaning.{ones}
 use Rattle.ops.specs.Signed.{greatest, least}
 use Rattle.table.specs.declared.words.Term.{Term}

@@ -1,15 +1,7 @@
-use Prim.Native.Nat.{ℕ}
-use mathlib.Core.Path.{◌≡◌, sym, ap, ◌∙◌}
-use mathlib.Core.Bool.{cond}
+use mathlib.Core.Path.{ap, ◌∙◌}
 use lib.ListN.{length}
-use native.Mathlib.Omega.{arith}
 use Rattle.table.specs.declared.Acceptance.{Acceptance}
-use Rattle.table.specs.Terms.{terms}
-use Rattle.evaluate.specs.declared.Evaluation.{Evaluation}
-use Rattle.evaluate.specs.Evaluation.{evaluates}
-use Rattle.setting.specs.Cells.{look_from}
-use Rattle.records.specs.Rows.{record_at}
-use Rattle.records.specs.Answers.{ready, evaluation, evaluation_room}
+use Rattle.records.specs.Answers.{ready}
 use Rattle.records.proofs.Readiness.{formed}
 use Rattle.records.proofs.Evaluating as drive
 use Rattle.records.proofs.evaluate_records.Goals as goal

@@ -1,6 +1,5 @@
 use Prim.Native.Nat.{◌-◌}
 use Rattle.setting.specs.Cells.{cell_at}
-use Rattle.evaluate.proofs.Fills as fills
 use Rattle.evaluate.proofs.Fills.{Filling}
 use Rattle.evaluate.proofs.room.fill.Given as goal
 

@@ -1,4 +1,4 @@
-use Rattle.std.proofs.Common.{◌-◌, arith}
+use Rattle.std.proofs.Common.{arith}
 use Rattle.forms.proofs.faults.has_equals.Goals as goal
 
 pub bounds-word-i : goal.bounds-word-i

@@ -1,7 +1,6 @@
 use Prim.Native.Nat.{◌-◌, ◌*◌}
 use Rattle.setting.specs.Cells.{cell_at}
 use Rattle.sheets.specs.Code.Said.{marks_by}
-use Rattle.judge.proofs.Fills as fills
 use Rattle.judge.proofs.Fills.{Filling}
 use Rattle.judge.proofs.room.fill.Given as goal
 

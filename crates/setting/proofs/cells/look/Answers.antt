@@ -1,4 +1,3 @@
-use Prim.Native.Nat.{◌-◌}
 use mathlib.Core.Path.{sym, ◌∙◌}
 use Rattle.setting.specs.Cells.{cell_at}
 use Rattle.setting.proofs.Looks.{begun, on, stop, through}

@@ -64,12 +64,9 @@ fn run_lines(output: Stdout, text: &[u8], numbers: &mut [u32]) -> Result<()> {
     Ok(())
 }
 
-// How many bytes of standard input are read.
-const BYTE_LIMIT: u64 = 65536;
-
 fn main(rt: HostRuntime) -> Result<()> {
-    let mut text = Vec::new(rt.alloc());
-    rt.stdin().take(BYTE_LIMIT).read_to_end(&mut text)?;
+    let mut text = io::large_buffer();
+    let got = io::read_full(0, &mut text);
     let mut numbers = parts::room();
-    run_lines(rt.stdout(), &text, &mut numbers)
+    run_lines(rt.stdout(), &text[..got], &mut numbers)
 }

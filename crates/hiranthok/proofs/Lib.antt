@@ -1,3 +1,2 @@
-pub mod Facts
 pub mod Across
 pub mod Numbers

@@ -5,7 +5,7 @@ use mathlib.Core.Bool.{Bool, true, false, not, cond}
 use mathlib.Core.List.{List}
 use Prim.Native.Nat.{ℕ, ◌*◌, ◌≤◌, ◌<◌}
 use native.Mathlib.Omega.{arith}
-use lib.Dec.{T, ltb}
+use lib.Dec.{ltb}
 use lib.ListN.{length}
 use borrow.Author.Tests.{lt-ltb, le-ltb}
 use Rattle.ops.proofs.Booleans.{never}
@@ -18,15 +18,6 @@ use Rattle.evaluate.specs.declared.Evaluation.{Evaluation}
 use Rattle.evaluate.specs.Evaluation.{evaluates}
 use Rattle.evaluate.proofs.Answers.{PassedBy, passed_by}
 use Rattle.records.specs.Answers.{check, ready}
-
--- a test's two ways
-pub taken : (b : Bool) → T b → b ≡ true
-taken true h = refl
-taken false h = absurd h
-
-pub passed_over : (b : Bool) → T (not b) → b ≡ false
-passed_over true h = absurd h
-passed_over false h = refl
 
 not_both : (b : Bool) → (b ≡ false → ⊥) → b ≡ true
 not_both true h = refl

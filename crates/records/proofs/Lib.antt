@@ -3,7 +3,6 @@ pub mod Numbers
 pub mod Demand
 pub mod Looks
 pub mod Backward
-pub mod Facts
 pub mod Readiness
 pub mod Driving
 pub mod Evaluating

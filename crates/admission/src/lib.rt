@@ -11,20 +11,20 @@ ghost use Rattle.table.specs.Faults.{fault};
 ghost use Rattle.table.specs.Code.Clashes.{first_clash};
 
 pub use faults::size;
-use table::{Acceptance, WORDS, boolean, refused, sort_at};
+use table::{Refusal, WORDS, boolean, refused, sort_at};
 
-fn ended(table: &[u32], last: u32) -> Acceptance
+fn ended(table: &[u32], last: u32) -> Result<(), Refusal>
     ensures { result ≡ ended table.now last }
 {
     if boolean(sort_at(table, last)) {
-        Acceptance::Accepted
+        Ok(())
     } else {
         refused(10, last as u64)
     }
 }
 
 // The terms in order, the first clash being known; then the last term's sort.
-fn first_fault(table: &[u32], terms: u32, clash: u32) -> Acceptance
+fn first_fault(table: &[u32], terms: u32, clash: u32) -> Result<(), Refusal>
     requires terms_nonzero { 0 < terms }
     requires words_in_bounds { terms * words ≤ length table.now }
     requires clash_value { clash ≡ first_clash table.now terms }
@@ -40,7 +40,7 @@ fn first_fault(table: &[u32], terms: u32, clash: u32) -> Acceptance
 }
 
 // Acceptance with any limit on the count of terms.
-pub fn admit_within(table: &[u32], limit: u32) -> Acceptance
+pub fn admit_within(table: &[u32], limit: u32) -> Result<(), Refusal>
     ensures { result ≡ admission_within limit table.now }
 {
     let len = table.len();
@@ -56,7 +56,7 @@ pub fn admit_within(table: &[u32], limit: u32) -> Acceptance
 }
 
 // Whether a table is one that the other routines take, else its first refusal.
-pub fn admit(table: &[u32]) -> Acceptance
+pub fn admit(table: &[u32]) -> Result<(), Refusal>
     ensures { result ≡ admission table.now }
 {
     admit_within(table, 512)

@@ -12,7 +12,6 @@ use Rattle.ops.specs.Fits.{fits}
 use Rattle.ops.proofs.Booleans.{never, and_parts}
 use Rattle.table.specs.declared.words.Sort.{Sort}
 use Rattle.table.specs.declared.words.Term.{Term}
-use Rattle.table.specs.declared.Acceptance.TheVariants.{Accepted}
 use Rattle.table.specs.Terms.{terms, term_at, sort_at, array}
 use Rattle.table.specs.Faults.{is_variable, refuse_unless}
 use Rattle.table.specs.Admission.{scan}
@@ -28,6 +27,7 @@ use Rattle.setting.specs.Interpretation.{interpret, Fit, CheckedFits}
 use Rattle.setting.specs.declared.cells.Cell.{Cell}
 use Rattle.setting.proofs.Looks.{look-all}
 use Rattle.setting.proofs.Latest.{slot_sort_is}
+use Rattle.table.specs.Answers.{accepted}
 
 -- what no refusal leaves
 
@@ -86,8 +86,8 @@ module _ (limit : ℕ) (w values cells : List ℕ) (f : WellFormed limit w)
 pub checked-fits : CheckedFits
 unfolding check
 checked-fits limit w values cells f h =
-    let rest = scan (λ k. cell_fault w (cell_at cells k)) (cell_count cells) 0 Accepted in
+    let rest = scan (λ k. cell_fault w (cell_at cells k)) (cell_count cells) 0 accepted in
     let whole = cond_admitted (not (eqb (length cells % 3) 0)) 11 (check_cells w values (cell_at cells) (cell_count cells)) h in
     let variables = scan-sound (λ k. variable_fault values (term_at w k)) (terms w) rest whole.1 in
-    let listed = scan-sound (λ k. cell_fault w (cell_at cells k)) (cell_count cells) Accepted variables.0 in
+    let listed = scan-sound (λ k. cell_fault w (cell_at cells k)) (cell_count cells) accepted variables.0 in
     λ k b v. fit limit w values cells f variables.1 listed.1 k b v

@@ -10,8 +10,7 @@ use lib.Dec.{eqb, ltb}
 use lib.ListN.{length, get_or}
 use Rattle.ops.specs.Fits.{fits}
 use Rattle.table.specs.declared.words.Term.{Term}
-use Rattle.table.specs.declared.Acceptance.{Acceptance}
-use Rattle.table.specs.declared.Acceptance.TheVariants.{Accepted}
+use Rattle.table.specs.Answers.{Acceptance, accepted}
 use Rattle.table.specs.Terms.{terms, term_at, array}
 use Rattle.table.specs.Faults.{is_variable}
 use Rattle.table.specs.Admission.{refused}
@@ -35,7 +34,7 @@ cell_by w c =
     refuse_by 14 refl (array s) (refuse_by 15 refl (fits s.m c.index && fits s.n c.value) none)
 
 -- What holds of Accepted and of every refusal by 12 to 15 holds of the check of cells in any form
-module _ (Q : Acceptance → Type 0) (admitted : Q Accepted) where
+module _ (Q : Acceptance → Type 0) (admitted : Q accepted) where
   pub cells_by : ((number place : ℕ) → between 12 15 number ≡ true → Q (refused number place)) → (w values : List ℕ) (cells : ℕ → Cell) (count : ℕ) → Q (check_cells w values cells count)
   cells_by by w values cells count =
       scan_by (between 12 15) Q by (λ k. variable_fault values (term_at w k)) (λ k. variable_by values (term_at w k)) (terms w) 0

@@ -1,6 +1,6 @@
 -- Cells as a row of numbers, three a cell: slot, index, value. Of two cells with one slot and index the earlier counts.
 -- Assumes nothing.
-use Rattle.std.specs.Prelude.{Bool, cond, ◌&&◌, List, ℕ, zero, suc, ◌+◌, ◌*◌, ◌/◌, eqb, length, get_or}
+use Rattle.std.specs.Prelude.{Bool, cond, not, ◌%◌, ◌&&◌, List, ℕ, zero, suc, ◌+◌, ◌*◌, ◌/◌, eqb, length, get_or}
 use Rattle.setting.specs.declared.cells.Cell.{Cell}
 
 -- cell k of a row of numbers, and their count
@@ -9,6 +9,10 @@ cell_at cells k = record { slot = get_or cells (k * 3) 0; index = get_or cells (
 
 abbrev pub cell_count : List ℕ → ℕ
 cell_count cells = length cells / 3
+
+-- its length is no multiple of three
+abbrev pub is_cut : List ℕ → Bool
+is_cut cells = not (eqb (length cells % 3) 0)
 
 abbrev pub matches : Cell → ℕ → ℕ → Bool
 matches c slot index = eqb c.slot slot && eqb c.index index

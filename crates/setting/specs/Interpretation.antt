@@ -5,12 +5,13 @@ use Rattle.std.specs.Prelude.{◌≡◌, Bool, true, false, List, ℕ, ◌^◌, 
 use Rattle.ops.specs.Fits.{fits}
 use Rattle.table.specs.declared.words.Sort.{Sort}
 use Rattle.table.specs.declared.words.Term.{Term}
-use Rattle.table.specs.declared.Acceptance.TheVariants.{Accepted}
 use Rattle.table.specs.Terms.{terms, term_at, sort_at, scalar, array}
 use Rattle.table.specs.Faults.{is_variable}
 use Rattle.table.specs.WellFormed.{WellFormed}
-use Rattle.setting.specs.Cells.{look}
+use Rattle.setting.specs.declared.cells.Cell.{Cell}
+use Rattle.setting.specs.Cells.{look_from, look}
 use Rattle.setting.specs.Check.{check}
+use Rattle.table.specs.Answers.{accepted}
 
 -- the number of a Boolean or a vector; what each cell of an array holds
 pub record Value : Type 0 where
@@ -23,6 +24,10 @@ Interpretation = ℕ → Value
 -- of a value row and what cells answer: the slot's own value holds where no cell is listed
 abbrev pub interpret : List ℕ → (ℕ → ℕ → ℕ → ℕ) → Interpretation
 interpret values look slot = record { num = get_or values slot 0; cell = λ j. look slot j (get_or values slot 0) }
+
+-- of a value row and so many cells, in whichever form they are lent
+abbrev pub in_cells : List ℕ → (ℕ → Cell) → ℕ → Interpretation
+in_cells values cells count = interpret values (look_from cells count 0)
 
 -- a value fits its sort: 0 or 1 for a Boolean, below 2^n for a vector; for an array, what it holds at each index below 2^m is below 2^n
 pub record Fit (s : Sort) (v : Value) : Type 0 where
@@ -46,4 +51,4 @@ AgreeUnmarked w marked I I' = (k : ℕ) → k < terms w → is_variable (term_at
 
 -- A setting that is not refused fits.
 abbrev pub CheckedFits : Type 0
-CheckedFits = (limit : ℕ) (w values cells : List ℕ) → WellFormed limit w → check w values cells ≡ Accepted → FitInputs w (interpret values (look cells))
+CheckedFits = (limit : ℕ) (w values cells : List ℕ) → WellFormed limit w → check w values cells ≡ accepted → FitInputs w (interpret values (look cells))

@@ -8,27 +8,22 @@ mod variables; // the values: 12 and 13
 
 ghost use Rattle.std.specs.Prelude.{◌≡◌};
 ghost use Rattle.table.specs.WellFormed.{WellFormed};
-ghost use Rattle.setting.specs.Check.{check};
+ghost use Rattle.setting.specs.Check.{check_by};
 
-pub use arrays::{ENTRIES, fill_entries};
-pub use cells::{Cell, checked_cell, look};
-use table::{Acceptance, refused};
-pub use variables::variables_checked;
+pub use arrays::ENTRIES;
+pub use cells::{Cell, Cells, Flat, cells_checked, look};
+use table::{Refusal, refused};
+use variables::variables_checked;
 
 // Whether a setting is one to evaluate in, else its first refusal: 11, then the variables, then the cells.
-pub fn check(table: &[u32], values: &[u32], cells: &[u32]) -> Acceptance
+pub fn check<C: Cells>(table: &[u32], values: &[u32], cells: &C) -> Result<(), Refusal>
     requires { WellFormed 80000 table.now }
-    ensures { result ≡ check table.now values.now cells.now }
+    ensures { result
+        ≡ check_by (C.cut cells.now) table.now values.now (C.at cells.now) (C.count cells.now) }
 {
-    if cells.len() % 3 != 0 {
+    if cells.is_cut() {
         return refused(11, 0);
     }
-    let variables = variables_checked(table, values, Acceptance::Accepted);
-    if !table::accepts(variables) {
-        return variables;
-    }
-    if cells.len() == 0 {
-        return Acceptance::Accepted;
-    }
-    cells::cells_checked(table, cells)
+    variables_checked(table, values)?;
+    cells_checked(table, cells)
 }

@@ -7,17 +7,17 @@ use Prim.Native.Nat.{ℕ, zero, suc, ◌%◌}
 use Prim.{tt}
 use lib.Dec.{eqb}
 use lib.ListN.{length}
-use Rattle.table.specs.declared.Acceptance.TheVariants.{Accepted}
 use Rattle.table.specs.Faults.{refuse_unless}
 use Rattle.table.specs.Admission.{refused, refused_by, scan}
 use Rattle.sheets.specs.Marks.{line_at, line_count}
 use Rattle.sheets.specs.Check.{sound, line_fault, uncut, sheet_check}
 use Rattle.sheets.specs.Laws.{RefusedBy16, SheetNumbers}
+use Rattle.table.specs.Answers.{accepted}
 
 uncut_by : (sheet : List ℕ) → RefusedBy16 (uncut sheet)
 uncut_by sheet = go (eqb (length sheet % 3) 0)
   where
-    go : (b : Bool) → RefusedBy16 (cond b Accepted (refused 16 (line_count sheet)))
+    go : (b : Bool) → RefusedBy16 (cond b accepted (refused 16 (line_count sheet)))
     go true = tt
     go false = refl
 

@@ -1,8 +1,7 @@
 -- What refuses a mark sheet: paper 02, request 06, "Errors".
 -- Assumes nothing.
 use Rattle.std.specs.Prelude.{Bool, cond, ◌&&◌, List, ℕ, ◌%◌, eqb, leb, length}
-use Rattle.table.specs.declared.Acceptance.{Acceptance}
-use Rattle.table.specs.declared.Acceptance.TheVariants.{Accepted}
+use Rattle.table.specs.Answers.{Acceptance, accepted}
 use Rattle.table.specs.Faults.{refuse_unless}
 use Rattle.table.specs.Admission.{refused, scan}
 use Rattle.sheets.specs.declared.lines.Line.{Line}
@@ -18,7 +17,7 @@ line_fault line = refuse_unless 16 (sound line) 0
 
 -- 16 a last line cut short, which comes after the whole ones
 abbrev pub uncut : List ℕ → Acceptance
-uncut sheet = cond (eqb (length sheet % 3) 0) Accepted (refused 16 (line_count sheet))
+uncut sheet = cond (eqb (length sheet % 3) 0) accepted (refused 16 (line_count sheet))
 
 -- 16, place the lowest such line
 unfoldable pub sheet_check : List ℕ → Acceptance

@@ -3,7 +3,7 @@ ghost use Rattle.std.specs.Prelude.{◌≡◌};
 ghost use Rattle.sheets.specs.Check.{line_fault, sheet_check};
 
 use crate::lines::{Line, MARK, count, line_in};
-use table::{Acceptance, refuse_unless};
+use table::{Refusal, refuse_unless};
 
 // 16 where a line is at fault, else 0.
 fn line_fault(line: Line) -> u32
@@ -15,7 +15,7 @@ fn line_fault(line: Line) -> u32
 }
 
 // The lowest line at fault; a last line that is cut comes after the whole ones.
-pub fn check(sheet: &[u32]) -> Acceptance
+pub fn check(sheet: &[u32]) -> Result<(), Refusal>
     ensures { result ≡ sheet_check sheet.now }
 {
     let lines = count(sheet);
@@ -28,5 +28,5 @@ pub fn check(sheet: &[u32]) -> Acceptance
     if sheet.len() % 3 != 0 {
         return table::refused(16, lines as u64);
     }
-    Acceptance::Accepted
+    Ok(())
 }

@@ -10,8 +10,7 @@ use lib.Dec.{eqb, ltb, leb}
 use lib.ListN.{length}
 use borrow.Author.Tests.{leb-true, le-leb, ltb-false, le-ltb, ne_eqb, eq-eqb, not-false, not-true, eqb-true, eqb-false}
 use Rattle.ops.proofs.Booleans.{or_neither}
-use Rattle.table.specs.declared.Acceptance.{Acceptance}
-use Rattle.table.specs.declared.Acceptance.TheVariants.{Accepted}
+use Rattle.table.specs.Answers.{Acceptance, accepted}
 use Rattle.table.specs.Terms.{words, terms, term_at, sort_at, boolean}
 use Rattle.table.specs.Faults.{fields, is_variable, known, sorted, placed_as, typed, valued_as, conflicts, clash, size, refuse_unless, fault_if, fault}
 use Rattle.table.specs.Admission.{refused, scan, ended, admission_within}
@@ -64,11 +63,11 @@ sound-fault t k s =
 
 -- The whole
 
-pub cond_admitted : (b : Bool) (number : ℕ) (rest : Acceptance) → cond b (refused number 0) rest ≡ Accepted → (b ≡ false) × (rest ≡ Accepted)
+pub cond_admitted : (b : Bool) (number : ℕ) (rest : Acceptance) → cond b (refused number 0) rest ≡ accepted → (b ≡ false) × (rest ≡ accepted)
 cond_admitted true number rest h = absurd (not_both number 0 h)
 cond_admitted false number rest h = (refl, h)
 
-ended_admitted : (b : Bool) (last : ℕ) → cond b Accepted (refused 10 last) ≡ Accepted → b ≡ true
+ended_admitted : (b : Bool) (last : ℕ) → cond b accepted (refused 10 last) ≡ accepted → b ≡ true
 ended_admitted true last h = refl
 ended_admitted false last h = absurd (not_both 10 last h)
 

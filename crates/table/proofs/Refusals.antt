@@ -10,8 +10,7 @@ use lib.Dec.{eqb, ltb, leb}
 use lib.ListN.{length}
 use borrow.Author.Tests.{leb-true, le-leb}
 use Rattle.ops.proofs.Booleans.{and_parts}
-use Rattle.table.specs.declared.Acceptance.{Acceptance}
-use Rattle.table.specs.declared.Acceptance.TheVariants.{Accepted}
+use Rattle.table.specs.Answers.{Acceptance, accepted}
 use Rattle.table.specs.Terms.{words, terms, term_at, sort_at, boolean}
 use Rattle.table.specs.Faults.{fields, known, sorted, placed_as, typed, valued_as, clash, size, refuse_unless, fault_if, fault}
 use Rattle.table.specs.Admission.{refused, refused_by, scan, admission_within}
@@ -64,7 +63,7 @@ either_of Q true q r = q
 either_of Q false q r = r
 
 -- and of an admission
-pub admission_by : (Q : Acceptance → Type 0) → Q Accepted → ((number place : ℕ) → between 1 10 number ≡ true → Q (refused number place))
+pub admission_by : (Q : Acceptance → Type 0) → Q accepted → ((number place : ℕ) → between 1 10 number ≡ true → Q (refused number place))
     → (limit : ℕ) (t : List ℕ) → Q (admission_within limit t)
 unfolding admission_within
 admission_by Q admitted by limit t =

@@ -1,22 +1,17 @@
 -- A scan by any faults, turn by turn; what it says where it refuses nothing.
 -- Assumes nothing.
+use Rattle.std.specs.Prelude.{Ok, Err}
 use mathlib.Core.Path.{◌≡◌, refl, sym, ap, ap₂, ◌∙◌}
-use mathlib.Core.Bool.{true, false}
 use Prim.Native.Nat.{ℕ, zero, suc, ◌+◌, ◌-◌, ◌≤◌, ◌<◌}
 use native.Mathlib.Decide.{ℕ_discrete}
 use native.Mathlib.Numerals.{add-one}
 use native.Mathlib.Omega.{arith}
-use Rattle.ops.proofs.Booleans.{never}
-use Rattle.table.specs.declared.Acceptance.{Acceptance}
-use Rattle.table.specs.declared.Acceptance.TheVariants.{Accepted, Refused}
-use Rattle.table.specs.Admission.{accepts, and_then, refused, refused_by, scan}
+use Rattle.table.specs.declared.Refusal.{Refusal}
+use Rattle.table.specs.Answers.{Acceptance, accepted}
+use Rattle.table.specs.Admission.{and_then, refused, refused_by, scan}
 
-pub not_both : (number place : ℕ) → refused number place ≡ Accepted → ⊥
+pub not_both : (number place : ℕ) → refused number place ≡ accepted → ⊥
 not_both number place e = let z : ◌≡◌ {A = ℕ} 0 1 = cc in omega arith
-
-pub refused_by_some : (f at : ℕ) (rest : Acceptance) → (f ≡ 0 → ⊥) → refused f at ≡ refused_by f at rest
-refused_by_some zero at rest h = absurd (h refl)
-refused_by_some (suc f) at rest h = refl
 
 module _ (faults : ℕ → ℕ) where
   -- One turn of the scan of n
@@ -59,54 +54,46 @@ module _ (faults : ℕ → ℕ) where
         stop z = sym (h.same ∙ scan_stop n i rest inside f (sym here) z)
 
   -- The rest counts only where the scan by itself refuses nothing
-  scan_rest : (n at : ℕ) (rest : Acceptance) → scan faults n at rest ≡ and_then Refused (scan faults n at Accepted) rest
+  scan_rest : (n at : ℕ) (rest : Acceptance) → scan faults n at rest ≡ and_then Err (scan faults n at accepted) rest
   unfolding scan
   scan_rest zero at rest = refl
   scan_rest (suc n) at rest = go (faults at) (scan_rest n (suc at) rest)
     where
-      go : (f : ℕ) → scan faults n (suc at) rest ≡ and_then Refused (scan faults n (suc at) Accepted) rest
-          → refused_by f at (scan faults n (suc at) rest) ≡ and_then Refused (refused_by f at (scan faults n (suc at) Accepted)) rest
+      go : (f : ℕ) → scan faults n (suc at) rest ≡ and_then Err (scan faults n (suc at) accepted) rest
+          → refused_by f at (scan faults n (suc at) rest) ≡ and_then Err (refused_by f at (scan faults n (suc at) accepted)) rest
       go zero e = e
       go (suc f) e = refl
 
-  module _ (n : ℕ) (rest answer : Acceptance) (is : answer ≡ scan faults n 0 Accepted) where
-    whole : and_then Refused answer rest ≡ scan faults n 0 rest
-    whole = ap (λ (a : Acceptance). and_then Refused a rest) is ∙ sym (scan_rest n 0 rest)
+  module _ (n : ℕ) (rest answer : Acceptance) (is : answer ≡ scan faults n 0 accepted) where
+    whole : and_then Err answer rest ≡ scan faults n 0 rest
+    whole = ap (λ (a : Acceptance). and_then Err a rest) is ∙ sym (scan_rest n 0 rest)
 
-    pub scan-refuses : accepts answer ≡ false → answer ≡ scan faults n 0 rest
-    scan-refuses e = stands answer e ∙ whole
-      where
-        stands : (a : Acceptance) → accepts a ≡ false → a ≡ and_then Refused a rest
-        stands Accepted h = never (sym h)
-        stands (Refused r) h = refl
+    pub scan-refuses : {r : Refusal} → answer ≡ Err r → Err r ≡ scan faults n 0 rest
+    scan-refuses e = ap (λ (a : Acceptance). and_then Err a rest) (sym e) ∙ whole
 
-    pub scan-passes : accepts answer ≡ true → rest ≡ scan faults n 0 rest
-    scan-passes e = goes_on answer e ∙ whole
-      where
-        goes_on : (a : Acceptance) → accepts a ≡ true → rest ≡ and_then Refused a rest
-        goes_on Accepted h = refl
-        goes_on (Refused r) h = never h
+    pub scan-passes : {u : Unit {0}} → answer ≡ Ok u → rest ≡ scan faults n 0 rest
+    scan-passes e = ap (λ (a : Acceptance). and_then Err a rest) (sym e) ∙ whole
 
   -- What is not refused
 
-  refused_by-none : (f at : ℕ) (rest : Acceptance) → refused_by f at rest ≡ Accepted → (f ≡ 0) × (rest ≡ Accepted)
+  refused_by-none : (f at : ℕ) (rest : Acceptance) → refused_by f at rest ≡ accepted → (f ≡ 0) × (rest ≡ accepted)
   refused_by-none zero at rest h = (refl, h)
   refused_by-none (suc f) at rest h = absurd (not_both (suc f) at h)
 
   -- every one that was passed has no fault, and the end was reached
-  scan-sound_from : (left at : ℕ) (rest : Acceptance) → scan faults left at rest ≡ Accepted → (rest ≡ Accepted) × ((k : ℕ) → at ≤ k → k < at + left → faults k ≡ 0)
+  scan-sound_from : (left at : ℕ) (rest : Acceptance) → scan faults left at rest ≡ accepted → (rest ≡ accepted) × ((k : ℕ) → at ≤ k → k < at + left → faults k ≡ 0)
   unfolding scan
   scan-sound_from zero at rest h = (h, λ k b c. absurd (omega arith))
   scan-sound_from (suc left) at rest h = go (scan-sound_from left (suc at) rest (refused_by-none (faults at) at (scan faults left (suc at) rest) h).1)
     where
-      go : (rest ≡ Accepted) × ((k : ℕ) → suc at ≤ k → k < suc at + left → faults k ≡ 0) → (rest ≡ Accepted) × ((k : ℕ) → at ≤ k → k < at + suc left → faults k ≡ 0)
+      go : (rest ≡ accepted) × ((k : ℕ) → suc at ≤ k → k < suc at + left → faults k ≡ 0) → (rest ≡ accepted) × ((k : ℕ) → at ≤ k → k < at + suc left → faults k ≡ 0)
       go later = (later.0, λ k b c. here k b c (ℕ_discrete at k))
         where
           here : (k : ℕ) → at ≤ k → k < at + suc left → Dec (at ≡ k) → faults k ≡ 0
           here k b c (yes e) = ap faults (sym e) ∙ (refused_by-none (faults at) at (scan faults left (suc at) rest) h).0
           here k b c (no e) = later.1 k (omega arith) (omega arith)
 
-  pub scan-sound : (n : ℕ) (rest : Acceptance) → scan faults n 0 rest ≡ Accepted → (rest ≡ Accepted) × ((k : ℕ) → k < n → faults k ≡ 0)
+  pub scan-sound : (n : ℕ) (rest : Acceptance) → scan faults n 0 rest ≡ accepted → (rest ≡ accepted) × ((k : ℕ) → k < n → faults k ≡ 0)
   scan-sound n rest h =
       let all = scan-sound_from n 0 rest h in
       (all.0, λ k b. all.1 k (omega arith) (omega arith))

@@ -18,7 +18,7 @@ use Rattle.table.specs.Ranks.{rank_of, fields_of, slotted}
 use Rattle.table.specs.Faults.{fields, known, sorted, placed_as, typed, is_variable, valued_as, conflicts, clash, size, refuse_unless, fault_if, fault}
 use Rattle.table.specs.Code.Clashes.{slot_clash, first_clash}
 use Rattle.table.specs.Folds.{any_below}
-use Rattle.table.specs.declared.Acceptance.{Acceptance}
+use Rattle.table.specs.Answers.{Acceptance}
 use Rattle.table.proofs.Searches.{First, first_is}
 use Rattle.table.proofs.Scans.{Scanned, begun, on}
 

@@ -1,23 +1,22 @@
 -- What refuses a table, and in what order: paper 01, "Refused because of the input", 1 to 10.
 -- Assumes nothing.
-use Rattle.std.specs.Prelude.{Bool, true, false, cond, not, ◌||◌, List, ℕ, zero, suc, pred, ◌%◌, eqb, ltb, length}
+use Rattle.std.specs.Prelude.{Ok, Err, Bool, true, false, cond, not, ◌||◌, List, ℕ, zero, suc, pred, ◌%◌, eqb, ltb, length}
 use Rattle.table.specs.declared.Refusal.{Refusal}
-use Rattle.table.specs.declared.Acceptance.{Acceptance}
-use Rattle.table.specs.declared.Acceptance.TheVariants.{Accepted, Refused}
+use Rattle.table.specs.Answers.{Acceptance, accepted}
 use Rattle.table.specs.Terms.{words, terms, sort_at, boolean}
 use Rattle.table.specs.Faults.{fault}
 
 abbrev pub refused : ℕ → ℕ → Acceptance
-refused number place = Refused (record { number = number; place = place })
+refused number place = Err (record { number = number; place = place })
 
 abbrev pub accepts : Acceptance → Bool
-accepts Accepted = true
-accepts (Refused r) = false
+accepts (Ok _) = true
+accepts (Err r) = false
 
 -- a refusal stands, as an answer of another kind; else the rest
 abbrev pub and_then : {A : Type 0} → (Refusal → A) → Acceptance → A → A
-and_then refusing Accepted rest = rest
-and_then refusing (Refused r) rest = refusing r
+and_then refusing (Ok _) rest = rest
+and_then refusing (Err r) rest = refusing r
 
 -- refused by a number from 3 to 9, by none where it is 0
 abbrev pub refused_by : ℕ → ℕ → Acceptance → Acceptance
@@ -31,7 +30,7 @@ scan faults (suc left) at rest = refused_by (faults at) at (scan faults left (su
 
 -- 10 last term not Boolean (its number)
 abbrev pub ended : List ℕ → ℕ → Acceptance
-ended t last = cond (boolean (sort_at t last)) Accepted (refused 10 last)
+ended t last = cond (boolean (sort_at t last)) accepted (refused 10 last)
 
 -- 1 table length 0 or not a multiple of six (place 0). 2 more than limit terms (place 0). Then the terms. Then 10
 unfoldable pub admission_within : ℕ → List ℕ → Acceptance

@@ -2,6 +2,7 @@ pub mod Folds
 pub mod Terms
 pub mod Ranks
 pub mod Faults
+pub mod Answers
 pub mod Admission
 pub mod WellFormed
 pub mod Bench

@@ -1,10 +1,10 @@
 -- What an admitted table satisfies: the record that the other routines rest on.
 -- Assumes nothing.
 use Rattle.std.specs.Prelude.{◌≡◌, true, false, List, ℕ, zero, suc, pred, ◌+◌, ◌*◌, ◌≤◌, ◌<◌, length}
-use Rattle.table.specs.declared.Acceptance.TheVariants.{Accepted}
 use Rattle.table.specs.Terms.{words, terms, term_at, sort_at, boolean, array}
 use Rattle.table.specs.Faults.{fields, is_variable, is_store, is_choice, known, sorted, placed_as, typed, valued_as, clash, size}
 use Rattle.table.specs.Admission.{admission_within}
+use Rattle.table.specs.Answers.{accepted}
 
 -- Of term k: an op up to 20; one of the three sorts; operands below and unused fields 0; sorts as the op's line asks;
 -- a constant that fits, a slot up to 255 and a mark up to 1; no clash; a size of at most 16.
@@ -33,10 +33,10 @@ OneUse t =
 
 -- The theorems: just the well-formed tables are admitted, and they use each slot with one sort and mark.
 abbrev pub AdmissionSound : Type 0
-AdmissionSound = (limit : ℕ) (t : List ℕ) → admission_within limit t ≡ Accepted → WellFormed limit t
+AdmissionSound = (limit : ℕ) (t : List ℕ) → admission_within limit t ≡ accepted → WellFormed limit t
 
 abbrev pub AdmissionComplete : Type 0
-AdmissionComplete = (limit : ℕ) (t : List ℕ) → WellFormed limit t → admission_within limit t ≡ Accepted
+AdmissionComplete = (limit : ℕ) (t : List ℕ) → WellFormed limit t → admission_within limit t ≡ accepted
 
 abbrev pub SlotsHaveOneUse : Type 0
 SlotsHaveOneUse = (limit : ℕ) (t : List ℕ) → WellFormed limit t → OneUse t

@@ -9,7 +9,7 @@ mod words; // a table's numbers as terms
 
 ghost use Rattle.std.specs.Prelude.{◌≡◌, ◌<◌};
 ghost use Rattle.table.specs.Terms.{terms};
-ghost use Rattle.table.specs.Admission.{accepts, refused, refused_by};
+ghost use Rattle.table.specs.Admission.{refused};
 
 pub use operands::{rank_fault, refuse_unless};
 pub use ranks::{
@@ -24,41 +24,11 @@ pub struct Refusal {
     pub place: u64,
 }
 
-#[derive(Clone, Copy)]
-pub enum Acceptance {
-    Accepted,
-    Refused(Refusal),
-}
-
 // A refusal by its number and place.
-pub fn refused(number: u32, place: u64) -> Acceptance
+pub fn refused(number: u32, place: u64) -> Result<(), Refusal>
     ensures { result ≡ refused number place }
 {
-    Acceptance::Refused(Refusal {
-        number: number,
-        place: place,
-    })
-}
-
-// Refused by a number, at a place; by none where it is 0: then the rest.
-pub fn refused_by(number: u32, place: u64, rest: Acceptance) -> Acceptance
-    ensures { result ≡ refused_by number place rest }
-{
-    if number == 0 {
-        rest
-    } else {
-        refused(number, place)
-    }
-}
-
-// Whether it is no refusal.
-pub fn accepts(a: Acceptance) -> bool
-    ensures { result ≡ accepts a }
-{
-    match a {
-        Acceptance::Accepted => true,
-        Acceptance::Refused(_) => false,
-    }
+    Err(Refusal { number, place })
 }
 
 // The count of terms of a table that has so few.

@@ -1,15 +1,11 @@
-// Refusals 5 to 7 by rank: operands below the term and unused fields 0; the sorts; a constant, a slot and a mark that
-// fit.
-ghost use Rattle.std.specs.Prelude.{◌≡◌};
-ghost use Rattle.table.specs.declared.ranks.Rank.TheVariants.{BoolUnary, BoolBinary, Equality, Choice};
-ghost use Rattle.table.specs.declared.ranks.Rank.TheVariants.{BvUnary, BvBinary, BvCompare, Read, Write};
-ghost use Rattle.table.specs.declared.ranks.Fields.TheVariants.{Value, Slot, One, Two, Three};
-ghost use Rattle.table.specs.Terms.{HasTerm, scalar};
-ghost use Rattle.table.specs.Faults.{placed_as, valued_as, refuse_unless, rank_fault};
+// Refusals 5 to 7: operands below the term and unused fields 0; the sorts; a constant, a slot and a mark that fit.
+ghost use Rattle.std.specs.Prelude.{◌≡◌, ◌&&◌};
+ghost use Rattle.table.specs.Terms.{HasTerm, sort_at, array, vector_of};
+ghost use Rattle.table.specs.Faults.{placed_as, typed_as, valued_as, refuse_unless, rank_fault};
 
-use crate::ranks::Rank;
-use crate::sorts::{array, boolean, same_sort, scalar, vector, vector_of};
-use crate::words::{Term, sort_in};
+use crate::ranks::{Fields, Rank};
+use crate::sorts::{array, boolean, scalar, vector, vector_of};
+use crate::words::{Sort, Term, sort_at};
 
 // number unless `ok`, else rest.
 pub fn refuse_unless(number: u32, ok: bool, rest: u32) -> u32
@@ -18,179 +14,80 @@ pub fn refuse_unless(number: u32, ok: bool, rest: u32) -> u32
     if ok { rest } else { number }
 }
 
-// One operand below term `i`, no other field.
-fn one(i: u32, x: Term) -> bool
-    ensures { result ≡ placed_as One i x }
+// 5: operands below term `i`, and no other field.
+fn placed(fields: Fields, i: u32, x: Term) -> bool
+    ensures { result ≡ placed_as fields i x }
 {
-    (x.p < i) & (x.q == 0) & (x.r == 0)
-}
-
-fn two(i: u32, x: Term) -> bool
-    ensures { result ≡ placed_as Two i x }
-{
-    (x.p < i) & (x.q < i) & (x.r == 0)
-}
-
-fn three(i: u32, x: Term) -> bool
-    ensures { result ≡ placed_as Three i x }
-{
-    (x.p < i) & (x.q < i) & (x.r < i)
-}
-
-fn literal_fault(x: Term) -> u32
-    ensures { result ≡ refuse_unless 5 (placed_as Value 0 x)
-        (refuse_unless 6 (scalar x.sort) (refuse_unless 7 (valued_as Value x) 0)) }
-{
-    let typed = scalar(x.sort);
-    let late = refuse_unless(7, ops::fits(x.sort.n, x.p), 0);
-    refuse_unless(5, (x.q == 0) & (x.r == 0), refuse_unless(6, typed, late))
-}
-
-fn input_fault(x: Term) -> u32
-    ensures { result ≡ refuse_unless 5 (placed_as Slot 0 x) (refuse_unless 7 (valued_as Slot x) 0) }
-{
-    refuse_unless(5, x.r == 0, refuse_unless(7, (x.p <= 255) & (x.q <= 1), 0))
-}
-
-// Of the other ranks: the operands' sorts are read once the operands are known to be below the term.
-fn bool_unary_fault(table: &[u32], i: u32, x: Term) -> u32
-    requires { HasTerm table.now i }
-    ensures { result ≡ rank_fault table.now BoolUnary i x }
-{
-    if !one(i, x) {
-        return 5;
+    match fields {
+        Fields::Value => (x.q == 0) & (x.r == 0),
+        Fields::Slot => x.r == 0,
+        Fields::One => (x.p < i) & (x.q == 0) & (x.r == 0),
+        Fields::Two => (x.p < i) & (x.q < i) & (x.r == 0),
+        Fields::Three => (x.p < i) & (x.q < i) & (x.r < i),
     }
-    let s = x.sort;
-    let a = sort_in(table, x.p);
-    refuse_unless(6, boolean(s) & boolean(a), 0)
 }
 
-fn bool_binary_fault(table: &[u32], i: u32, x: Term) -> u32
-    requires { HasTerm table.now i }
-    ensures { result ≡ rank_fault table.now BoolBinary i x }
+// 6: the sorts that a rank asks of a term and its operands.
+fn typed(table: &[u32], rank: Rank, x: Term) -> bool
+    ensures { result ≡ typed_as rank x.sort (sort_at table.now x.p) (sort_at table.now x.q) (sort_at table.now x.r) }
 {
-    if !two(i, x) {
-        return 5;
-    }
     let s = x.sort;
-    let a = sort_in(table, x.p);
-    let b = sort_in(table, x.q);
-    refuse_unless(6, boolean(s) & boolean(a) & boolean(b), 0)
+    let (p, q, r) = (x.p, x.q, x.r);
+    match rank {
+        Rank::Literal => scalar(s),
+        Rank::Input | Rank::Other => true,
+        Rank::BoolUnary => boolean(s) & boolean(sort_at(table, p)),
+        Rank::BoolBinary => boolean(s) & boolean(sort_at(table, p)) & boolean(sort_at(table, q)),
+        Rank::Equality => boolean(s)
+            & scalar(sort_at(table, p))
+            & (sort_at(table, p) == sort_at(table, q)),
+        Rank::Choice => boolean(sort_at(table, p))
+            & (sort_at(table, q) == s)
+            & (sort_at(table, r) == s),
+        Rank::BvUnary => vector(s) & (sort_at(table, p) == s),
+        Rank::BvBinary => vector(s) & (sort_at(table, p) == s) & (sort_at(table, q) == s),
+        Rank::BvCompare => boolean(s)
+            & vector(sort_at(table, p))
+            & (sort_at(table, p) == sort_at(table, q)),
+        Rank::Read => read_typed(sort_at(table, p), sort_at(table, q), s),
+        Rank::Write => array(s)
+            & (sort_at(table, p) == s)
+            & vector_of(s.m, sort_at(table, q))
+            & vector_of(s.n, sort_at(table, r)),
+    }
 }
 
-fn equality_fault(table: &[u32], i: u32, x: Term) -> u32
-    requires { HasTerm table.now i }
-    ensures { result ≡ rank_fault table.now Equality i x }
+// Of a read: array `a` at index `b` has elements of sort `s`.
+fn read_typed(a: Sort, b: Sort, s: Sort) -> bool
+    ensures { result ≡ (array a && vector_of a.m b && vector_of a.n s) }
 {
-    if !two(i, x) {
-        return 5;
-    }
-    let s = x.sort;
-    let a = sort_in(table, x.p);
-    let b = sort_in(table, x.q);
-    refuse_unless(6, boolean(s) & scalar(a) & same_sort(a, b), 0)
+    array(a) & vector_of(a.m, b) & vector_of(a.n, s)
 }
 
-fn choice_fault(table: &[u32], i: u32, x: Term) -> u32
-    requires { HasTerm table.now i }
-    ensures { result ≡ rank_fault table.now Choice i x }
+// 7: a constant, a slot and a mark that fit.
+fn valued(fields: Fields, x: Term) -> bool
+    ensures { result ≡ valued_as fields x }
 {
-    if !three(i, x) {
-        return 5;
+    match fields {
+        Fields::Value => ops::fits(x.sort.n, x.p),
+        Fields::Slot => (x.p <= 255) & (x.q <= 1),
+        Fields::One | Fields::Two | Fields::Three => true,
     }
-    let s = x.sort;
-    let a = sort_in(table, x.p);
-    let b = sort_in(table, x.q);
-    let c = sort_in(table, x.r);
-    refuse_unless(6, boolean(a) & same_sort(b, s) & same_sort(c, s), 0)
 }
 
-fn bv_unary_fault(table: &[u32], i: u32, x: Term) -> u32
-    requires { HasTerm table.now i }
-    ensures { result ≡ rank_fault table.now BvUnary i x }
-{
-    if !one(i, x) {
-        return 5;
-    }
-    let s = x.sort;
-    let a = sort_in(table, x.p);
-    refuse_unless(6, vector(s) & same_sort(a, s), 0)
-}
-
-fn bv_binary_fault(table: &[u32], i: u32, x: Term) -> u32
-    requires { HasTerm table.now i }
-    ensures { result ≡ rank_fault table.now BvBinary i x }
-{
-    if !two(i, x) {
-        return 5;
-    }
-    let s = x.sort;
-    let a = sort_in(table, x.p);
-    let b = sort_in(table, x.q);
-    refuse_unless(6, vector(s) & same_sort(a, s) & same_sort(b, s), 0)
-}
-
-fn bv_compare_fault(table: &[u32], i: u32, x: Term) -> u32
-    requires { HasTerm table.now i }
-    ensures { result ≡ rank_fault table.now BvCompare i x }
-{
-    if !two(i, x) {
-        return 5;
-    }
-    let s = x.sort;
-    let a = sort_in(table, x.p);
-    let b = sort_in(table, x.q);
-    refuse_unless(6, boolean(s) & vector(a) & same_sort(a, b), 0)
-}
-
-fn read_fault(table: &[u32], i: u32, x: Term) -> u32
-    requires { HasTerm table.now i }
-    ensures { result ≡ rank_fault table.now Read i x }
-{
-    if !two(i, x) {
-        return 5;
-    }
-    let s = x.sort;
-    let a = sort_in(table, x.p);
-    let b = sort_in(table, x.q);
-    refuse_unless(6, array(a) & vector_of(a.m, b) & vector_of(a.n, s), 0)
-}
-
-fn write_fault(table: &[u32], i: u32, x: Term) -> u32
-    requires { HasTerm table.now i }
-    ensures { result ≡ rank_fault table.now Write i x }
-{
-    if !three(i, x) {
-        return 5;
-    }
-    let s = x.sort;
-    let a = sort_in(table, x.p);
-    let b = sort_in(table, x.q);
-    let c = sort_in(table, x.r);
-    refuse_unless(
-        6,
-        array(s) & same_sort(a, s) & vector_of(s.m, b) & vector_of(s.n, c),
-        0,
-    )
-}
-
-// The lowest of 5 to 7 that refuses term `i`, `x`, of this rank, and 0 where none does.
+// The lowest of 5 to 7 that refuses term `i`, `x`, of this rank, and 0 where none does. The sorts are looked at where the
+// operands are below the term.
 pub fn rank_fault(table: &[u32], rank: Rank, i: u32, x: Term) -> u32
     requires { HasTerm table.now i }
     ensures { result ≡ rank_fault table.now rank i x }
 {
-    match rank {
-        Rank::Literal => literal_fault(x),
-        Rank::Input => input_fault(x),
-        Rank::BoolUnary => bool_unary_fault(table, i, x),
-        Rank::BoolBinary => bool_binary_fault(table, i, x),
-        Rank::Equality => equality_fault(table, i, x),
-        Rank::Choice => choice_fault(table, i, x),
-        Rank::BvUnary => bv_unary_fault(table, i, x),
-        Rank::BvBinary => bv_binary_fault(table, i, x),
-        Rank::BvCompare => bv_compare_fault(table, i, x),
-        Rank::Read => read_fault(table, i, x),
-        Rank::Write => write_fault(table, i, x),
-        Rank::Other => refuse_unless(5, three(i, x), 0),
+    let fields = rank.fields();
+    if !placed(fields, i, x) {
+        return 5;
     }
+    refuse_unless(
+        6,
+        typed(table, rank, x),
+        refuse_unless(7, valued(fields, x), 0),
+    )
 }

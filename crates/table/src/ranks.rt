@@ -64,24 +64,27 @@ pub fn rank_of(op: u32) -> Rank
     }
 }
 
+impl Rank {
+    pub fn fields(self) -> Fields
+        ensures { result ≡ fields_of self }
+    {
+        match self {
+            Rank::Literal => Fields::Value,
+            Rank::Input => Fields::Slot,
+            Rank::BoolUnary | Rank::BvUnary => Fields::One,
+            Rank::BoolBinary | Rank::Equality | Rank::BvBinary | Rank::BvCompare | Rank::Read => {
+                Fields::Two
+            }
+            Rank::Choice | Rank::Write | Rank::Other => Fields::Three,
+        }
+    }
+}
+
 // What an operator's fields hold.
 pub fn fields_of(op: u32) -> Fields
     ensures { result ≡ fields_of (rank_of (op_of op)) }
 {
-    match rank_of(op) {
-        Rank::Literal => Fields::Value,
-        Rank::Input => Fields::Slot,
-        Rank::BoolUnary => Fields::One,
-        Rank::BoolBinary => Fields::Two,
-        Rank::Equality => Fields::Two,
-        Rank::Choice => Fields::Three,
-        Rank::BvUnary => Fields::One,
-        Rank::BvBinary => Fields::Two,
-        Rank::BvCompare => Fields::Two,
-        Rank::Read => Fields::Two,
-        Rank::Write => Fields::Three,
-        Rank::Other => Fields::Three,
-    }
+    rank_of(op).fields()
 }
 
 // The numbers of the operators that are known by themselves.

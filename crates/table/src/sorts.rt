@@ -39,7 +39,7 @@ pub fn vector_of(w: u32, s: Sort) -> bool
 pub fn same_sort(a: Sort, b: Sort) -> bool
     ensures { result ≡ same_sort a b }
 {
-    (a.m == b.m) & (a.n == b.n)
+    a == b
 }
 
 // One of the three sorts: widths up to 32, and an array's not 0.

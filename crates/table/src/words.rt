@@ -4,7 +4,7 @@ ghost use Rattle.table.specs.Terms.{HasTerm, HasSort, word_at, sort_at, term_at}
 ghost use Rattle.table.specs.Code.Writing.{placed};
 
 // Boolean (0, 0); vector (0, n); array (m, n).
-#[derive(Clone, Copy)]
+#[derive(Clone, Copy, PartialEq, Eq)]
 pub struct Sort {
     pub m: u32,
     pub n: u32,
@@ -26,16 +26,17 @@ pub const WORDS: usize = 6;
 pub fn number_at(row: &[u32], k: u32) -> u32
     ensures { result ≡ get_or row.now k 0 }
 {
-    let at = k as usize;
-    if at < row.len() { row[at] } else { 0 }
+    row.get(k as usize).copied().unwrap_or(0)
 }
 
 // Number `j` of term `k`, 0 past the table's end.
 fn word(table: &[u32], k: u32, j: u32) -> u32
     ensures { result ≡ word_at table.now k j }
 {
-    let at = (k as usize) * WORDS + (j as usize);
-    if at < table.len() { table[at] } else { 0 }
+    table
+        .get((k as usize) * WORDS + (j as usize))
+        .copied()
+        .unwrap_or(0)
 }
 
 // The sort of term `k`, which the table has.
@@ -117,7 +118,5 @@ pub fn copy(table: &[u32], room: &mut [u32])
     requires { length table.now ≤ length room.old }
     ensures { room.new ≡ table.now ++ drop (length table.now) room.old }
 {
-    for i in 0..table.len() {
-        room[i] = table[i];
-    }
+    room[..table.len()].copy_from_slice(table);
 }

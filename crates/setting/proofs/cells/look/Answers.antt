@@ -1,20 +1,19 @@
 use mathlib.Core.Path.{sym, ◌∙◌}
-use Rattle.setting.specs.Cells.{cell_at}
 use Rattle.setting.proofs.Looks.{begun, on, stop, through}
 use Rattle.setting.proofs.cells.look.Goals as goal
 
 pub loop-k-init : goal.loop-k-init
-loop-k-init c = begun (cell_at c.args.cells.now) c.args.count c.args.slot c.args.index c.args.other
+loop-k-init g c = begun (g.C.Cells.at c.args.cells.now) c.args.among c.args.slot c.args.index c.args.other
 
 pub returns-then-matches : goal.returns-then-matches
-returns-then-matches c =
-    stop (cell_at c.args.cells.now) c.args.count c.args.slot c.args.index c.args.other c.loop-k.k c.loop-k.invariant c.loop-k-test.true
-    c.cell_at-c.result c.cell_at-c.ensures (sym c.matches.ensures ∙ c.if-matches.true)
+returns-then-matches g c =
+    stop (g.C.Cells.at c.args.cells.now) c.args.among c.args.slot c.args.index c.args.other c.loop-k.k c.loop-k.invariant c.loop-k-test.true
+    c.cell-c.result c.cell-c.ensures (sym c.matches.ensures ∙ c.if-matches.true)
 
 pub loop-k-preserved : goal.loop-k-preserved
-loop-k-preserved c =
-    on (cell_at c.args.cells.now) c.args.count c.args.slot c.args.index c.args.other c.loop-k.k c.loop-k.invariant c.loop-k-test.true
-    c.cell_at-c.result c.cell_at-c.ensures (sym c.matches.ensures ∙ c.if-matches.false)
+loop-k-preserved g c =
+    on (g.C.Cells.at c.args.cells.now) c.args.among c.args.slot c.args.index c.args.other c.loop-k.k c.loop-k.invariant c.loop-k-test.true
+    c.cell-c.result c.cell-c.ensures (sym c.matches.ensures ∙ c.if-matches.false)
 
 pub returns : goal.returns
-returns c = through (cell_at c.args.cells.now) c.args.count c.args.slot c.args.index c.args.other c.loop-k.k c.loop-k.invariant c.loop-k-test.false
+returns g c = through (g.C.Cells.at c.args.cells.now) c.args.among c.args.slot c.args.index c.args.other c.loop-k.k c.loop-k.invariant c.loop-k-test.false

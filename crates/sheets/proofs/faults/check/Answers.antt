@@ -3,12 +3,12 @@ use mathlib.Core.Path.{◌≡◌, sym, ap, ◌∙◌}
 use native.Mathlib.Omega.{arith}
 use lib.ListN.{length}
 use borrow.Author.Tests.{eq-eqb, ne_eqb}
-use Rattle.table.specs.declared.Acceptance.TheVariants.{Accepted}
 use Rattle.table.specs.Admission.{refused}
 use Rattle.table.proofs.Scans.{begun, on, stop, through}
 use Rattle.sheets.specs.Marks.{line_at, line_count}
 use Rattle.sheets.specs.Check.{line_fault, uncut, sheet_check}
 use Rattle.sheets.proofs.faults.check.Goals as goal
+use Rattle.table.specs.Answers.{accepted}
 
 pub loop-k-init : goal.loop-k-init
 loop-k-init c =
@@ -48,5 +48,5 @@ pub returns : goal.returns
 unfolding sheet_check
 returns c =
     let s = c.args.sheet.now in
-    let whole : Accepted ≡ uncut s = rw (eq-eqb (length s % 3) 0 c.if-sheet-ne0.false) in
+    let whole : accepted ≡ uncut s = rw (eq-eqb (length s % 3) 0 c.if-sheet-ne0.false) in
     whole ∙ through (λ i. line_fault (line_at s i)) (line_count s) (uncut s) c.loop-k.k c.loop-k.invariant (omega (arith, c.loop-k-test.false, c.count-lines.ensures))

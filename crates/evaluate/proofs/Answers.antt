@@ -1,5 +1,6 @@
 -- What an answer leaves: of an admission, of what was asked before, and of the room.
 -- Assumes nothing.
+use Rattle.std.specs.Prelude.{Ok, Err}
 use mathlib.Core.Path.{◌≡◌, refl, sym}
 use mathlib.Core.Bool.{Bool, true, false, cond}
 use mathlib.Core.List.{List, ◌++◌}
@@ -8,38 +9,36 @@ use lib.Dec.{ltb}
 use lib.ListN.{drop}
 use borrow.Author.Tests.{ltb-false}
 use Rattle.ops.proofs.Booleans.{never}
-use Rattle.table.specs.declared.Acceptance.{Acceptance}
-use Rattle.table.specs.declared.Acceptance.TheVariants.{Accepted, Refused}
+use Rattle.table.specs.Answers.{Acceptance, accepted}
 use Rattle.table.specs.Terms.{terms}
 use Rattle.table.specs.Admission.{and_then, admission_within, accepts}
 use Rattle.setting.specs.Cells.{look}
 use Rattle.setting.specs.Check.{check}
 use Rattle.setting.specs.Interpretation.{interpret}
-use Rattle.evaluate.specs.declared.Evaluation.{Evaluation}
-use Rattle.evaluate.specs.declared.Evaluation.TheVariants.{Evaluated, NotEvaluated}
+use Rattle.evaluate.specs.Evaluation.{Evaluation}
 use Rattle.evaluate.specs.Values.{numbers}
 use Rattle.evaluate.specs.Steps.{steps}
 use Rattle.evaluate.specs.Evaluation.{evaluates, not_evaluated, afford, ready_by, ready, room_after}
 
-pub is-admitted : (a : Acceptance) → accepts a ≡ true → a ≡ Accepted
-is-admitted Accepted h = refl
-is-admitted (Refused r) h = never h
+pub is-admitted : (a : Acceptance) → accepts a ≡ true → a ≡ accepted
+is-admitted (Ok _) h = refl
+is-admitted (Err r) h = never h
 
 -- what is refused stays so, whatever would come after
-pub stands : (a : Acceptance) (x y : Evaluation) → accepts a ≡ false → and_then NotEvaluated a x ≡ and_then NotEvaluated a y
-stands Accepted x y h = never (sym h)
-stands (Refused r) x y h = refl
+pub stands : (a : Acceptance) (x y : Evaluation) → accepts a ≡ false → and_then Err a x ≡ and_then Err a y
+stands (Ok _) x y h = never (sym h)
+stands (Err r) x y h = refl
 
 -- what is not lets the rest stand
-pub goes_on : (a : Acceptance) (e : Evaluation) → accepts a ≡ true → e ≡ and_then NotEvaluated a e
-goes_on Accepted e h = refl
-goes_on (Refused r) e h = never h
+pub goes_on : (a : Acceptance) (e : Evaluation) → accepts a ≡ true → e ≡ and_then Err a e
+goes_on (Ok _) e h = refl
+goes_on (Err r) e h = never h
 
 -- What was not refused
 
-both : (a : Acceptance) (e : Evaluation) → evaluates (and_then NotEvaluated a e) ≡ true → (a ≡ Accepted) × (evaluates e ≡ true)
-both Accepted e h = (refl, h)
-both (Refused r) e h = never h
+both : (a : Acceptance) (e : Evaluation) → evaluates (and_then Err a e) ≡ true → (a ≡ accepted) × (evaluates e ≡ true)
+both (Ok _) e h = (refl, h)
+both (Err r) e h = never h
 
 room-enough : (b : Bool) (number place : ℕ) (rest : Evaluation) → evaluates (cond b (not_evaluated number place) rest) ≡ true → (b ≡ false) × (evaluates rest ≡ true)
 room-enough true number place rest h = never h
@@ -49,21 +48,21 @@ afforded : (w : List ℕ) (each allowance room : ℕ) → evaluates (afford w ea
 unfolding afford
 afforded w each allowance room h =
     let spent : ℕ = steps w (terms w) in
-    let rest : Evaluation = cond (ltb allowance spent) (not_evaluated 23 spent) (Evaluated (record { steps = spent; left = allowance - spent })) in
+    let rest : Evaluation = cond (ltb allowance spent) (not_evaluated 23 spent) (Ok (record { steps = spent; left = allowance - spent })) in
     let first = room-enough (ltb room (terms w * each)) 22 (terms w * each) rest h in
-    let second = room-enough (ltb allowance spent) 23 spent (Evaluated (record { steps = spent; left = allowance - spent })) first.1 in
+    let second = room-enough (ltb allowance spent) 23 spent (Ok (record { steps = spent; left = allowance - spent })) first.1 in
     (ltb-false room (terms w * each) first.0, ltb-false allowance spent second.0)
 
 -- an answer that is no refusal: admission and the setting's check refuse nothing, the room is long enough and the allowance large enough
 pub record PassedBy (w : List ℕ) (a c : Acceptance) (each allowance room : ℕ) : Type 0 where
-  pub admitted : a ≡ Accepted
-  pub checked : c ≡ Accepted
+  pub admitted : a ≡ accepted
+  pub checked : c ≡ accepted
   pub long : terms w * each ≤ room
   pub large : steps w (terms w) ≤ allowance
 
 pub passed_by : (w : List ℕ) (admitted checked : Acceptance) (each allowance room : ℕ) → evaluates (ready_by w admitted checked each allowance room) ≡ true → PassedBy w admitted checked each allowance room
 passed_by w admitted checked each allowance room h =
-    let first = both admitted (and_then NotEvaluated checked (afford w each allowance room)) h in
+    let first = both admitted (and_then Err checked (afford w each allowance room)) h in
     let second = both checked (afford w each allowance room) first.1 in
     let last = afforded w each allowance room second.1 in
     record { admitted = first.0; checked = second.0; long = last.0; large = last.1 }
@@ -78,9 +77,9 @@ passed limit w values cells each allowance room h = passed_by w (admission_withi
 -- The room
 
 pub room_filled : (e : Evaluation) (w values cells room : List ℕ) → evaluates e ≡ true → numbers w (interpret values (look cells)) (terms w) ++ drop (terms w) room ≡ room_after e w values cells room
-room_filled (Evaluated s) w values cells room h = refl
-room_filled (NotEvaluated r) w values cells room h = never h
+room_filled (Ok s) w values cells room h = refl
+room_filled (Err r) w values cells room h = never h
 
 pub room_kept : (e : Evaluation) (w values cells room : List ℕ) → evaluates e ≡ false → room ≡ room_after e w values cells room
-room_kept (Evaluated s) w values cells room h = never (sym h)
-room_kept (NotEvaluated r) w values cells room h = refl
+room_kept (Ok s) w values cells room h = never (sym h)
+room_kept (Err r) w values cells room h = refl

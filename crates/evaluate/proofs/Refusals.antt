@@ -1,5 +1,6 @@
 -- By which numbers an evaluation is refused.
 -- Assumes nothing.
+use Rattle.std.specs.Prelude.{Ok, Err}
 use mathlib.Core.Path.{◌≡◌, refl}
 use mathlib.Core.Bool.{Bool, true, false, cond}
 use mathlib.Core.List.{List}
@@ -7,32 +8,30 @@ use Prim.Native.Nat.{ℕ, ◌-◌, ◌*◌}
 use Prim.{tt}
 use native.Mathlib.Omega.{arith}
 use lib.Dec.{ltb}
-use Rattle.table.specs.declared.Acceptance.{Acceptance}
-use Rattle.table.specs.declared.Acceptance.TheVariants.{Accepted, Refused}
+use Rattle.table.specs.Answers.{Acceptance}
 use Rattle.table.specs.Terms.{terms}
 use Rattle.table.specs.Admission.{and_then, admission_within}
 use Rattle.table.specs.Refusals.{between, RefusedBy}
 use Rattle.table.proofs.Refusals.{wider, admission_by}
 use Rattle.setting.specs.Check.{check}
 use Rattle.setting.proofs.Refusals.{check_by}
-use Rattle.evaluate.specs.declared.Evaluation.{Evaluation}
-use Rattle.evaluate.specs.declared.Evaluation.TheVariants.{Evaluated, NotEvaluated}
+use Rattle.evaluate.specs.Evaluation.{Evaluation}
 use Rattle.evaluate.specs.Steps.{steps}
 use Rattle.evaluate.specs.Evaluation.{not_evaluated, afford, ready_by, ready}
 use Rattle.evaluate.specs.Laws.{run_numbers, NotEvaluatedBy, EvaluationNumbers}
 
 -- Of any numbers that have 1 to 10, 22 and 23
 module _ (numbers : ℕ → Bool) (ten : (number : ℕ) → between 1 10 number ≡ true → numbers number ≡ true) (short : numbers 22 ≡ true) (poor : numbers 23 ≡ true) where
-  then_by : (a : Acceptance) (e : Evaluation) → RefusedBy numbers a → NotEvaluatedBy numbers e → NotEvaluatedBy numbers (and_then NotEvaluated a e)
-  then_by Accepted e h later = later
-  then_by (Refused r) e h later = h
+  then_by : (a : Acceptance) (e : Evaluation) → RefusedBy numbers a → NotEvaluatedBy numbers e → NotEvaluatedBy numbers (and_then Err a e)
+  then_by (Ok _) e h later = later
+  then_by (Err r) e h later = h
 
   afford_by : (w : List ℕ) (each allowance room : ℕ) → NotEvaluatedBy numbers (afford w each allowance room)
   unfolding afford
   afford_by w each allowance room = go (ltb room (terms w * each)) (ltb allowance (steps w (terms w)))
     where
       enough : Evaluation
-      enough = Evaluated (record { steps = steps w (terms w); left = allowance - steps w (terms w) })
+      enough = Ok (record { steps = steps w (terms w); left = allowance - steps w (terms w) })
 
       go : (a b : Bool) → NotEvaluatedBy numbers (cond a (not_evaluated 22 (terms w * each)) (cond b (not_evaluated 23 (steps w (terms w))) enough))
       go true b = short
@@ -46,7 +45,7 @@ module _ (numbers : ℕ → Bool) (ten : (number : ℕ) → between 1 10 number 
   pub ready_by_lem : (w : List ℕ) (admitted checked : Acceptance) (each allowance room : ℕ) → RefusedBy numbers admitted → RefusedBy numbers checked
       → NotEvaluatedBy numbers (ready_by w admitted checked each allowance room)
   ready_by_lem w admitted checked each allowance room g h =
-      then_by admitted (and_then NotEvaluated checked (afford w each allowance room)) g
+      then_by admitted (and_then Err checked (afford w each allowance room)) g
       (then_by checked (afford w each allowance room) h (afford_by w each allowance room))
 
 in_run : (low high number : ℕ) → (between low high number ≡ true → between 1 15 number ≡ true) → between low high number ≡ true → run_numbers number ≡ true

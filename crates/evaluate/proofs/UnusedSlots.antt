@@ -1,5 +1,6 @@
 -- Values of slots that no variable uses are not looked at.
 -- Assumes nothing.
+use Rattle.std.specs.Prelude.{Ok, Err}
 use mathlib.Core.Path.{◌≡◌, refl, ap, ◌∙◌}
 use mathlib.Core.Bool.{true, cond}
 use mathlib.Core.List.{List, map, ◌++◌}
@@ -19,8 +20,7 @@ use Rattle.table.proofs.FoldLaws.{fold_same}
 use Rattle.setting.specs.Cells.{look}
 use Rattle.setting.specs.Interpretation.{Value, Interpretation, interpret}
 use Rattle.setting.proofs.UnusedSlots.{input-same, unused_unchecked}
-use Rattle.evaluate.specs.declared.Evaluation.{Evaluation}
-use Rattle.evaluate.specs.declared.Evaluation.TheVariants.{Evaluated, NotEvaluated}
+use Rattle.evaluate.specs.Evaluation.{Evaluation}
 use Rattle.evaluate.specs.Values.{scalar_value, array_value, value_by, value_in, value_from, values, value_at, numbers}
 use Rattle.evaluate.specs.Evaluation.{ready_by, evaluation, room_after}
 use Rattle.evaluate.specs.Laws.{UnusedUnevaluated}
@@ -58,6 +58,6 @@ unused_unevaluated w values values' cells allowance room one =
     record { answer = answer; left = ap (λ e. room_after e w values cells room) answer ∙ go (evaluation w values' cells allowance (length room)) }
   where
     go : (e : Evaluation) → room_after e w values cells room ≡ room_after e w values' cells room
-    go (Evaluated s) =
+    go (Ok s) =
         ap (λ l. l ++ drop (terms w) room) (numbers-same w (interpret values (look cells)) (interpret values' (look cells)) (input-same w values values' one (look cells)))
-    go (NotEvaluated r) = refl
+    go (Err r) = refl

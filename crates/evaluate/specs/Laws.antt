@@ -1,11 +1,10 @@
 -- What is proved of values, as named statements. The proofs are in proofs/.
 -- Assumes nothing.
-use Rattle.std.specs.Prelude.{◌≡◌, Bool, true, ◌||◌, List, ℕ, ◌+◌, ◌%◌, ◌^◌, ◌<◌, length}
+use Rattle.std.specs.Prelude.{Ok, Err, ◌≡◌, Bool, true, ◌||◌, List, ℕ, ◌+◌, ◌%◌, ◌^◌, ◌<◌, length}
 use Rattle.ops.specs.declared.Op.TheVariants.{Apply, Store}
 use Rattle.ops.specs.declared.Function.TheVariants.{BvAdd, BvMul}
 use Rattle.ops.specs.Numbers.{op_of}
 use Rattle.ops.specs.Meaning.{apply}
-use Rattle.table.specs.declared.Acceptance.TheVariants.{Accepted}
 use Rattle.table.specs.Terms.{terms, term_at, sort_at}
 use Rattle.table.specs.WellFormed.{WellFormed}
 use Rattle.table.specs.Refusals.{between}
@@ -13,10 +12,10 @@ use Rattle.setting.specs.Cells.{look}
 use Rattle.setting.specs.Check.{check}
 use Rattle.setting.specs.Interpretation.{Interpretation, interpret, Fit, FitInputs}
 use Rattle.setting.specs.Laws.{OneUsedValues}
-use Rattle.evaluate.specs.declared.Evaluation.{Evaluation}
-use Rattle.evaluate.specs.declared.Evaluation.TheVariants.{Evaluated, NotEvaluated}
+use Rattle.evaluate.specs.Evaluation.{Evaluation}
 use Rattle.evaluate.specs.Values.{value_in, values, value_at}
 use Rattle.evaluate.specs.Evaluation.{evaluation, room_after}
+use Rattle.table.specs.Answers.{accepted}
 
 -- In an interpretation that fits, the value of every term of an admitted table fits its sort.
 abbrev pub ValuesFit : Type 0
@@ -25,7 +24,7 @@ ValuesFit = (limit : ℕ) (w : List ℕ) (I : Interpretation) → WellFormed lim
 -- So it does in every setting that is not refused.
 abbrev pub CheckedValuesFit : Type 0
 CheckedValuesFit =
-    (limit : ℕ) (w values cells : List ℕ) → WellFormed limit w → check w values cells ≡ Accepted
+    (limit : ℕ) (w values cells : List ℕ) → WellFormed limit w → check w values cells ≡ accepted
     → (k : ℕ) → k < terms w → Fit (sort_at w k) (value_at w (interpret values (look cells)) k)
 
 -- Familiar facts: 200 + 100 at width 8 is 44 (P5), 16 × 16 is 0 (P6).
@@ -52,8 +51,8 @@ run_numbers number = between 1 15 number || between 22 23 number
 
 -- the number of a refusal is one of these; of an evaluation nothing is said
 abbrev pub NotEvaluatedBy : (ℕ → Bool) → Evaluation → Type 0
-NotEvaluatedBy numbers (Evaluated s) = Unit {0}
-NotEvaluatedBy numbers (NotEvaluated r) = numbers r.number ≡ true
+NotEvaluatedBy numbers (Ok s) = Unit {0}
+NotEvaluatedBy numbers (Err r) = numbers r.number ≡ true
 
 abbrev pub EvaluationNumbers : Type 0
 EvaluationNumbers = (w values cells : List ℕ) (allowance room : ℕ) → NotEvaluatedBy run_numbers (evaluation w values cells allowance room)

@@ -5,7 +5,7 @@ ghost use Rattle.table.specs.WellFormed.{WellFormed};
 ghost use Rattle.evaluate.specs.Steps.{steps_of, steps};
 ghost use Rattle.evaluate.specs.Evaluation.{afford};
 
-use crate::{Evaluation, Spent};
+use crate::Spent;
 use table::{Refusal, Term};
 
 // The steps of a term: of a read the size of its whole array.
@@ -33,26 +33,26 @@ fn steps(table: &[u32]) -> u64
 }
 
 // 22 and 23, else what is spent and left; the room holds each numbers a term.
-pub fn afford(table: &[u32], each: u32, allowance: u64, room: usize) -> Evaluation
+pub fn afford(table: &[u32], each: u32, allowance: u64, room: usize) -> Result<Spent, Refusal>
     requires well_formed { WellFormed 80000 table.now }
     requires each_bound { each ≤ 8 }
     ensures { result ≡ afford table.now each allowance room }
 {
     let needed = (table::count(table) as u64) * (each as u64);
     if (room as u64) < needed {
-        return Evaluation::NotEvaluated(Refusal {
+        return Err(Refusal {
             number: 22,
             place: needed,
         });
     }
     let spent = steps(table);
     if allowance < spent {
-        return Evaluation::NotEvaluated(Refusal {
+        return Err(Refusal {
             number: 23,
             place: spent,
         });
     }
-    Evaluation::Evaluated(Spent {
+    Ok(Spent {
         steps: spent,
         left: allowance - spent,
     })

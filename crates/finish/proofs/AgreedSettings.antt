@@ -1,5 +1,6 @@
 -- The promise of finishing applied to settings; and by which numbers finishing refuses.
 -- Assumes nothing.
+use Rattle.std.specs.Prelude.{Ok, Err}
 use mathlib.Core.Path.{◌≡◌, refl, ap, ◌∙◌}
 use mathlib.Core.Bool.{Bool, true, false, cond}
 use mathlib.Core.List.{[]}
@@ -18,25 +19,22 @@ use Rattle.table.proofs.Refusals.{admission_by}
 use Rattle.setting.specs.Cells.{look_from}
 use Rattle.setting.specs.Arrays.{array_entry, slot_sort}
 use Rattle.setting.specs.Check.{check}
-use Rattle.evaluate.specs.declared.Evaluation.TheVariants.{Evaluated}
 use Rattle.evaluate.specs.Evaluation.{afford, evaluation}
 use Rattle.evaluate.specs.Steps.{steps}
 use Rattle.evaluate.specs.Values.{value_by}
-use Rattle.judge.specs.declared.Judgement.TheVariants.{Judged}
 use Rattle.judge.specs.Conditions.{condition_by}
 use Rattle.judge.specs.Judgement.{judgement}
 use Rattle.sheets.specs.Check.{sheet_check}
 use Rattle.sheets.proofs.Saying.{empty}
 use Rattle.groups.specs.Added.{flat}
 use Rattle.groups.specs.Plans.{plan_by, groups}
-use Rattle.finish.specs.declared.Finishing.TheVariants.{Finished, NotFinished}
 use Rattle.finish.specs.Finished.{finished, extent, not_finished}
 use Rattle.finish.specs.Laws.{finish_numbers, NotFinishedBy, FinishingNumbers}
 use Rattle.finish.specs.Settings.{Setting, Agreed, P2, P7, AgreedSettings}
 use Rattle.finish.proofs.Promises.{faithful}
 
-agreed : (x : Setting) → WellFormed 512 x.table → judgement x.table [] x.values [] 9 99 ≡ Judged x.verdict
-    → evaluation (finished x.table) x.values [] 9 99 ≡ Evaluated x.spent → Agreed x
+agreed : (x : Setting) → WellFormed 512 x.table → judgement x.table [] x.values [] 9 99 ≡ Ok x.verdict
+    → evaluation (finished x.table) x.values [] 9 99 ≡ Ok x.spent → Agreed x
 agreed x f judged evaluated =
     record {
       judged = judged;
@@ -54,9 +52,9 @@ agreed_settings = (agreed P2 (admission-sound 512 P2.table refl) refl refl, agre
 
 pub finishing-numbers : FinishingNumbers
 finishing-numbers w room =
-    admission_by (λ a. NotFinishedBy finish_numbers (and_then NotFinished a (cond (ltb room (terms (finished w) * words)) (not_finished 21 (terms (finished w))) (Finished (extent w)))))
+    admission_by (λ a. NotFinishedBy finish_numbers (and_then Err a (cond (ltb room (terms (finished w) * words)) (not_finished 21 (terms (finished w))) (Ok (extent w)))))
     (go (ltb room (terms (finished w) * words))) (λ number place e. rw e) 512 w
   where
-    go : (b : Bool) → NotFinishedBy finish_numbers (cond b (not_finished 21 (terms (finished w))) (Finished (extent w)))
+    go : (b : Bool) → NotFinishedBy finish_numbers (cond b (not_finished 21 (terms (finished w))) (Ok (extent w)))
     go true = refl
     go false = tt

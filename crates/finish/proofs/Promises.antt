@@ -1,5 +1,6 @@
 -- What is promised of finished tables, put together.
 -- Assumes nothing.
+use Rattle.std.specs.Prelude.{Ok, Err}
 use mathlib.Core.Path.{◌≡◌, refl, sym, ap, ap₂, subst, ◌∙◌}
 use mathlib.Core.Bool.{Bool, true, ◌&&◌}
 use mathlib.Core.List.{List, ◌++◌}
@@ -15,8 +16,7 @@ use Rattle.ops.specs.Meaning.{bit, holds}
 use Rattle.ops.specs.Fits.{fits}
 use Rattle.ops.proofs.Booleans.{and_parts}
 use Rattle.table.specs.declared.words.Term.{Term}
-use Rattle.table.specs.declared.Acceptance.{Acceptance}
-use Rattle.table.specs.declared.Acceptance.TheVariants.{Accepted}
+use Rattle.table.specs.Answers.{Acceptance, accepted}
 use Rattle.table.specs.Terms.{words, terms, term_at, sort_at}
 use Rattle.table.specs.Faults.{fields, placed_as}
 use Rattle.table.specs.Admission.{and_then, admission_within, admission}
@@ -25,21 +25,18 @@ use Rattle.table.proofs.Admitted.{admission-sound, admission_complete}
 use Rattle.setting.specs.Cells.{look}
 use Rattle.setting.specs.Check.{check}
 use Rattle.setting.specs.Interpretation.{Value, Interpretation, interpret}
-use Rattle.evaluate.specs.declared.Evaluation.{Evaluation}
-use Rattle.evaluate.specs.declared.Evaluation.TheVariants.{Evaluated, NotEvaluated}
+use Rattle.evaluate.specs.Evaluation.{Evaluation}
 use Rattle.evaluate.specs.Values.{value_at, numbers}
 use Rattle.evaluate.specs.Evaluation.{evaluates, afford, ready_by}
 use Rattle.evaluate.proofs.Fitting.{checked-values_fit}
 use Rattle.evaluate.proofs.Folds.{length-numbers, number_in, value-below}
 use Rattle.table.proofs.OperandSorts.{boolean-scalar, two_placed}
 use Rattle.judge.specs.declared.Verdict.{Verdict}
-use Rattle.judge.specs.declared.Judgement.{Judgement}
-use Rattle.judge.specs.declared.Judgement.TheVariants.{Judged, NotJudged}
+use Rattle.judge.specs.Judgement.{Judgement}
 use Rattle.sheets.specs.Marks.{own_marks, marks_under}
 use Rattle.judge.specs.Conditions.{Condition}
 use Rattle.judge.specs.Judgement.{admission_under, rule_in, rule_condition, verdict_by}
 use Rattle.judge.proofs.SheetMarks.{condition_alike, passed_under}
-use Rattle.finish.specs.declared.Finishing.TheVariants.{Finished}
 use Rattle.groups.specs.Added.{and_t}
 use Rattle.groups.specs.Plans.{next, plans}
 use Rattle.finish.specs.Finished.{condition_number, added, finished, extent, room_after}
@@ -80,12 +77,12 @@ settings_agree w values cells F = check-same w (finished w) values cells F (fini
 
 -- that nothing before it refused, and what rule and condition are; of a refusal nothing
 abbrev Says : Evaluation → Bool → Bool → Judgement → Type 0
-Says e rule condition (Judged v) = (evaluates e ≡ true) × (v.rule ≡ rule) × (v.condition ≡ condition)
-Says e rule condition (NotJudged r) = Unit {0}
+Says e rule condition (Ok v) = (evaluates e ≡ true) × (v.rule ≡ rule) × (v.condition ≡ condition)
+Says e rule condition (Err r) = Unit {0}
 
 says : (e : Evaluation) (rule condition : Bool) → Says e rule condition (verdict_by e rule condition)
-says (Evaluated s) rule condition = (refl, refl, refl)
-says (NotEvaluated r) rule condition = tt
+says (Ok s) rule condition = (refl, refl, refl)
+says (Err r) rule condition = tt
 
 -- a Boolean's number is that of its truth
 is-bit : (x : ℕ) → x ≤ 1 → x ≡ bit (holds x)
@@ -128,7 +125,7 @@ module _ (w : List ℕ) (F : WellFormed 512 w) where
       (subst (λ (x : Term). placed_as (fields x) (pred (terms f)) x ≡ true) (ap (term_at f) last_is ∙ last_at w f layout)
       ((finished_admitted w F).sound (pred (terms f)) last_in).is_placed)
 
-  module _ (values cells : List ℕ) (checked : check w values cells ≡ Accepted) where
+  module _ (values cells : List ℕ) (checked : check w values cells ≡ accepted) where
     abbrev I : Interpretation
     I = interpret values (look cells)
 
@@ -157,12 +154,12 @@ module _ (w : List ℕ) (F : WellFormed 512 w) where
 pub faithful : (w : List ℕ) → WellFormed 512 w → Faithful w (finished w) (extent w)
 faithful w F =
     let f = finished w in
-    let admitted : admission_within 80000 f ≡ Accepted = admission_complete 80000 f (finished_admitted w F) in
+    let admitted : admission_within 80000 f ≡ accepted = admission_complete 80000 f (finished_admitted w F) in
     record {
       few = added-few w F;
       count = (finished_layout w F).count;
       admitted = admitted;
-      evaluated = λ values cells allowance room. ap₂ (λ (a b : Acceptance). and_then NotEvaluated a (and_then NotEvaluated b (afford f 1 allowance room))) admitted (settings_agree w values cells F);
+      evaluated = λ values cells allowance room. ap₂ (λ (a b : Acceptance). and_then Err a (and_then Err b (afford f 1 allowance room))) admitted (settings_agree w values cells F);
       agrees = λ sheet values cells allowance room v leaves h allowance' work s _.
           let I = interpret values (look cells) in
           let e = ready_by w (admission_under w sheet) (check w values cells) 2 allowance room in
@@ -173,7 +170,7 @@ faithful w F =
     }
 
 -- for the code: of what finishing left in its room
-pub promise : (w room : List ℕ) → admission w ≡ Accepted → FinishingPromise w (room_after (Finished (extent w)) w room) (Finished (extent w))
+pub promise : (w room : List ℕ) → admission w ≡ accepted → FinishingPromise w (room_after (Ok (extent w)) w room) (Ok (extent w))
 promise w room h =
     let F = admission-sound 512 w h in
     let f = finished w in

@@ -11,8 +11,7 @@ use lib.ListN.{length}
 use Rattle.ops.specs.Fits.{fits}
 use Rattle.table.specs.declared.words.Sort.{Sort}
 use Rattle.table.specs.declared.words.Term.{Term}
-use Rattle.table.specs.declared.Acceptance.{Acceptance}
-use Rattle.table.specs.declared.Acceptance.TheVariants.{Accepted}
+use Rattle.table.specs.Answers.{Acceptance, accepted}
 use Rattle.table.specs.Terms.{terms, term_at, array}
 use Rattle.table.specs.Faults.{is_variable, refuse_unless}
 use Rattle.table.specs.Admission.{refused, refused_by, scan}
@@ -105,5 +104,5 @@ pub check-same : (w f values cells : List ℕ) → WellFormed 512 w → Layout w
 unfolding check
 check-same w f values cells wf l =
     ap (cond (not (eqb (length cells % 3) 0)) (refused 11 0))
-    (variables-same w f l values (scan (λ k. cell_fault f (cell_at cells k)) (cell_count cells) 0 Accepted)
-    ∙ λ i. scan (λ k. variable_fault values (term_at w k)) (terms w) 0 (scan (λ k. cells_same w f l (cell_at cells k) i) (cell_count cells) 0 Accepted))
+    (variables-same w f l values (scan (λ k. cell_fault f (cell_at cells k)) (cell_count cells) 0 accepted)
+    ∙ λ i. scan (λ k. variable_fault values (term_at w k)) (terms w) 0 (scan (λ k. cells_same w f l (cell_at cells k) i) (cell_count cells) 0 accepted))

@@ -1,8 +1,7 @@
 -- What is proved of finished tables, as named statements. The proofs are in proofs/.
 -- Assumes nothing.
-use Rattle.std.specs.Prelude.{◌≡◌, Bool, true, false, ◌&&◌, ◌||◌, List, ℕ, pred, ◌+◌, ◌*◌, ◌≤◌, ◌<◌, eqb, length, get_or, take}
+use Rattle.std.specs.Prelude.{Ok, Err, ◌≡◌, Bool, true, false, ◌&&◌, ◌||◌, List, ℕ, pred, ◌+◌, ◌*◌, ◌≤◌, ◌<◌, eqb, length, get_or, take}
 use Rattle.ops.specs.Meaning.{bit}
-use Rattle.table.specs.declared.Acceptance.TheVariants.{Accepted}
 use Rattle.table.specs.Terms.{words, terms, term_at}
 use Rattle.table.specs.Faults.{is_store, is_choice}
 use Rattle.table.specs.Admission.{and_then, admission_within}
@@ -11,19 +10,17 @@ use Rattle.table.specs.WellFormed.{WellFormed}
 use Rattle.setting.specs.Check.{check}
 use Rattle.setting.specs.Interpretation.{Interpretation}
 use Rattle.evaluate.specs.declared.Spent.{Spent}
-use Rattle.evaluate.specs.declared.Evaluation.TheVariants.{Evaluated, NotEvaluated}
 use Rattle.evaluate.specs.Steps.{steps}
 use Rattle.evaluate.specs.Values.{value_at}
 use Rattle.evaluate.specs.Evaluation as evaluating
 use Rattle.judge.specs.declared.Verdict.{Verdict}
-use Rattle.judge.specs.declared.Judgement.TheVariants.{Judged}
 use Rattle.judge.specs.Conditions.{condition_at}
 use Rattle.sheets.specs.Marks.{own_marks, LeavesMarks}
 use Rattle.judge.specs.Judgement.{rule_in, rule_condition, judgement, passes}
 use Rattle.finish.specs.declared.Extent.{Extent}
-use Rattle.finish.specs.declared.Finishing.{Finishing}
-use Rattle.finish.specs.declared.Finishing.TheVariants.{Finished, NotFinished}
+use Rattle.finish.specs.Finished.{Finishing}
 use Rattle.finish.specs.Finished.{condition_number, added, finished, extent, finishing}
+use Rattle.table.specs.Answers.{accepted}
 
 -- With S the table's steps, at most 3 + 9 times n + 9 times S terms are added, and never over 3 + 145 times n.
 pub record Few (w : List ℕ) (count : ℕ) : Type 0 where
@@ -67,27 +64,27 @@ pub record SameAnswers (w : List ℕ) (e : Extent) (v : Verdict) (room : List �
 pub record Faithful (w f : List ℕ) (e : Extent) : Type 0 where
   pub few : Few w (length (added w))
   pub count : e.terms ≡ terms w + length (added w)
-  pub admitted : admission_within 80000 f ≡ Accepted
+  pub admitted : admission_within 80000 f ≡ accepted
   -- none but the refusals of the setting, 22 and 23
   pub evaluated : (values cells : List ℕ) (allowance room : ℕ)
-      → evaluating.evaluation f values cells allowance room ≡ and_then NotEvaluated (check w values cells) (evaluating.afford f 1 allowance room)
+      → evaluating.evaluation f values cells allowance room ≡ and_then Err (check w values cells) (evaluating.afford f 1 allowance room)
   -- judged under any sheet that leaves the table's marks as they are: finishing takes no sheet, and keeps these
-  pub agrees : (sheet values cells : List ℕ) (allowance room : ℕ) (v : Verdict) → LeavesMarks w sheet → judgement w sheet values cells allowance room ≡ Judged v
-      → (allowance' : ℕ) (work : List ℕ) (s : Spent) → evaluating.evaluation f values cells allowance' (length work) ≡ Evaluated s
-      → SameAnswers w e v (evaluating.room_after (Evaluated s) f values cells work)
+  pub agrees : (sheet values cells : List ℕ) (allowance room : ℕ) (v : Verdict) → LeavesMarks w sheet → judgement w sheet values cells allowance room ≡ Ok v
+      → (allowance' : ℕ) (work : List ℕ) (s : Spent) → evaluating.evaluation f values cells allowance' (length work) ≡ Ok s
+      → SameAnswers w e v (evaluating.room_after (Ok s) f values cells work)
 
 -- what finishing promises besides its answer: nothing for a refusal. room is what it left
 abbrev pub FinishingPromise : List ℕ → List ℕ → Finishing → Type 0
-FinishingPromise w room (Finished e) = Faithful w (take (e.terms * words) room) e
-FinishingPromise w room (NotFinished r) = Unit {0}
+FinishingPromise w room (Ok e) = Faithful w (take (e.terms * words) room) e
+FinishingPromise w room (Err r) = Unit {0}
 
 -- Finish knows 1 to 10 and 21: none is given on other grounds. Of a finished table nothing is said.
 abbrev pub finish_numbers : ℕ → Bool
 finish_numbers number = between 1 10 number || eqb number 21
 
 abbrev pub NotFinishedBy : (ℕ → Bool) → Finishing → Type 0
-NotFinishedBy numbers (Finished e) = Unit {0}
-NotFinishedBy numbers (NotFinished r) = numbers r.number ≡ true
+NotFinishedBy numbers (Ok e) = Unit {0}
+NotFinishedBy numbers (Err r) = numbers r.number ≡ true
 
 abbrev pub FinishingNumbers : Type 0
 FinishingNumbers = (w : List ℕ) (room : ℕ) → NotFinishedBy finish_numbers (finishing w room)

@@ -1,12 +1,10 @@
 -- The promise of finishing applied: paper 01's rules in settings, judged and, finished, evaluated.
 -- Assumes nothing.
-use Rattle.std.specs.Prelude.{◌≡◌, true, false, List, [], ◌∷◌, ℕ, length}
+use Rattle.std.specs.Prelude.{Ok, ◌≡◌, true, false, List, [], ◌∷◌, ℕ, length}
 use Rattle.table.specs.Bench.{rule_g, rule_h}
 use Rattle.evaluate.specs.declared.Spent.{Spent}
-use Rattle.evaluate.specs.declared.Evaluation.TheVariants.{Evaluated}
 use Rattle.evaluate.specs.Evaluation.{evaluation, room_after}
 use Rattle.judge.specs.declared.Verdict.{Verdict}
-use Rattle.judge.specs.declared.Judgement.TheVariants.{Judged}
 use Rattle.judge.specs.Judgement.{judgement}
 use Rattle.finish.specs.Finished.{finished, extent}
 use Rattle.finish.specs.Laws.{SameAnswers}
@@ -20,9 +18,9 @@ pub record Setting : Type 0 where
 
 -- Judging and evaluating are not refused, and so the promise speaks of what evaluating leaves in any room of 99 numbers.
 pub record Agreed (x : Setting) : Type 0 where
-  pub judged : judgement x.table [] x.values [] 9 99 ≡ Judged x.verdict
-  pub evaluated : evaluation (finished x.table) x.values [] 9 99 ≡ Evaluated x.spent
-  pub same : (work : List ℕ) → length work ≡ 99 → SameAnswers x.table (extent x.table) x.verdict (room_after (Evaluated x.spent) (finished x.table) x.values [] work)
+  pub judged : judgement x.table [] x.values [] 9 99 ≡ Ok x.verdict
+  pub evaluated : evaluation (finished x.table) x.values [] 9 99 ≡ Ok x.spent
+  pub same : (work : List ℕ) → length work ≡ 99 → SameAnswers x.table (extent x.table) x.verdict (room_after (Ok x.spent) (finished x.table) x.values [] work)
 
 -- P2: rule G, true with a false condition
 abbrev pub P2 : Setting

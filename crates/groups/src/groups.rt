@@ -1,12 +1,11 @@
 // Writing each group of paper 01's "The condition of each term" into the room, from number b on.
-ghost use Rattle.std.specs.Prelude.{◌≡◌, [], ◌∷◌, pred, ◌+◌, ◌≤◌, ◌<◌};
-ghost use Rattle.groups.specs.Code.Writing.{placed_from, placed_all, after};
+ghost use Rattle.std.specs.Prelude.{◌≡◌, ◌≤◌, ◌<◌, length};
+ghost use Rattle.groups.specs.Code.Writing.{placed_all, after};
 ghost use Rattle.groups.specs.Groups.{strict_group, and_group, or_group, implies_group, absorbing_group, bounds_group};
 ghost use Rattle.groups.specs.Groups.{shift_group, choice_group, store_group, array_choice_group};
 
 use crate::added::{
-    and_term, choice_term, constant_term, equal_term, less_term, not_term, or_term, put_and,
-    read_term,
+    and_term, choice_term, constant_term, equal_term, less_term, not_term, or_term, read_term,
 };
 use table::{Term, put};
 
@@ -17,33 +16,22 @@ pub struct Written {
     pub next: u32,
 }
 
-// After a group of so many terms from `b` on: its last is the condition.
-fn grown(b: u32, size: u32) -> Written
-    requires { (b ≤ 80000) × ((0 < size) × (size ≤ 9)) }
-    ensures { result ≡ record { condition = b + pred size; next = b + size } }
+// Writes the terms of a group as terms `b`, `b` + 1, ..: its last is the condition.
+fn lay(room: &mut [u32], b: u32, group: &[Term]) -> Written
+    requires b_bound { b ≤ 80000 }
+    requires size { (0 < length group.now) × (length group.now ≤ 9) }
+    ensures value { result ≡ after b group.now }
+    ensures room_after { room.new ≡ placed_all room.old b group.now }
 {
-    Written {
-        condition: b + (size - 1),
-        next: b + size,
+    let mut at = b;
+    for x in group {
+        put(room, at, *x);
+        at += 1;
     }
-}
-
-// Two terms of a group that starts at `b`: its terms `i` and `i` + 1.
-fn lay_two(room: &mut [u32], b: u32, i: u32, x: Term, y: Term)
-    requires { (b ≤ 80000) × (i ≤ 9) }
-    ensures { room.new ≡ placed_from room.old b i (x ∷ y ∷ []) }
-{
-    put(room, b + i, x);
-    put(room, b + (i + 1), y);
-}
-
-// Three terms: `i`, `i` + 1 and `i` + 2.
-fn lay_three(room: &mut [u32], b: u32, i: u32, x: Term, y: Term, z: Term)
-    requires { (b ≤ 80000) × (i ≤ 8) }
-    ensures { room.new ≡ placed_from room.old b i (x ∷ y ∷ z ∷ []) }
-{
-    put(room, b + i, x);
-    lay_two(room, b, i + 1, y, z);
+    Written {
+        condition: at - 1,
+        next: at,
+    }
 }
 
 // Equal, sum; and the read of a variable.
@@ -52,8 +40,8 @@ pub fn strict(room: &mut [u32], b: u32, cp: u32, cq: u32) -> Written
     ensures value { result ≡ after b (strict_group cp cq) }
     ensures room_after { room.new ≡ placed_all room.old b (strict_group cp cq) }
 {
-    put_and(room, b, cp, cq);
-    grown(b, 1)
+    let group = [and_term(cp, cq)];
+    lay(room, b, &group)
 }
 
 pub fn conjunction(room: &mut [u32], b: u32, p: u32, q: u32, cp: u32, cq: u32) -> Written
@@ -61,10 +49,16 @@ pub fn conjunction(room: &mut [u32], b: u32, p: u32, q: u32, cp: u32, cq: u32) -
     ensures value { result ≡ after b (and_group b p q cp cq) }
     ensures room_after { room.new ≡ placed_all room.old b (and_group b p q cp cq) }
 {
-    lay_three(room, b, 0, not_term(p), and_term(cp, b), not_term(q));
-    lay_two(room, b, 3, and_term(cq, b + 2), or_term(b + 1, b + 3));
-    lay_two(room, b, 5, and_term(cp, cq), or_term(b + 4, b + 5));
-    grown(b, 7)
+    let group = [
+        not_term(p),
+        and_term(cp, b),
+        not_term(q),
+        and_term(cq, b + 2),
+        or_term(b + 1, b + 3),
+        and_term(cp, cq),
+        or_term(b + 4, b + 5),
+    ];
+    lay(room, b, &group)
 }
 
 pub fn disjunction(room: &mut [u32], b: u32, p: u32, q: u32, cp: u32, cq: u32) -> Written
@@ -72,16 +66,14 @@ pub fn disjunction(room: &mut [u32], b: u32, p: u32, q: u32, cp: u32, cq: u32) -
     ensures value { result ≡ after b (or_group b p q cp cq) }
     ensures room_after { room.new ≡ placed_all room.old b (or_group b p q cp cq) }
 {
-    lay_three(
-        room,
-        b,
-        0,
+    let group = [
         and_term(cp, p),
         and_term(cq, q),
         or_term(b, b + 1),
-    );
-    lay_two(room, b, 3, and_term(cp, cq), or_term(b + 2, b + 3));
-    grown(b, 5)
+        and_term(cp, cq),
+        or_term(b + 2, b + 3),
+    ];
+    lay(room, b, &group)
 }
 
 pub fn implication(room: &mut [u32], b: u32, p: u32, q: u32, cp: u32, cq: u32) -> Written
@@ -89,16 +81,15 @@ pub fn implication(room: &mut [u32], b: u32, p: u32, q: u32, cp: u32, cq: u32) -
     ensures value { result ≡ after b (implies_group b p q cp cq) }
     ensures room_after { room.new ≡ placed_all room.old b (implies_group b p q cp cq) }
 {
-    lay_three(room, b, 0, not_term(p), and_term(cp, b), and_term(cq, q));
-    lay_three(
-        room,
-        b,
-        3,
+    let group = [
+        not_term(p),
+        and_term(cp, b),
+        and_term(cq, q),
         or_term(b + 1, b + 2),
         and_term(cp, cq),
         or_term(b + 3, b + 4),
-    );
-    grown(b, 6)
+    ];
+    lay(room, b, &group)
 }
 
 // Vector and, product, vector or: value is the constant of width `n` that settles.
@@ -116,24 +107,17 @@ pub fn absorbing(
     ensures value { result ≡ after b (absorbing_group b n value p q cp cq) }
     ensures room_after { room.new ≡ placed_all room.old b (absorbing_group b n value p q cp cq) }
 {
-    lay_three(
-        room,
-        b,
-        0,
+    let group = [
         constant_term(n, value),
         equal_term(p, b),
         and_term(cp, b + 1),
-    );
-    lay_three(
-        room,
-        b,
-        3,
         equal_term(q, b),
         and_term(cq, b + 3),
         or_term(b + 2, b + 4),
-    );
-    lay_two(room, b, 6, and_term(cp, cq), or_term(b + 5, b + 6));
-    grown(b, 8)
+        and_term(cp, cq),
+        or_term(b + 5, b + 6),
+    ];
+    lay(room, b, &group)
 }
 
 // Less: `u` and `v` are the constants of width `n` that settle, as `p` and as `s`.
@@ -153,31 +137,18 @@ pub fn bounds(
     ensures value { result ≡ after b (bounds_group b n u v p s cp cs cq) }
     ensures room_after { room.new ≡ placed_all room.old b (bounds_group b n u v p s cp cs cq) }
 {
-    lay_three(
-        room,
-        b,
-        0,
+    let group = [
         constant_term(n, u),
         equal_term(p, b),
         and_term(cp, b + 1),
-    );
-    lay_three(
-        room,
-        b,
-        3,
         constant_term(n, v),
         equal_term(s, b + 3),
         and_term(cs, b + 4),
-    );
-    lay_three(
-        room,
-        b,
-        6,
         or_term(b + 2, b + 5),
         and_term(cp, cq),
         or_term(b + 6, b + 7),
-    );
-    grown(b, 9)
+    ];
+    lay(room, b, &group)
 }
 
 pub fn shift(room: &mut [u32], b: u32, n: u32, q: u32, cp: u32, cq: u32) -> Written
@@ -185,23 +156,15 @@ pub fn shift(room: &mut [u32], b: u32, n: u32, q: u32, cp: u32, cq: u32) -> Writ
     ensures value { result ≡ after b (shift_group b n q cp cq) }
     ensures room_after { room.new ≡ placed_all room.old b (shift_group b n q cp cq) }
 {
-    lay_three(
-        room,
-        b,
-        0,
+    let group = [
         constant_term(n, n),
         less_term(q, b),
         not_term(b + 1),
-    );
-    lay_three(
-        room,
-        b,
-        3,
         and_term(cq, b + 2),
         and_term(cp, cq),
         or_term(b + 3, b + 4),
-    );
-    grown(b, 6)
+    ];
+    lay(room, b, &group)
 }
 
 pub fn choice(
@@ -218,23 +181,15 @@ pub fn choice(
     ensures value { result ≡ after b (choice_group b p q r cp cq cr) }
     ensures room_after { room.new ≡ placed_all room.old b (choice_group b p q r cp cq cr) }
 {
-    lay_three(
-        room,
-        b,
-        0,
+    let group = [
         choice_term(p, cq, cr),
         and_term(cp, b),
         and_term(cq, cr),
-    );
-    lay_three(
-        room,
-        b,
-        3,
         equal_term(q, r),
         and_term(b + 2, b + 3),
         or_term(b + 1, b + 4),
-    );
-    grown(b, 6)
+    ];
+    lay(room, b, &group)
 }
 
 // A store of `e` at `i` over array `a`, of width `n`, read at `j`; `d` is the D beneath it.
@@ -255,31 +210,18 @@ pub fn store(
     ensures value { result ≡ after b (store_group b n a i e j ci ce cj d) }
     ensures room_after { room.new ≡ placed_all room.old b (store_group b n a i e j ci ce cj d) }
 {
-    lay_three(
-        room,
-        b,
-        0,
+    let group = [
         read_term(n, a, j),
         equal_term(i, j),
         choice_term(b + 1, ce, d),
-    );
-    lay_three(
-        room,
-        b,
-        3,
         and_term(ci, cj),
         and_term(b + 3, b + 2),
         equal_term(e, b),
-    );
-    lay_three(
-        room,
-        b,
-        6,
         and_term(ce, d),
         and_term(b + 6, b + 5),
         or_term(b + 4, b + 7),
-    );
-    grown(b, 9)
+    ];
+    lay(room, b, &group)
 }
 
 // A choice by `c` between arrays `a` and `e`, of width `n`, read at `j`; `dq` and `dr` are the Ds of their reads.
@@ -299,22 +241,15 @@ pub fn array_choice(
     ensures value { result ≡ after b (array_choice_group b n c a e j cc dq dr) }
     ensures room_after { room.new ≡ placed_all room.old b (array_choice_group b n c a e j cc dq dr) }
 {
-    lay_three(
-        room,
-        b,
-        0,
+    let group = [
         read_term(n, a, j),
         read_term(n, e, j),
         choice_term(c, dq, dr),
-    );
-    lay_three(
-        room,
-        b,
-        3,
         and_term(cc, b + 2),
         and_term(dq, dr),
         equal_term(b, b + 1),
-    );
-    lay_two(room, b, 6, and_term(b + 4, b + 5), or_term(b + 3, b + 6));
-    grown(b, 8)
+        and_term(b + 4, b + 5),
+        or_term(b + 3, b + 6),
+    ];
+    lay(room, b, &group)
 }

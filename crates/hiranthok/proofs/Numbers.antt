@@ -1,39 +1,34 @@
 -- By which numbers the C interface answers.
 -- Assumes nothing.
+use Rattle.std.specs.Prelude.{Ok, Err}
 use mathlib.Core.Path.{◌≡◌, refl, sym, ap, ◌∙◌}
 use mathlib.Core.Bool.{Bool, true, false}
 use Prim.Native.Nat.{ℕ}
 use Rattle.ops.proofs.Booleans.{never, or_open}
 use lib.Dec.{eqb}
-use Rattle.table.specs.declared.Acceptance.{Acceptance}
-use Rattle.table.specs.declared.Acceptance.TheVariants.{Accepted, Refused}
+use Rattle.table.specs.Answers.{Acceptance}
 use Rattle.table.specs.Admission.{admission}
 use Rattle.table.specs.Refusals.{between, RefusedBy}
 use Rattle.table.proofs.Refusals.{admission-numbers}
-use Rattle.evaluate.specs.declared.Evaluation.{Evaluation}
-use Rattle.evaluate.specs.declared.Evaluation.TheVariants.{Evaluated, NotEvaluated}
+use Rattle.evaluate.specs.Evaluation.{Evaluation}
 use Rattle.evaluate.specs.Evaluation as evaluates
 use Rattle.evaluate.specs.Laws.{run_numbers, NotEvaluatedBy}
 use Rattle.evaluate.proofs.Refusals.{evaluation-numbers}
-use Rattle.judge.specs.declared.Judgement.{Judgement}
-use Rattle.judge.specs.declared.Judgement.TheVariants.{Judged, NotJudged}
+use Rattle.judge.specs.Judgement.{Judgement}
 use Rattle.judge.specs.Judgement as judges
 use Rattle.judge.specs.Laws.{judge_numbers, NotJudgedBy}
 use Rattle.judge.proofs.Answers.{judgement-numbers}
-use Rattle.finish.specs.declared.Finishing.{Finishing}
-use Rattle.finish.specs.declared.Finishing.TheVariants.{Finished, NotFinished}
+use Rattle.finish.specs.Finished.{Finishing}
 use Rattle.finish.specs.Finished.{finishing}
 use Rattle.finish.specs.Laws.{finish_numbers, NotFinishedBy}
 use Rattle.finish.proofs.AgreedSettings.{finishing-numbers}
 use Rattle.records.specs.Answers as recorded
 use Rattle.records.specs.Laws.{record_numbers, record_judge_numbers}
 use Rattle.records.proofs.Numbers as record-numbers
-use Rattle.printer.specs.declared.Printing.{Printing}
-use Rattle.printer.specs.declared.Printing.TheVariants.{Printed, NotPrinted}
+use Rattle.printer.specs.Printing.{Printing}
 use Rattle.printer.specs.Printing.{printing, print_numbers, NotPrintedBy}
 use Rattle.printer.proofs.Answers.{printing-numbers}
-use Rattle.parser.specs.declared.Parsing.{Parsing}
-use Rattle.parser.specs.declared.Parsing.TheVariants.{Parsed, NotParsed}
+use Rattle.parser.specs.Parsing.{Parsing}
 use Rattle.parser.specs.Parsing.{parsing}
 use Rattle.meanings.specs.Numbers.{parse_numbers, NotParsedBy}
 use Rattle.meanings.proofs.Numbers.{parsing-numbers}
@@ -46,28 +41,28 @@ module _ (numbers : ℕ → Bool) where
   refusal number e = rw e (or_open (eqb number 0))
 
   of-admission : (a : Acceptance) → RefusedBy numbers a → or_zero numbers (admission_reply a).number ≡ true
-  of-admission Accepted h = refl
-  of-admission (Refused r) h = refusal r.number h
+  of-admission (Ok _) h = refl
+  of-admission (Err r) h = refusal r.number h
 
   of-finishing : (a : Finishing) → NotFinishedBy numbers a → or_zero numbers (finishing_reply a).number ≡ true
-  of-finishing (Finished e) h = refl
-  of-finishing (NotFinished r) h = refusal r.number h
+  of-finishing (Ok e) h = refl
+  of-finishing (Err r) h = refusal r.number h
 
   of-evaluation : (a : Evaluation) → NotEvaluatedBy numbers a → or_zero numbers (evaluation_reply a).number ≡ true
-  of-evaluation (Evaluated s) h = refl
-  of-evaluation (NotEvaluated r) h = refusal r.number h
+  of-evaluation (Ok s) h = refl
+  of-evaluation (Err r) h = refusal r.number h
 
   of-judgement : (a : Judgement) → NotJudgedBy numbers a → or_zero numbers (judgement_reply a).number ≡ true
-  of-judgement (Judged v) h = refl
-  of-judgement (NotJudged r) h = refusal r.number h
+  of-judgement (Ok v) h = refl
+  of-judgement (Err r) h = refusal r.number h
 
   of-printing : (a : Printing) → NotPrintedBy numbers a → or_zero numbers (printing_reply a).number ≡ true
-  of-printing (Printed n) h = refl
-  of-printing (NotPrinted r) h = refusal r.number h
+  of-printing (Ok n) h = refl
+  of-printing (Err r) h = refusal r.number h
 
   of-parsing : (a : Parsing) → NotParsedBy numbers a → or_zero numbers (parsing_reply a).number ≡ true
-  of-parsing (Parsed n) h = refl
-  of-parsing (NotParsed r) h = refusal r.number h
+  of-parsing (Ok n) h = refl
+  of-parsing (Err r) h = refusal r.number h
 
 pub known-numbers : KnownNumbers
 known-numbers =

@@ -1,23 +1,20 @@
 -- What holds of the C interface besides what the routines promise: across the two entrances, and by which numbers it answers. The
 -- proofs are in proofs/.
 -- Assumes nothing.
-use Rattle.std.specs.Prelude.{◌≡◌, Bool, true, ◌||◌, List, ℕ, ◌*◌, eqb, length, take}
+use Rattle.std.specs.Prelude.{Ok, Err, ◌≡◌, Bool, true, ◌||◌, List, ℕ, ◌*◌, eqb, length, take}
 use Rattle.table.specs.Terms.{words}
 use Rattle.table.specs.Admission.{and_then, admission}
 use Rattle.table.specs.Refusals.{between}
 use Rattle.sheets.specs.Marks.{LeavesMarks}
 use Rattle.setting.specs.declared.cells.Cell.{Cell}
 use Rattle.evaluate.specs.declared.Spent.{Spent}
-use Rattle.evaluate.specs.declared.Evaluation.TheVariants.{Evaluated, NotEvaluated}
 use Rattle.evaluate.specs.Evaluation as evaluates
 use Rattle.evaluate.specs.Laws.{run_numbers}
 use Rattle.judge.specs.declared.Verdict.{Verdict}
-use Rattle.judge.specs.declared.Judgement.TheVariants.{Judged}
 use Rattle.judge.specs.Judgement as judges
 use Rattle.judge.specs.Laws.{judge_numbers}
 use Rattle.finish.specs.declared.Extent.{Extent}
-use Rattle.finish.specs.declared.Finishing.{Finishing}
-use Rattle.finish.specs.declared.Finishing.TheVariants.{Finished, NotFinished}
+use Rattle.finish.specs.Finished.{Finishing}
 use Rattle.finish.specs.Finished.{finishing}
 use Rattle.finish.specs.Laws.{SameAnswers, finish_numbers}
 use Rattle.finish.specs.Laws as finishes
@@ -32,15 +29,15 @@ use Rattle.replies.specs.Replies.{admission_reply, finishing_reply, evaluation_r
 -- of a judgement that is not refused, under a sheet that leaves the table's marks, it leaves rule, condition and their conjunction in its room.
 pub record RecordFaithful (w f : List ℕ) (e : Extent) : Type 0 where
   pub evaluated : (values : List ℕ) (cells : List Cell) (allowance room : ℕ)
-      → recorded.evaluation f values cells allowance room ≡ and_then NotEvaluated (recorded.check w values cells) (evaluates.afford f 1 allowance room)
-  pub agrees : (sheet values : List ℕ) (cells : List Cell) (allowance room : ℕ) (v : Verdict) → LeavesMarks w sheet → recorded.judgement w sheet values cells allowance room ≡ Judged v
-      → (allowance' : ℕ) (work : List ℕ) (s : Spent) → recorded.evaluation f values cells allowance' (length work) ≡ Evaluated s
-      → SameAnswers w e v (recorded.evaluation_room (Evaluated s) f values cells work)
+      → recorded.evaluation f values cells allowance room ≡ and_then Err (recorded.check w values cells) (evaluates.afford f 1 allowance room)
+  pub agrees : (sheet values : List ℕ) (cells : List Cell) (allowance room : ℕ) (v : Verdict) → LeavesMarks w sheet → recorded.judgement w sheet values cells allowance room ≡ Ok v
+      → (allowance' : ℕ) (work : List ℕ) (s : Spent) → recorded.evaluation f values cells allowance' (length work) ≡ Ok s
+      → SameAnswers w e v (recorded.evaluation_room (Ok s) f values cells work)
 
 -- what finishing promises of the record entrance: nothing for a refusal. room is what it left
 abbrev pub FinishingRecordPromise : List ℕ → List ℕ → Finishing → Type 0
-FinishingRecordPromise w room (Finished e) = RecordFaithful w (take (e.terms * words) room) e
-FinishingRecordPromise w room (NotFinished r) = Unit {0}
+FinishingRecordPromise w room (Ok e) = RecordFaithful w (take (e.terms * words) room) e
+FinishingRecordPromise w room (Err r) = Unit {0}
 
 -- It follows from the promise of finishing.
 abbrev pub FinishedForRecords : Type 0

@@ -25,14 +25,14 @@ ghost use Rattle.replies.specs.Replies.{row, admission_reply, finishing_reply, e
 ghost use Rattle.replies.specs.Replies.{printing_reply, parsing_reply};
 
 use records::Cell;
-use replies::{answer_evaluated, answer_judged, deliver};
+use replies::Reply;
 
 #[unsafe(no_mangle)]
 pub extern "C" fn hiranthok_admit(table: &[u32], answer: &mut [u64; 4]) -> u32
     ensures value { result ≡ (admission_reply (admission table.now)).number }
     ensures answer_after { answer.new ≡ row (admission_reply (admission table.now)) }
 {
-    deliver(replies::admission_reply(admission::admit(table)), answer)
+    Reply::from(admission::admit(table)).deliver(answer)
 }
 
 // terms, number of C(rule), last
@@ -49,10 +49,7 @@ pub extern "C" fn hiranthok_finish(table: &[u32], room: &mut [u32], answer: &mut
     ensures finishing_record_promise { FinishingRecordPromise table.now room.new
         (finishing table.now (length room.old)) }
 {
-    deliver(
-        replies::finishing_reply(finish::finish(table, room)),
-        answer,
-    )
+    Reply::from(finish::finish(table, room)).deliver(answer)
 }
 
 // steps, left
@@ -75,10 +72,7 @@ pub extern "C" fn hiranthok_evaluate(
         (length work.old)) table.now values.now cells.now
         work.old }
 {
-    answer_evaluated(
-        evaluate::evaluate(table, values, cells, allowance, work),
-        answer,
-    )
+    Reply::from(evaluate::evaluate(table, values, cells, allowance, work)).deliver(answer)
 }
 
 // Under a mark sheet, which may be empty: rule, condition, steps, left.
@@ -107,10 +101,7 @@ pub extern "C" fn hiranthok_judge(
         cells.now (judgement table.now sheet.now values.now
         cells.now allowance (length work.old)) }
 {
-    answer_judged(
-        judge::judge(table, sheet, values, cells, allowance, work),
-        answer,
-    )
+    Reply::from(judge::judge(table, sheet, values, cells, allowance, work)).deliver(answer)
 }
 
 // The record entrance: the cells as a row of records; 11 cannot occur. Steps, left.
@@ -133,8 +124,7 @@ pub extern "C" fn hiranthok_evaluate_records(
         allowance (length work.old)) table.now values.now cells.now
         work.old }
 {
-    let evaluation = records::evaluate_records(table, values, cells, allowance, work);
-    answer_evaluated(evaluation, answer)
+    Reply::from(records::evaluate_records(table, values, cells, allowance, work)).deliver(answer)
 }
 
 // The record entrance, under a mark sheet: rule, condition, steps, left.
@@ -160,8 +150,9 @@ pub extern "C" fn hiranthok_judge_records(
         values.now cells.now (recorded.judgement table.now sheet.now
         values.now cells.now allowance (length work.old)) }
 {
-    let judgement = records::judge_records(table, sheet, values, cells, allowance, work);
-    answer_judged(judgement, answer)
+    Reply::from(records::judge_records(table, sheet, values, cells, allowance, work)).deliver(
+        answer,
+    )
 }
 
 // bytes written
@@ -176,7 +167,7 @@ pub extern "C" fn hiranthok_print(table: &[u32], text: &mut [u8], answer: &mut [
     ensures printing_promise { prints-laws.PrintingPromise table.now text.new
         (printing table.now (length text.old)) }
 {
-    deliver(replies::printing_reply(printer::print(table, text)), answer)
+    Reply::from(printer::print(table, text)).deliver(answer)
 }
 
 // numbers written
@@ -191,5 +182,5 @@ pub extern "C" fn hiranthok_parse(text: &[u8], room: &mut [u32], answer: &mut [u
     ensures parsing_promise { parses-laws.ParsingPromise text.now
         (parsing text.now (length room.old)) }
 {
-    deliver(replies::parsing_reply(parser::parse(text, room)), answer)
+    Reply::from(parser::parse(text, room)).deliver(answer)
 }

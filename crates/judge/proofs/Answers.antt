@@ -1,5 +1,6 @@
 -- What holds of every answer of judging: its numbers, and that values of unused slots do not enter; and P12 at every value.
 -- Assumes nothing.
+use Rattle.std.specs.Prelude.{Ok, Err}
 use mathlib.Core.Path.{◌≡◌, refl, ap, ap₂, ◌∙◌}
 use mathlib.Core.Bool.{Bool, true, false, not, ◌||◌}
 use mathlib.Core.List.{List, map, ◌++◌}
@@ -10,8 +11,7 @@ use lib.Dec.{ltb}
 use lib.ListN.{length, drop}
 use Rattle.ops.specs.Meaning.{bit, holds, apply}
 use Rattle.ops.specs.Condition.{settles}
-use Rattle.table.specs.declared.Acceptance.{Acceptance}
-use Rattle.table.specs.declared.Acceptance.TheVariants.{Accepted, Refused}
+use Rattle.table.specs.Answers.{Acceptance}
 use Rattle.table.specs.declared.words.Term.{Term}
 use Rattle.table.specs.Folds.{fold}
 use Rattle.table.specs.Admission.{and_then, admission}
@@ -27,15 +27,13 @@ use Rattle.setting.proofs.Refusals.{check_by}
 use Rattle.setting.specs.Laws.{OneUsedValues}
 use Rattle.setting.specs.Interpretation.{Value, Interpretation, interpret}
 use Rattle.setting.proofs.UnusedSlots.{input-same, unused_unchecked}
-use Rattle.evaluate.specs.declared.Evaluation.{Evaluation}
-use Rattle.evaluate.specs.declared.Evaluation.TheVariants.{Evaluated, NotEvaluated}
+use Rattle.evaluate.specs.Evaluation.{Evaluation}
 use Rattle.evaluate.specs.Values.{value_by, value_in, values, numbers}
 use Rattle.evaluate.specs.Evaluation.{evaluates, ready_by}
 use Rattle.evaluate.specs.Laws.{NotEvaluatedBy}
 use Rattle.evaluate.proofs.Refusals.{admitted_by, ready_by_lem}
 use Rattle.evaluate.proofs.UnusedSlots.{values_same, value_at-same, numbers-same}
-use Rattle.judge.specs.declared.Judgement.{Judgement}
-use Rattle.judge.specs.declared.Judgement.TheVariants.{Judged, NotJudged}
+use Rattle.judge.specs.Judgement.{Judgement}
 use Rattle.judge.specs.Conditions.{Condition, condition_by, condition_in, condition_from, conditions, condition_at, truths}
 use Rattle.sheets.specs.Marks.{marks_under}
 use Rattle.sheets.specs.Check.{sheet_check}
@@ -48,8 +46,8 @@ use Rattle.judge.specs.Laws.{judge_numbers, NotJudgedBy, JudgementNumbers, Unuse
 -- The numbers
 
 pub judged-by : (numbers : ℕ → Bool) (e : Evaluation) (rule condition : Bool) → NotEvaluatedBy numbers e → NotJudgedBy numbers (verdict_by e rule condition)
-judged-by numbers (Evaluated s) rule condition h = tt
-judged-by numbers (NotEvaluated r) rule condition h = h
+judged-by numbers (Ok s) rule condition h = tt
+judged-by numbers (Err r) rule condition h = h
 
 in-judging : (low high number : ℕ) → (between low high number ≡ true → between 1 16 number ≡ true) → between low high number ≡ true → judge_numbers number ≡ true
 in-judging low high number h e = rw (h e)
@@ -61,10 +59,10 @@ ten number = in-judging 1 10 number (wider 1 1 10 16 number (omega arith) (omega
 pub under-by : (numbers : ℕ → Bool) → numbers 16 ≡ true → (w sheet : List ℕ) → RefusedBy numbers (admission w) → RefusedBy numbers (admission_under w sheet)
 under-by numbers sixteen w sheet h = go (admission w) (sheet_check sheet) h (sheet_numbers sheet)
   where
-    go : (a s : Acceptance) → RefusedBy numbers a → RefusedBy16 s → RefusedBy numbers (and_then Refused a s)
-    go Accepted Accepted h g = tt
-    go Accepted (Refused r) h g = ap numbers g ∙ sixteen
-    go (Refused r) s h g = h
+    go : (a s : Acceptance) → RefusedBy numbers a → RefusedBy16 s → RefusedBy numbers (and_then Err a s)
+    go (Ok _) (Ok _) h g = tt
+    go (Ok _) (Err r) h g = ap numbers g ∙ sixteen
+    go (Err r) s h g = h
 
 pub judgement-numbers : JudgementNumbers
 judgement-numbers w sheet values cells allowance room =
@@ -104,10 +102,10 @@ module _ (w sheet values values' cells : List ℕ) (allowance room : ℕ) (one :
       omega arith
 
   verdict-same : (e : Evaluation) → (evaluates e ≡ true → pred (terms w) < terms w) → verdict e w (marks_under sheet) I ≡ verdict e w (marks_under sheet) I'
-  verdict-same (Evaluated s) h =
-      ap₂ (λ (v : Value) (c : Condition). verdict_by (Evaluated s) (holds v.num) c.free) (value_at-same w I I' inputs (pred (terms w)) (h refl))
+  verdict-same (Ok s) h =
+      ap₂ (λ (v : Value) (c : Condition). verdict_by (Ok s) (holds v.num) c.free) (value_at-same w I I' inputs (pred (terms w)) (h refl))
       (condition-at-same w (marks_under sheet) I I' inputs (pred (terms w)) (h refl))
-  verdict-same (NotEvaluated r) h = refl
+  verdict-same (Err r) h = refl
 
   judgement-same : judgement w sheet values cells allowance room ≡ judgement w sheet values' cells allowance room
   judgement-same =
@@ -115,8 +113,8 @@ module _ (w sheet values values' cells : List ℕ) (allowance room : ℕ) (one :
       ∙ verdict-same (ready_by w (admission_under w sheet) (check w values' cells) 2 allowance room) some
 
   room-same : (before : List ℕ) (j : Judgement) → room_after j w sheet values cells before ≡ room_after j w sheet values' cells before
-  room-same before (Judged v) = runs_same w (marks_under sheet) I I' inputs (drop (terms w * 2) before)
-  room-same before (NotJudged r) = refl
+  room-same before (Ok v) = runs_same w (marks_under sheet) I I' inputs (drop (terms w * 2) before)
+  room-same before (Err r) = refl
 
 pub unused-unjudged : UnusedUnjudged
 unused-unjudged w sheet values values' cells allowance room one =

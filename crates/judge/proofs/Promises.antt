@@ -1,5 +1,6 @@
 -- Demand 3, of every judgement.
 -- Assumes nothing.
+use Rattle.std.specs.Prelude.{Ok, Err}
 use mathlib.Core.Path.{◌≡◌, refl, sym, subst, ◌∙◌}
 use mathlib.Core.Bool.{Bool, true, false, cond}
 use mathlib.Core.List.{List}
@@ -7,8 +8,7 @@ use Prim.Native.Nat.{ℕ, ◌-◌, ◌*◌}
 use Prim.{tt}
 use lib.Dec.{ltb}
 use Rattle.ops.proofs.Booleans.{and_parts}
-use Rattle.table.specs.declared.Acceptance.{Acceptance}
-use Rattle.table.specs.declared.Acceptance.TheVariants.{Accepted, Refused}
+use Rattle.table.specs.Answers.{Acceptance}
 use Rattle.table.specs.declared.words.Term.{Term}
 use Rattle.table.specs.Terms.{terms}
 use Rattle.table.specs.Admission.{and_then}
@@ -19,13 +19,11 @@ use Rattle.setting.specs.Cells.{look}
 use Rattle.setting.specs.Check.{check}
 use Rattle.setting.specs.Interpretation.{Interpretation, interpret, FitInputs, AgreeUnmarked}
 use Rattle.setting.proofs.Checked.{checked-fits}
-use Rattle.evaluate.specs.declared.Evaluation.{Evaluation}
-use Rattle.evaluate.specs.declared.Evaluation.TheVariants.{Evaluated, NotEvaluated}
+use Rattle.evaluate.specs.Evaluation.{Evaluation}
 use Rattle.evaluate.specs.Steps.{steps}
 use Rattle.evaluate.specs.Evaluation.{not_evaluated, evaluates, afford, ready_by}
 use Rattle.judge.specs.declared.Verdict.{Verdict}
-use Rattle.judge.specs.declared.Judgement.{Judgement}
-use Rattle.judge.specs.declared.Judgement.TheVariants.{Judged, NotJudged}
+use Rattle.judge.specs.Judgement.{Judgement}
 use Rattle.judge.specs.Judgement.{admission_under, rule_in, rule_condition, verdict, judgement, passes}
 use Rattle.judge.specs.Demand3.{SameVerdict, JudgementPromise, Demand3}
 use Rattle.judge.proofs.Alike.{independence}
@@ -35,13 +33,13 @@ use Rattle.judge.proofs.SheetMarks.{passed_under}
 
 -- those that it reports, where it is no refusal
 abbrev Spends : ℕ → Evaluation → Type 0
-Spends n (Evaluated s) = s.steps ≡ n
-Spends n (NotEvaluated r) = Unit {0}
+Spends n (Ok s) = s.steps ≡ n
+Spends n (Err r) = Unit {0}
 
 -- a refusal before it, or none, changes nothing of that
-spends_then : (n : ℕ) (a : Acceptance) (e : Evaluation) → Spends n e → Spends n (and_then NotEvaluated a e)
-spends_then n Accepted e h = h
-spends_then n (Refused r) e h = tt
+spends_then : (n : ℕ) (a : Acceptance) (e : Evaluation) → Spends n e → Spends n (and_then Err a e)
+spends_then n (Ok _) e h = h
+spends_then n (Err r) e h = tt
 
 spends_unless : (n : ℕ) (b : Bool) (number place : ℕ) (e : Evaluation) → Spends n e → Spends n (cond b (not_evaluated number place) e)
 spends_unless n true number place e h = tt
@@ -52,13 +50,13 @@ afford_spends : (w : List ℕ) (each allowance room : ℕ) → Spends (steps w (
 unfolding afford
 afford_spends w each allowance room =
     let spent : ℕ = steps w (terms w) in
-    let last : Evaluation = Evaluated (record { steps = spent; left = allowance - spent }) in
+    let last : Evaluation = Ok (record { steps = spent; left = allowance - spent }) in
     spends_unless spent (ltb room (terms w * each)) 22 (terms w * each) (cond (ltb allowance spent) (not_evaluated 23 spent) last)
     (spends_unless spent (ltb allowance spent) 23 spent last refl)
 
 ready_spends : (w : List ℕ) (admitted checked : Acceptance) (each allowance room : ℕ) → Spends (steps w (terms w)) (ready_by w admitted checked each allowance room)
 ready_spends w admitted checked each allowance room =
-    spends_then (steps w (terms w)) admitted (and_then NotEvaluated checked (afford w each allowance room))
+    spends_then (steps w (terms w)) admitted (and_then Err checked (afford w each allowance room))
     (spends_then (steps w (terms w)) checked (afford w each allowance room) (afford_spends w each allowance room))
 
 -- What is known of a verdict
@@ -92,8 +90,8 @@ sure_of marked w values cells v k h I fit agree =
 module _ (w sheet : List ℕ) where
   -- the same of a judgement under a sheet: nothing of a refusal
   abbrev KnownOf : List ℕ → List ℕ → Judgement → Type 0
-  KnownOf values cells (Judged v) = Known (marks_under sheet) w values cells v
-  KnownOf values cells (NotJudged r) = Unit {0}
+  KnownOf values cells (Ok v) = Known (marks_under sheet) w values cells v
+  KnownOf values cells (Err r) = Unit {0}
 
   -- it is so of every judgement
   known : (values cells : List ℕ) (allowance room : ℕ) → KnownOf values cells (judgement w sheet values cells allowance room)
@@ -102,18 +100,18 @@ module _ (w sheet : List ℕ) where
       (λ h. let p = passed_under w sheet (check w values cells) 2 allowance room h in let f = admission-sound 512 w p.admitted in (f, checked-fits 512 w values cells f p.checked))
     where
       go : (e : Evaluation) → Spends (steps w (terms w)) e → (evaluates e ≡ true → WellFormed 512 w × FitInputs w (interpret values (look cells))) → KnownOf values cells (verdict e w (marks_under sheet) (interpret values (look cells)))
-      go (Evaluated s) h f = record { formed = (f refl).0; fit = (f refl).1; rule = refl; condition = refl; steps = h }
-      go (NotEvaluated r) h f = tt
+      go (Ok s) h f = record { formed = (f refl).0; fit = (f refl).1; rule = refl; condition = refl; steps = h }
+      go (Err r) h f = tt
 
   -- both, of every judgement
   promised : (values cells : List ℕ) (j : Judgement) → KnownOf values cells j → JudgementPromise w sheet values cells j
-  promised values cells (Judged v) k =
+  promised values cells (Ok v) k =
       record {
         same = λ values' cells' allowance' room' v' e agree.
             same-verdict (marks_under sheet) w values cells values' cells' v v' k (subst (KnownOf values' cells') e (known values' cells' allowance' room')) agree;
         sure = sure_of (marks_under sheet) w values cells v k;
       }
-  promised values cells (NotJudged r) k = tt
+  promised values cells (Err r) k = tt
 
 pub demand3 : Demand3
 demand3 w sheet values cells allowance room = promised w sheet values cells (judgement w sheet values cells allowance room) (known w sheet values cells allowance room)

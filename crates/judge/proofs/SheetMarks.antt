@@ -1,5 +1,6 @@
 -- What depends on marks depends on those of the table's variables alone; and what admission under a sheet leaves.
 -- Assumes nothing.
+use Rattle.std.specs.Prelude.{Ok, Err}
 use mathlib.Core.Path.{◌≡◌, refl, ap, ◌∙◌}
 use mathlib.Core.Bool.{Bool, true}
 use mathlib.Core.List.{List, map, ◌++◌}
@@ -11,8 +12,7 @@ use Rattle.ops.specs.declared.Op.TheVariants.{Constant, Variable, Apply, Ite, Se
 use Rattle.ops.specs.Numbers.{op_of}
 use Rattle.ops.specs.Meaning.{bit}
 use Rattle.ops.proofs.Booleans.{never}
-use Rattle.table.specs.declared.Acceptance.{Acceptance}
-use Rattle.table.specs.declared.Acceptance.TheVariants.{Accepted, Refused}
+use Rattle.table.specs.Answers.{Acceptance, accepted}
 use Rattle.table.specs.declared.words.Term.{Term}
 use Rattle.table.specs.Ranks.{slotted}
 use Rattle.table.specs.Terms.{terms, term_at, sort_at}
@@ -23,11 +23,11 @@ use Rattle.table.proofs.FoldLaws.{fold_same}
 use Rattle.table.proofs.SoundTerms.{slot-most}
 use Rattle.sheets.specs.Marks.{line_count, marks_under}
 use Rattle.sheets.specs.Check.{sheet_check}
+use Rattle.sheets.specs.declared.marks.Ruling.{Ruling}
 use Rattle.sheets.specs.Code.Said.{Said, marks_by}
 use Rattle.sheets.proofs.Saying.{marks_by-row}
 use Rattle.setting.specs.Interpretation.{Value, Interpretation}
-use Rattle.evaluate.specs.declared.Evaluation.{Evaluation}
-use Rattle.evaluate.specs.declared.Evaluation.TheVariants.{Evaluated, NotEvaluated}
+use Rattle.evaluate.specs.Evaluation.{Evaluation}
 use Rattle.evaluate.specs.Evaluation.{evaluates, ready_by}
 use Rattle.evaluate.proofs.Answers.{passed_by}
 use Rattle.evaluate.specs.Values.{value_in, values, numbers}
@@ -68,38 +68,38 @@ module _ (w : List ℕ) (m m' : Term → Bool) (I : Interpretation) (same : Same
 -- a verdict and its room, where the marks are the same or it is a refusal
 module _ (w : List ℕ) (m m' : Term → Bool) (I : Interpretation) where
   pub verdict_alike : (e : Evaluation) → (evaluates e ≡ true → (0 < terms w) × SameMarks w m m') → verdict e w m I ≡ verdict e w m' I
-  verdict_alike (Evaluated s) h =
+  verdict_alike (Ok s) h =
       let b : 0 < terms w = (h refl).0 in
-      ap (λ (c : Condition). verdict_by (Evaluated s) (rule_in w I) c.free) (condition_alike w m m' I (h refl).1 (pred (terms w)) (omega arith))
-  verdict_alike (NotEvaluated r) h = refl
+      ap (λ (c : Condition). verdict_by (Ok s) (rule_in w I) c.free) (condition_alike w m m' I (h refl).1 (pred (terms w)) (omega arith))
+  verdict_alike (Err r) h = refl
 
   pub room_alike : (e : Evaluation) (a b : Bool) (room : List ℕ) → (evaluates e ≡ true → SameMarks w m m') → room_in (verdict_by e a b) w m I room ≡ room_in (verdict_by e a b) w m' I room
-  room_alike (Evaluated s) a b room h =
+  room_alike (Ok s) a b room h =
       ap (λ (ts : List ℕ). numbers w I (terms w) ++ ts ++ drop (terms w * 2) room) (truths_alike w m m' I (h refl))
-  room_alike (NotEvaluated r) a b room h = refl
+  room_alike (Err r) a b room h = refl
 
 -- What a row says by slot marks what the sheet marks
 
-pub row-marks : (limit : ℕ) (w sheet row : List ℕ) → WellFormed limit w → Said sheet (line_count sheet) row → SameMarks w (marks_by row) (marks_under sheet)
+pub row-marks : (limit : ℕ) (w sheet : List ℕ) (row : List Ruling) → WellFormed limit w → Said sheet (line_count sheet) row → SameMarks w (marks_by row) (marks_under sheet)
 row-marks limit w sheet row f said k b v =
     let low : (term_at w k).p ≤ 255 = slot-most w k (f.sound k b) v in
     marks_by-row sheet row (term_at w k) said (omega arith)
 
 -- Admission under a sheet
 
-pub admitted_under : (w sheet : List ℕ) → accepts (admission_under w sheet) ≡ true → (admission w ≡ Accepted) × (sheet_check sheet ≡ Accepted)
+pub admitted_under : (w sheet : List ℕ) → accepts (admission_under w sheet) ≡ true → (admission w ≡ accepted) × (sheet_check sheet ≡ accepted)
 admitted_under w sheet h = go (admission w) (sheet_check sheet) h
   where
-    go : (a s : Acceptance) → accepts (and_then Refused a s) ≡ true → (a ≡ Accepted) × (s ≡ Accepted)
-    go Accepted Accepted h = (refl, refl)
-    go Accepted (Refused r) h = never h
-    go (Refused r) s h = never h
+    go : (a s : Acceptance) → accepts (and_then Err a s) ≡ true → (a ≡ accepted) × (s ≡ accepted)
+    go (Ok _) (Ok _) h = (refl, refl)
+    go (Ok _) (Err r) h = never h
+    go (Err r) s h = never h
 
 -- a judgement that is not refused: the table is admitted, the sheet and the setting are checked, the room is long enough
 pub record Unrefused (w s : List ℕ) (c : Acceptance) (each allowance room : ℕ) : Type 0 where
-  pub admitted : admission w ≡ Accepted
-  pub sheet : sheet_check s ≡ Accepted
-  pub checked : c ≡ Accepted
+  pub admitted : admission w ≡ accepted
+  pub sheet : sheet_check s ≡ accepted
+  pub checked : c ≡ accepted
   pub long : terms w * each ≤ room
 
 pub passed_under : (w sheet : List ℕ) (checked : Acceptance) (each allowance room : ℕ) → evaluates (ready_by w (admission_under w sheet) checked each allowance room) ≡ true → Unrefused w sheet checked each allowance room
@@ -109,10 +109,10 @@ passed_under w sheet checked each allowance room h =
     record { admitted = both.0; sheet = both.1; checked = p.checked; long = p.long }
 
 -- where the sheet is not refused, what is ready under it is ready without
-pub ready_under : (w sheet : List ℕ) (checked : Acceptance) (each allowance room : ℕ) → sheet_check sheet ≡ Accepted
+pub ready_under : (w sheet : List ℕ) (checked : Acceptance) (each allowance room : ℕ) → sheet_check sheet ≡ accepted
     → ready_by w (admission_under w sheet) checked each allowance room ≡ ready_by w (admission w) checked each allowance room
-ready_under w sheet checked each allowance room h = ap (λ (a : Acceptance). ready_by w a checked each allowance room) (ap (and_then Refused (admission w)) h ∙ whole (admission w))
+ready_under w sheet checked each allowance room h = ap (λ (a : Acceptance). ready_by w a checked each allowance room) (ap (and_then Err (admission w)) h ∙ whole (admission w))
   where
-    whole : (a : Acceptance) → and_then Refused a Accepted ≡ a
-    whole Accepted = refl
-    whole (Refused r) = refl
+    whole : (a : Acceptance) → and_then Err a accepted ≡ a
+    whole (Ok _) = refl
+    whole (Err r) = refl

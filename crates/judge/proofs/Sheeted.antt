@@ -6,7 +6,6 @@ use mathlib.Core.List.{List, [], ◌∷◌}
 use Prim.Native.Nat.{ℕ, ◌<◌}
 use lib.Dec.{eqb}
 use lib.ListN.{length}
-use Rattle.table.specs.declared.Acceptance.TheVariants.{Accepted}
 use Rattle.table.specs.Terms.{terms, term_at}
 use Rattle.table.proofs.Admitted.{admission-sound}
 use Rattle.sheets.specs.Marks.{own_marks, marks_under, LeavesMarks}
@@ -15,15 +14,16 @@ use Rattle.sheets.proofs.Saying.{empty}
 use Rattle.setting.specs.Cells.{look}
 use Rattle.setting.specs.Check.{check}
 use Rattle.setting.specs.Interpretation.{Interpretation, interpret}
-use Rattle.evaluate.specs.declared.Evaluation.{Evaluation}
+use Rattle.evaluate.specs.Evaluation.{Evaluation}
 use Rattle.evaluate.specs.Evaluation.{evaluates, ready}
 use Rattle.evaluate.proofs.Answers.{passed}
-use Rattle.judge.specs.declared.Judgement.{Judgement}
+use Rattle.judge.specs.Judgement.{Judgement}
 use Rattle.judge.specs.Judgement.{rule_in, rule_condition, verdict, judgement_under, judgement, room_in}
 use Rattle.judge.specs.Sheets.{JudgedBy, JudgedUnder, JudgedAsMarked, EmptySheet, Party, Asked, judged, served, after, answers, standing, own, PartiesApart}
 use Rattle.judge.proofs.SheetMarks.{ready_under, verdict_alike, room_alike}
+use Rattle.table.specs.Answers.{accepted}
 
-module _ (w sheet values cells : List ℕ) (allowance : ℕ) (room : List ℕ) (sound : sheet_check sheet ≡ Accepted) where
+module _ (w sheet values cells : List ℕ) (allowance : ℕ) (room : List ℕ) (sound : sheet_check sheet ≡ accepted) where
   abbrev I : Interpretation
   I = interpret values (look cells)
 

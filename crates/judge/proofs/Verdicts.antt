@@ -1,5 +1,6 @@
 -- What a verdict leaves: of a refusal, of the room, and of the last term.
 -- Assumes nothing.
+use Rattle.std.specs.Prelude.{Ok, Err}
 use mathlib.Core.Path.{◌≡◌, refl, sym, ap, ◌∙◌}
 use mathlib.Core.Bool.{Bool, true, false}
 use mathlib.Core.List.{List, ◌++◌}
@@ -12,8 +13,7 @@ use Rattle.ops.proofs.Booleans.{never}
 use Rattle.table.specs.declared.words.Term.{Term}
 use Rattle.table.specs.Terms.{terms}
 use Rattle.setting.specs.Interpretation.{Interpretation}
-use Rattle.evaluate.specs.declared.Evaluation.{Evaluation}
-use Rattle.evaluate.specs.declared.Evaluation.TheVariants.{Evaluated, NotEvaluated}
+use Rattle.evaluate.specs.Evaluation.{Evaluation}
 use Rattle.evaluate.specs.Evaluation.{evaluates}
 use Rattle.evaluate.specs.Values.{value_at, numbers}
 use Rattle.evaluate.proofs.Folds.{length-numbers, number_in, value-below}
@@ -25,17 +25,17 @@ use Rattle.judge.proofs.Meaning.{length-truths, truth_in_lem}
 
 -- a refusal stands whatever rule and condition would be
 pub stands : (e : Evaluation) (a b a' b' : Bool) → evaluates e ≡ false → verdict_by e a b ≡ verdict_by e a' b'
-stands (Evaluated s) a b a' b' h = never (sym h)
-stands (NotEvaluated r) a b a' b' h = refl
+stands (Ok s) a b a' b' h = never (sym h)
+stands (Err r) a b a' b' h = refl
 
 pub room_kept : (e : Evaluation) (a b : Bool) (w : List ℕ) (marked : Term → Bool) (I : Interpretation) (room : List ℕ) → evaluates e ≡ false → room ≡ room_in (verdict_by e a b) w marked I room
-room_kept (Evaluated s) a b w marked I room h = never (sym h)
-room_kept (NotEvaluated r) a b w marked I room h = refl
+room_kept (Ok s) a b w marked I room h = never (sym h)
+room_kept (Err r) a b w marked I room h = refl
 
 pub room_filled : (e : Evaluation) (a b : Bool) (w : List ℕ) (marked : Term → Bool) (I : Interpretation) (room : List ℕ) → evaluates e ≡ true
     → numbers w I (terms w) ++ truths w marked I (terms w) ++ drop (terms w * 2) room ≡ room_in (verdict_by e a b) w marked I room
-room_filled (Evaluated s) a b w marked I room h = refl
-room_filled (NotEvaluated r) a b w marked I room h = never h
+room_filled (Ok s) a b w marked I room h = refl
+room_filled (Err r) a b w marked I room h = never h
 
 -- the last term's value and truth stand at the ends of the two fronts
 module _ (w : List ℕ) (marked : Term → Bool) (I : Interpretation) (rest : List ℕ) (some : 0 < terms w) where

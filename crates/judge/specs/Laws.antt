@@ -1,12 +1,11 @@
 -- What is proved of judgements besides demand 3, as named statements. The proofs are in proofs/.
 -- Assumes nothing.
-use Rattle.std.specs.Prelude.{◌≡◌, Bool, true, false, ◌||◌, List, ℕ, length}
+use Rattle.std.specs.Prelude.{Ok, Err, ◌≡◌, Bool, true, false, ◌||◌, List, ℕ, length}
 use Rattle.table.specs.Refusals.{between}
 use Rattle.sheets.specs.Marks.{own_marks}
 use Rattle.setting.specs.Interpretation.{Interpretation}
 use Rattle.setting.specs.Laws.{OneUsedValues}
-use Rattle.judge.specs.declared.Judgement.{Judgement}
-use Rattle.judge.specs.declared.Judgement.TheVariants.{Judged, NotJudged}
+use Rattle.judge.specs.Judgement.{Judgement}
 use Rattle.judge.specs.Bench.{either}
 use Rattle.judge.specs.Judgement.{rule_in, rule_condition, judgement, room_after}
 
@@ -15,8 +14,8 @@ abbrev pub judge_numbers : ℕ → Bool
 judge_numbers number = between 1 16 number || between 22 23 number
 
 abbrev pub NotJudgedBy : (ℕ → Bool) → Judgement → Type 0
-NotJudgedBy numbers (Judged v) = Unit {0}
-NotJudgedBy numbers (NotJudged r) = numbers r.number ≡ true
+NotJudgedBy numbers (Ok v) = Unit {0}
+NotJudgedBy numbers (Err r) = numbers r.number ≡ true
 
 abbrev pub JudgementNumbers : Type 0
 JudgementNumbers = (w sheet values cells : List ℕ) (allowance room : ℕ) → NotJudgedBy judge_numbers (judgement w sheet values cells allowance room)

@@ -1,11 +1,10 @@
 -- Demand 3 applied: pairs of settings that agree on every unmarked input, their verdicts worked out.
 -- Assumes nothing.
-use Rattle.std.specs.Prelude.{◌≡◌, true, false, List, [], ◌∷◌, ℕ, ◌-◌, ◌<◌}
+use Rattle.std.specs.Prelude.{Ok, ◌≡◌, true, false, List, [], ◌∷◌, ℕ, ◌-◌, ◌<◌}
 use Rattle.table.specs.Bench.{term, rule_g}
 use Rattle.setting.specs.Cells.{look}
 use Rattle.setting.specs.Interpretation.{interpret, AgreeUnmarked}
 use Rattle.judge.specs.declared.Verdict.{Verdict}
-use Rattle.judge.specs.declared.Judgement.TheVariants.{Judged}
 use Rattle.sheets.specs.Marks.{marks_under}
 use Rattle.judge.specs.Judgement.{rule_in, judgement}
 use Rattle.judge.specs.Demand3.{SameVerdict}
@@ -23,8 +22,8 @@ pub record Pair : Type 0 where
 
 -- The settings are judged, they agree, and so demand 3 speaks of them.
 pub record Compared (x : Pair) : Type 0 where
-  pub first : judgement x.table x.sheet x.values x.cells 9 99 ≡ Judged x.verdict
-  pub second : judgement x.table x.sheet x.values' x.cells' 9 99 ≡ Judged x.verdict'
+  pub first : judgement x.table x.sheet x.values x.cells 9 99 ≡ Ok x.verdict
+  pub second : judgement x.table x.sheet x.values' x.cells' 9 99 ≡ Ok x.verdict'
   pub agree : AgreeUnmarked x.table (marks_under x.sheet) (interpret x.values (look x.cells)) (interpret x.values' (look x.cells'))
   pub same : SameVerdict x.verdict x.verdict'
 
@@ -104,7 +103,7 @@ ComparedPairs = Compared other_vector × Compared other_listing × Compared othe
 
 -- By the table's own marks the same setting does not pass: of two parties each has its own verdict.
 abbrev pub OtherVerdict : Type 0
-OtherVerdict = judgement rule_g [] other_party.values [] 9 99 ≡ Judged (record { rule = true; condition = false; steps = 0; left = 9 })
+OtherVerdict = judgement rule_g [] other_party.values [] 9 99 ≡ Ok (record { rule = true; condition = false; steps = 0; left = 9 })
 
 -- And the last sentence of demand 3: rule G passes at a 0, x 5, b 1 (P1), so it is true there at every x that fits.
 abbrev pub SureOfG : Type 0

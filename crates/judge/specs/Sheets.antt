@@ -1,15 +1,14 @@
 -- Judging under a mark sheet (paper 02, request 06): an empty sheet, sheets that leave the marks, and two parties with a table lent to both.
 -- Assumes nothing.
-use Rattle.std.specs.Prelude.{◌≡◌, Bool, cond, List, [], ◌∷◌, ℕ, eqb, length}
+use Rattle.std.specs.Prelude.{Ok, Err, ◌≡◌, Bool, cond, List, [], ◌∷◌, ℕ, eqb, length}
 use Rattle.table.specs.declared.words.Term.{Term}
-use Rattle.table.specs.declared.Acceptance.TheVariants.{Accepted}
 use Rattle.sheets.specs.Marks.{own_marks, marks_under, LeavesMarks}
 use Rattle.sheets.specs.Check.{sheet_check}
 use Rattle.setting.specs.Cells.{look}
 use Rattle.setting.specs.Interpretation.{interpret}
-use Rattle.judge.specs.declared.Judgement.{Judgement}
-use Rattle.judge.specs.declared.Judgement.TheVariants.{Judged, NotJudged}
+use Rattle.judge.specs.Judgement.{Judgement}
 use Rattle.judge.specs.Judgement.{judgement_under, judgement, room_in, room_after}
+use Rattle.table.specs.Answers.{accepted}
 
 -- a judgement under a sheet is one by some marks: the answer, and the room
 pub record JudgedBy (marked : Term → Bool) (w sheet values cells : List ℕ) (allowance : ℕ) (room : List ℕ) : Type 0 where
@@ -18,12 +17,12 @@ pub record JudgedBy (marked : Term → Bool) (w sheet values cells : List ℕ) (
 
 -- Under a sheet that is not refused: by the marks that hold under it.
 abbrev pub JudgedUnder : Type 0
-JudgedUnder = (w sheet values cells : List ℕ) (allowance : ℕ) (room : List ℕ) → sheet_check sheet ≡ Accepted → JudgedBy (marks_under sheet) w sheet values cells allowance room
+JudgedUnder = (w sheet values cells : List ℕ) (allowance : ℕ) (room : List ℕ) → sheet_check sheet ≡ accepted → JudgedBy (marks_under sheet) w sheet values cells allowance room
 
 -- Under a sheet that leaves the table's marks as they are: by the table's own. So it is under the empty sheet.
 abbrev pub JudgedAsMarked : Type 0
 JudgedAsMarked =
-    (w sheet values cells : List ℕ) (allowance : ℕ) (room : List ℕ) → sheet_check sheet ≡ Accepted → LeavesMarks w sheet
+    (w sheet values cells : List ℕ) (allowance : ℕ) (room : List ℕ) → sheet_check sheet ≡ accepted → LeavesMarks w sheet
     → JudgedBy own_marks w sheet values cells allowance room
 
 abbrev pub EmptySheet : Type 0
@@ -43,8 +42,8 @@ pub record Asked : Type 0 where
 
 -- what is left of an allowance: a refusal spends nothing
 abbrev pub left_by : Judgement → ℕ → ℕ
-left_by (Judged v) allowance = v.left
-left_by (NotJudged r) allowance = allowance
+left_by (Ok v) allowance = v.left
+left_by (Err r) allowance = allowance
 
 abbrev pub judged : List ℕ → Asked → Party → Judgement
 judged w a p = judgement w a.sheet a.values a.cells p.allowance (length p.room)

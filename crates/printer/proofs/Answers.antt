@@ -1,5 +1,6 @@
 -- What printing answers and promises, case by case.
 -- Assumes nothing.
+use Rattle.std.specs.Prelude.{Ok, Err}
 use mathlib.Core.Path.{◌≡◌, refl, sym, ap, subst, ◌∙◌}
 use mathlib.Core.Bool.{Bool, true, false, cond}
 use mathlib.Core.List.{List, ◌++◌}
@@ -15,8 +16,7 @@ use Rattle.table.specs.Terms.{terms}
 use Rattle.table.specs.Admission.{and_then}
 use Rattle.table.proofs.Refusals.{admission_by}
 use Rattle.table.specs.WellFormed.{WellFormed}
-use Rattle.printer.specs.declared.Printing.{Printing}
-use Rattle.printer.specs.declared.Printing.TheVariants.{Printed, NotPrinted}
+use Rattle.printer.specs.Printing.{Printing}
 use Rattle.printer.specs.Scripts.{Script, SoundCommands, script_text}
 use Rattle.printer.specs.Printed.{script, text}
 use Rattle.printer.specs.Printing.{fitting, room_after, print_numbers, NotPrintedBy, PrintingNumbers}
@@ -29,22 +29,22 @@ use Rattle.printer.proofs.Sizes.{text_bounded}
 
 module _ (needed room : ℕ) where
   answer : Bool → Printing
-  answer b = cond b (NotPrinted (record { number = 24; place = needed })) (Printed needed)
+  answer b = cond b (Err (record { number = 24; place = needed })) (Ok needed)
 
-  pub too_short : (n : ℕ) → n ≡ needed → room < n → NotPrinted (record { number = 24; place = n }) ≡ fitting needed room
+  pub too_short : (n : ℕ) → n ≡ needed → room < n → Err (record { number = 24; place = n }) ≡ fitting needed room
   unfolding answer
-  too_short n is h = ap (λ (k : ℕ). NotPrinted (record { number = 24; place = k })) is ∙ ap answer (sym (lt-ltb room needed (rw is at h)))
+  too_short n is h = ap (λ (k : ℕ). Err (record { number = 24; place = k })) is ∙ ap answer (sym (lt-ltb room needed (rw is at h)))
 
-  pub long-enough : (n : ℕ) → n ≡ needed → n ≤ room → Printed n ≡ fitting needed room
+  pub long-enough : (n : ℕ) → n ≡ needed → n ≤ room → Ok n ≡ fitting needed room
   unfolding answer
-  long-enough n is h = ap Printed is ∙ ap answer (sym (le-ltb room needed (rw is at h)))
+  long-enough n is h = ap Ok is ∙ ap answer (sym (le-ltb room needed (rw is at h)))
 
   -- a count that is answered is the count needed
-  pub is-needed : (n : ℕ) → Printed n ≡ fitting needed room → n ≡ needed
+  pub is-needed : (n : ℕ) → Ok n ≡ fitting needed room → n ≡ needed
   unfolding answer
   is-needed n e = go (ltb room needed) e
     where
-      go : (b : Bool) → Printed n ≡ answer b → n ≡ needed
+      go : (b : Bool) → Ok n ≡ answer b → n ≡ needed
       go true e = cc
       go false e = cc
 
@@ -57,8 +57,8 @@ left_so t room after r e (inr h) = h.1 ∙ ap (λ (x : Printing). room_after x t
 
 -- what a printed text promises, the room being as it was left
 pub promised : (t room : List ℕ) → Question t (text t) → (r : Printing) → r ≡ fitting (length (text t)) (length room) → PrintingPromise t (room_after r t room) r
-promised t room q (Printed n) e = subst (Question t) (sym (ap (λ (k : ℕ). take k (text t ++ drop (length (text t)) room)) (is-needed (length (text t)) (length room) n e) ∙ take-append_seam (text t) (drop (length (text t)) room))) q
-promised t room q (NotPrinted r) e = tt
+promised t room q (Ok n) e = subst (Question t) (sym (ap (λ (k : ℕ). take k (text t ++ drop (length (text t)) room)) (is-needed (length (text t)) (length room) n e) ∙ take-append_seam (text t) (drop (length (text t)) room))) q
+promised t room q (Err r) e = tt
 
 -- a text is shorter than the limit of places
 pub below-limit : (t : List ℕ) → WellFormed 80000 t → length (text t) ≤ limit
@@ -83,9 +83,9 @@ asked t ok = question t ok (text_bounded t ok)
 
 pub printing-numbers : PrintingNumbers
 printing-numbers t room =
-    admission_by (λ a. NotPrintedBy print_numbers (and_then NotPrinted a (fitting (length (text t)) room)))
+    admission_by (λ a. NotPrintedBy print_numbers (and_then Err a (fitting (length (text t)) room)))
     (go (ltb room (length (text t)))) (λ number place e. rw e) 80000 t
   where
-    go : (b : Bool) → NotPrintedBy print_numbers (cond b (NotPrinted (record { number = 24; place = length (text t) })) (Printed (length (text t))))
+    go : (b : Bool) → NotPrintedBy print_numbers (cond b (Err (record { number = 24; place = length (text t) })) (Ok (length (text t))))
     go true = refl
     go false = tt

@@ -11,7 +11,6 @@ use Rattle.ops.proofs.Booleans.{never}
 use Rattle.smtlib.specs.Bytes.{◌⧺◌, bytes, each}
 use Rattle.smtlib.specs.Numerals.{numeral_within, bits}
 use Rattle.smtlib.specs.Symbols.{vector_sort, sort_name, constant_name}
-use Rattle.table.specs.declared.Acceptance.TheVariants.{Accepted}
 use Rattle.table.specs.declared.words.Sort.{Sort}
 use Rattle.table.specs.Bench.{term, rule_g}
 use Rattle.table.specs.Folds.{any_below, first_from}
@@ -27,6 +26,7 @@ use Rattle.printer.specs.Printed.{name, body, uses, first_use, declaration, defi
 use Rattle.printer.specs.Sharing.{moved, Reordered, without_mark, SameButMarks}
 use Rattle.printer.proofs.Uses.{use_parts}
 use Rattle.printer.proofs.Sharing.{Premises}
+use Rattle.table.specs.Answers.{accepted}
 
 -- one term, 72 bytes
 one_term : (text (term 0 0 0 1 0 0 []) ≡ bytes "(set-logic QF_ABV)\n(define-fun t0 () Bool true)\n(assert t0)\n(check-sat)\n") × (length (text (term 0 0 0 1 0 0 [])) ≡ 72)
@@ -108,7 +108,7 @@ Sole : List ℕ → ℕ → Type 0
 Sole t k = is_variable (term_at t k) ≡ true → ((term_at t k).q ≡ 0) × (first_use t (term_at t k).p ≡ k)
 
 -- an admitted table of such variables
-met : (t : List ℕ) → admission_within 80000 t ≡ Accepted → ((k : ℕ) → k < terms t → Sole t k) → Premises t
+met : (t : List ℕ) → admission_within 80000 t ≡ accepted → ((k : ℕ) → k < terms t → Sole t k) → Premises t
 unfolding Sole
 met t admitted sole = record { whole = admission-sound 80000 t admitted; unmarked = λ k h v. (sole k h v).0; once = λ s j k h l u w. sym (first s j h u) ∙ first s k l w }
   where

@@ -1,7 +1,7 @@
 -- What a solver reads in a script: each name's sort and value, in order, and the value of the assertion, in an interpretation of the
 -- declared constants. Values are SMT-LIB's.
 -- Assumes nothing.
-use Rattle.std.specs.Prelude.{◌≡◌, Bool, true, false, cond, ◌||◌, List, [], ◌∷◌, ℕ, pred, ◌+◌, ◌*◌, ◌≤◌, eqb, length, get_or, take}
+use Rattle.std.specs.Prelude.{Ok, Err, ◌≡◌, Bool, true, false, cond, ◌||◌, List, [], ◌∷◌, ℕ, pred, ◌+◌, ◌*◌, ◌≤◌, eqb, length, get_or, take}
 use Rattle.ops.specs.Numbers.{op_of}
 use Rattle.table.specs.declared.words.Sort.{Sort}
 use Rattle.table.specs.Folds.{every}
@@ -12,8 +12,7 @@ use Rattle.table.specs.WellFormed.{WellFormed}
 use Rattle.setting.specs.Interpretation.{Value, Interpretation}
 use Rattle.evaluate.specs.Values.{scalar_value, value_at}
 use Rattle.evaluate.specs.Applied.{applied, input_value}
-use Rattle.printer.specs.declared.Printing.{Printing}
-use Rattle.printer.specs.declared.Printing.TheVariants.{Printed, NotPrinted}
+use Rattle.printer.specs.Printing.{Printing}
 use Rattle.printer.specs.Scripts.{Name, Body, Command, Script, SoundCommands, script_text}
 use Rattle.printer.specs.Scripts.Name.{input, defined}
 use Rattle.printer.specs.Scripts.Body.{constant, application}
@@ -110,5 +109,5 @@ pub record Question (t x : List ℕ) : Type 0 where
 
 -- what printing promises besides its answer: nothing for a refusal. room is what it left
 abbrev pub PrintingPromise : List ℕ → List ℕ → Printing → Type 0
-PrintingPromise t room (Printed n) = Question t (take n room)
-PrintingPromise t room (NotPrinted r) = Unit {0}
+PrintingPromise t room (Ok n) = Question t (take n room)
+PrintingPromise t room (Err r) = Unit {0}

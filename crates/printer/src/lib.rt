@@ -11,30 +11,23 @@ ghost use Rattle.printer.specs.Printed.{text};
 ghost use Rattle.printer.specs.Printing.{fitting, printing, room_after};
 ghost use Rattle.printer.specs.Meaning.{PrintingPromise};
 
-use table::{Acceptance, Refusal};
-
-#[derive(Clone, Copy)]
-pub enum Printing {
-    // The bytes of the text.
-    Printed(u64),
-    NotPrinted(Refusal),
-}
+use table::Refusal;
 
 // 24 where the room is short of the bytes needed; else their count.
-fn fitted(needed: usize, room: usize) -> Printing
+fn fitted(needed: usize, room: usize) -> Result<u64, Refusal>
     ensures { result ≡ fitting needed room }
 {
     if room < needed {
-        return Printing::NotPrinted(Refusal {
+        return Err(Refusal {
             number: 24,
             place: needed as u64,
         });
     }
-    Printing::Printed(needed as u64)
+    Ok(needed as u64)
 }
 
 // Counts the text's bytes by writing it into a room of one byte; then writes it where the room has them all.
-fn fit(table: &[u32], room: &mut [u8]) -> Printing
+fn fit(table: &[u32], room: &mut [u8]) -> Result<u64, Refusal>
     requires { WellFormed 80000 table.now }
     ensures value { result ≡ fitting (length (text table.now)) (length room.old) }
     ensures room_after { room.new ≡ room_after result table.now room.old }
@@ -49,13 +42,11 @@ fn fit(table: &[u32], room: &mut [u8]) -> Printing
 
 // Prints a table: the front of `room` holds its text. Answers the count of bytes, or refuses by 1 to 10, of a table of
 // up to 80,000 terms, and then by 24.
-pub fn print(table: &[u32], room: &mut [u8]) -> Printing
+pub fn print(table: &[u32], room: &mut [u8]) -> Result<u64, Refusal>
     ensures value { result ≡ printing table.now (length room.old) }
     ensures room_after { room.new ≡ room_after result table.now room.old }
     ensures printing_promise { PrintingPromise table.now room.new result }
 {
-    match admission::admit_within(table, 80000) {
-        Acceptance::Refused(refusal) => Printing::NotPrinted(refusal),
-        Acceptance::Accepted => fit(table, room),
-    }
+    admission::admit_within(table, 80000)?;
+    fit(table, room)
 }

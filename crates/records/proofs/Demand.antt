@@ -1,5 +1,6 @@
 -- Demand 3 through the record entrance: that of the cells laid flat.
 -- Assumes nothing.
+use Rattle.std.specs.Prelude.{Ok, Err}
 use mathlib.Core.Path.{sym, subst, ◌∙◌}
 use mathlib.Core.List.{List}
 use Prim.Native.Nat.{ℕ}
@@ -7,8 +8,7 @@ use Prim.{tt}
 use Rattle.setting.specs.declared.cells.Cell.{Cell}
 use Rattle.setting.specs.Interpretation.{Interpretation, interpret, AgreeUnmarked}
 use Rattle.setting.specs.Cells as flat
-use Rattle.judge.specs.declared.Judgement.{Judgement}
-use Rattle.judge.specs.declared.Judgement.TheVariants.{Judged, NotJudged}
+use Rattle.judge.specs.Judgement.{Judgement}
 use Rattle.sheets.specs.Marks.{marks_under}
 use Rattle.judge.specs.Judgement as judges
 use Rattle.judge.specs.Demand3 as demands
@@ -28,7 +28,7 @@ module _ (w sheet values : List ℕ) (cells : List Cell) where
 
 module _ (w sheet values : List ℕ) (cells : List Cell) where
   of_laid : (j : Judgement) → demands.JudgementPromise w sheet values (flattened cells) j → RecordJudgementPromise w sheet values cells j
-  of_laid (Judged v) p =
+  of_laid (Ok v) p =
       record {
         same = λ values' cells' allowance' room' v' e agree.
             p.same values' (flattened cells') allowance' room' v' (sym (equal-judgement w sheet values' cells' allowance' room') ∙ e)
@@ -37,7 +37,7 @@ module _ (w sheet values : List ℕ) (cells : List Cell) where
             p.same values' cells' allowance' room' v' e (from_laid w sheet values cells (interpret values' (flat.look cells')) agree);
         sure = λ h I fit agree. p.sure h I fit (from_laid w sheet values cells I agree);
       }
-  of_laid (NotJudged r) p = tt
+  of_laid (Err r) p = tt
 
 pub record_demand3 : RecordDemand3
 record_demand3 w sheet values cells allowance room =
@@ -49,7 +49,7 @@ pub flat_demand3 : FlatDemand3
 flat_demand3 w sheet values cells allowance room = go (judges.judgement w sheet values cells allowance room) (demand3 w sheet values cells allowance room)
   where
     go : (j : Judgement) → demands.JudgementPromise w sheet values cells j → FlatJudgementPromise w sheet values cells j
-    go (Judged v) p = λ values' cells' allowance' room' v' e agree.
+    go (Ok v) p = λ values' cells' allowance' room' v' e agree.
         p.same values' (flattened cells') allowance' room' v' (sym (equal-judgement w sheet values' cells' allowance' room') ∙ e)
         (to_laid w sheet values' cells' (interpret values (flat.look cells)) agree)
-    go (NotJudged r) p = tt
+    go (Err r) p = tt

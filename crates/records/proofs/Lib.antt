@@ -1,11 +1,4 @@
 pub mod Flattened
 pub mod Numbers
 pub mod Demand
-pub mod Looks
-pub mod Backward
-pub mod Readiness
-pub mod Driving
-pub mod Evaluating
-pub mod Judging
-pub mod Sheeted
 pub mod Pairs

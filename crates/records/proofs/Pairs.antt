@@ -1,5 +1,6 @@
 -- Demand 3 applied through the record entrance.
 -- Assumes nothing.
+use Rattle.std.specs.Prelude.{Ok}
 use mathlib.Core.Path.{◌≡◌, refl, subst}
 use mathlib.Core.List.{[], ◌∷◌}
 use Rattle.ops.specs.Meaning.{apply}
@@ -15,7 +16,6 @@ use Rattle.setting.proofs.Agreement.{agreement_computed}
 use Rattle.evaluate.specs.Evaluation.{afford}
 use Rattle.evaluate.specs.Steps.{steps}
 use Rattle.evaluate.specs.Values.{value_by}
-use Rattle.judge.specs.declared.Judgement.TheVariants.{Judged}
 use Rattle.judge.specs.Conditions.{condition_by}
 use Rattle.sheets.specs.Marks.{marks_under}
 use Rattle.sheets.specs.Check.{sheet_check}
@@ -30,9 +30,9 @@ use Rattle.records.proofs.Demand.{record_demand3}
 pub compared : Compared
 unfolding sheet_check admission_within scan fault fault_if typed any_below clash size_within steps fold value_by condition_by apply settles look_from check slot_sort array_entry afford
 compared =
-    let first : judgement copied [] short few 9 99 ≡ Judged passed = refl in
-    let second : judgement copied [] long many 9 99 ≡ Judged passed = refl in
-    let flatly : judges.judgement copied [] short (0 ∷ 1 ∷ 42 ∷ []) 9 99 ≡ Judged passed = refl in
+    let first : judgement copied [] short few 9 99 ≡ Ok passed = refl in
+    let second : judgement copied [] long many 9 99 ≡ Ok passed = refl in
+    let flatly : judges.judgement copied [] short (0 ∷ 1 ∷ 42 ∷ []) 9 99 ≡ Ok passed = refl in
     let agree = agreement_computed copied (marks_under []) short (look few) long (look many) refl in
     let agree_across = agreement_computed copied (marks_under []) long (look many) short (flat.look (0 ∷ 1 ∷ 42 ∷ [])) refl in
     record {

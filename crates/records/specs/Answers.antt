@@ -2,15 +2,15 @@
 -- the records' interpretation. 11 cannot occur here.
 -- Assumes nothing.
 use Rattle.std.specs.Prelude.{Bool, List, ℕ, length}
-use Rattle.table.specs.declared.Acceptance.{Acceptance}
+use Rattle.table.specs.Answers.{Acceptance}
 use Rattle.table.specs.declared.words.Term.{Term}
 use Rattle.table.specs.Admission.{admission_within}
 use Rattle.setting.specs.declared.cells.Cell.{Cell}
 use Rattle.setting.specs.Check.{check_cells}
 use Rattle.setting.specs.Interpretation.{Interpretation, interpret}
-use Rattle.evaluate.specs.declared.Evaluation.{Evaluation}
+use Rattle.evaluate.specs.Evaluation.{Evaluation}
 use Rattle.evaluate.specs.Evaluation as evaluates
-use Rattle.judge.specs.declared.Judgement.{Judgement}
+use Rattle.judge.specs.Judgement.{Judgement}
 use Rattle.sheets.specs.Marks.{marks_under}
 use Rattle.judge.specs.Judgement as judges
 use Rattle.records.specs.Rows.{record_at, look}

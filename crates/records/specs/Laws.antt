@@ -1,6 +1,6 @@
 -- What is proved of the record entrance, as named statements. The proofs are in proofs/.
 -- Assumes nothing.
-use Rattle.std.specs.Prelude.{◌≡◌, Bool, true, ◌||◌, List, ℕ, ◌%◌, length}
+use Rattle.std.specs.Prelude.{Ok, Err, ◌≡◌, Bool, true, ◌||◌, List, ℕ, ◌%◌, length}
 use Rattle.table.specs.Refusals.{between}
 use Rattle.setting.specs.declared.cells.Cell.{Cell}
 use Rattle.setting.specs.Cells as flat
@@ -9,8 +9,7 @@ use Rattle.setting.specs.Laws.{OneUsedValues}
 use Rattle.evaluate.specs.Evaluation as evaluates
 use Rattle.evaluate.specs.Laws.{NotEvaluatedBy}
 use Rattle.judge.specs.declared.Verdict.{Verdict}
-use Rattle.judge.specs.declared.Judgement.{Judgement}
-use Rattle.judge.specs.declared.Judgement.TheVariants.{Judged, NotJudged}
+use Rattle.judge.specs.Judgement.{Judgement}
 use Rattle.sheets.specs.Marks.{marks_under}
 use Rattle.judge.specs.Demand3.{SameVerdict}
 use Rattle.judge.specs.Judgement as judges
@@ -54,7 +53,7 @@ JudgementNumbers = (w sheet values : List ℕ) (cells : List Cell) (allowance ro
 -- So 11 cannot occur, of evaluating and of judging.
 pub record NoEleven (w sheet values : List ℕ) (cells : List Cell) (allowance room place : ℕ) : Type 0 where
   pub evaluating : evaluation w values cells allowance room ≡ evaluates.not_evaluated 11 place → ⊥
-  pub judging : judgement w sheet values cells allowance room ≡ NotJudged (record { number = 11; place = place }) → ⊥
+  pub judging : judgement w sheet values cells allowance room ≡ Err (record { number = 11; place = place }) → ⊥
 
 abbrev pub NeverEleven : Type 0
 NeverEleven = (w sheet values : List ℕ) (cells : List Cell) (allowance room place : ℕ) → NoEleven w sheet values cells allowance room place
@@ -75,25 +74,25 @@ UnusedUnseen =
 -- Demand 3 (paper 01, "What demand 3 compares") through this entrance: (a) every other judgement of the table under the sheet that is not refused, through
 -- either entrance, in a setting that agrees on the inputs that are unmarked under it; (b) where the setting passes, every fitting interpretation that agrees.
 pub record Independent (w sheet values : List ℕ) (cells : List Cell) (v : Verdict) : Type 0 where
-  pub same : (values' : List ℕ) (cells' : List Cell) (allowance' room' : ℕ) (v' : Verdict) → judgement w sheet values' cells' allowance' room' ≡ Judged v'
+  pub same : (values' : List ℕ) (cells' : List Cell) (allowance' room' : ℕ) (v' : Verdict) → judgement w sheet values' cells' allowance' room' ≡ Ok v'
       → AgreeUnmarked w (marks_under sheet) (in_records values cells) (in_records values' cells') → SameVerdict v v'
-  pub across : (values' cells' : List ℕ) (allowance' room' : ℕ) (v' : Verdict) → judges.judgement w sheet values' cells' allowance' room' ≡ Judged v'
+  pub across : (values' cells' : List ℕ) (allowance' room' : ℕ) (v' : Verdict) → judges.judgement w sheet values' cells' allowance' room' ≡ Ok v'
       → AgreeUnmarked w (marks_under sheet) (in_records values cells) (interpret values' (flat.look cells')) → SameVerdict v v'
   pub sure : judges.passes v ≡ true → (I : Interpretation) → FitInputs w I → AgreeUnmarked w (marks_under sheet) (in_records values cells) I → judges.rule_in w I ≡ true
 
 abbrev pub RecordJudgementPromise : List ℕ → List ℕ → List ℕ → List Cell → Judgement → Type 0
-RecordJudgementPromise w sheet values cells (Judged v) = Independent w sheet values cells v
-RecordJudgementPromise w sheet values cells (NotJudged r) = Unit {0}
+RecordJudgementPromise w sheet values cells (Ok v) = Independent w sheet values cells v
+RecordJudgementPromise w sheet values cells (Err r) = Unit {0}
 
 abbrev pub RecordDemand3 : Type 0
 RecordDemand3 = (w sheet values : List ℕ) (cells : List Cell) (allowance room : ℕ) → RecordJudgementPromise w sheet values cells (judgement w sheet values cells allowance room)
 
 -- What a judgement through the flat entrance promises against those through this one.
 abbrev pub FlatJudgementPromise : List ℕ → List ℕ → List ℕ → List ℕ → Judgement → Type 0
-FlatJudgementPromise w sheet values cells (Judged v) =
-    (values' : List ℕ) (cells' : List Cell) (allowance' room' : ℕ) (v' : Verdict) → judgement w sheet values' cells' allowance' room' ≡ Judged v'
+FlatJudgementPromise w sheet values cells (Ok v) =
+    (values' : List ℕ) (cells' : List Cell) (allowance' room' : ℕ) (v' : Verdict) → judgement w sheet values' cells' allowance' room' ≡ Ok v'
     → AgreeUnmarked w (marks_under sheet) (interpret values (flat.look cells)) (in_records values' cells') → SameVerdict v v'
-FlatJudgementPromise w sheet values cells (NotJudged r) = Unit {0}
+FlatJudgementPromise w sheet values cells (Err r) = Unit {0}
 
 abbrev pub FlatDemand3 : Type 0
 FlatDemand3 = (w sheet values cells : List ℕ) (allowance room : ℕ) → FlatJudgementPromise w sheet values cells (judges.judgement w sheet values cells allowance room)

@@ -1,5 +1,4 @@
 pub mod Rows
 pub mod Answers
-pub mod Code
 pub mod Laws
 pub mod Pairs

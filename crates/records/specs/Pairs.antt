@@ -1,11 +1,10 @@
 -- Demand 3 applied through the record entrance: one pair of settings of records, one of records and numbers.
 -- Assumes nothing.
-use Rattle.std.specs.Prelude.{◌≡◌, true, List, [], ◌∷◌, ℕ}
+use Rattle.std.specs.Prelude.{Ok, ◌≡◌, true, List, [], ◌∷◌, ℕ}
 use Rattle.setting.specs.declared.cells.Cell.{Cell}
 use Rattle.setting.specs.Cells as flat
 use Rattle.setting.specs.Interpretation.{interpret, AgreeUnmarked}
 use Rattle.judge.specs.declared.Verdict.{Verdict}
-use Rattle.judge.specs.declared.Judgement.TheVariants.{Judged}
 use Rattle.sheets.specs.Marks.{marks_under}
 use Rattle.judge.specs.Judgement as judges
 use Rattle.judge.specs.Demand3.{SameVerdict}
@@ -33,10 +32,10 @@ long = 9 ∷ 200 ∷ 1 ∷ 4 ∷ []
 
 -- Both are judged under the empty sheet, they agree, and so demand 3 speaks of them: of two rows of records, and of one beside a row of numbers.
 pub record Compared : Type 0 where
-  pub first : judgement copied [] short few 9 99 ≡ Judged passed
-  pub second : judgement copied [] long many 9 99 ≡ Judged passed
+  pub first : judgement copied [] short few 9 99 ≡ Ok passed
+  pub second : judgement copied [] long many 9 99 ≡ Ok passed
   pub agree : AgreeUnmarked copied (marks_under []) (in_records short few) (in_records long many)
   pub same : SameVerdict passed passed
-  pub flatly : judges.judgement copied [] short (0 ∷ 1 ∷ 42 ∷ []) 9 99 ≡ Judged passed
+  pub flatly : judges.judgement copied [] short (0 ∷ 1 ∷ 42 ∷ []) 9 99 ≡ Ok passed
   pub agree_across : AgreeUnmarked copied (marks_under []) (in_records long many) (interpret short (flat.look (0 ∷ 1 ∷ 42 ∷ [])))
   pub across : SameVerdict passed passed

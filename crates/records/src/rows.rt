@@ -1,38 +1,30 @@
-// A row of cell records: the value of the earliest with a slot and an index.
-ghost use Rattle.std.specs.Prelude.{◌≡◌, cond, ◌<◌, ◌≤◌, length};
-ghost use Rattle.setting.specs.Cells.{matches, look_from};
+// A row of records as the cells of a setting.
+ghost use Rattle.std.specs.Prelude.{false, length};
 ghost use Rattle.records.specs.Rows.{record_at};
 
-use setting::Cell;
+use setting::{Cell, Cells};
 
-// Cell `k` of a row.
-pub fn record_at(cells: &[Cell], k: usize) -> Cell
-    requires { k < length cells.now }
-    ensures { result ≡ record_at cells.now k }
-{
-    cells[k]
+#[derive(Clone, Copy)]
+pub struct Records<'a> {
+    pub cells: &'a [Cell],
 }
 
-// The cell's value where it has this slot and index, else what later cells say.
-fn chosen(c: Cell, slot: u32, index: u32, later: u32) -> u32
-    ensures { result ≡ cond (matches c slot index) c.value later }
-{
-    if (c.slot == slot) & (c.index == index) {
-        return c.value;
-    }
-    later
-}
+impl<'a> Cells for Records<'a> {
+    ghost at = { λ s. record_at s.cells.now };
 
-// The value of the earliest of count cells with this slot and index, else the other: from the last to the first.
-pub fn look(cells: &[Cell], count: usize, slot: u32, index: u32, other: u32) -> u32
-    requires { count ≤ length cells.now }
-    ensures { result ≡ look_from (record_at cells.now) count 0 slot index other }
-{
-    let mut found = other;
-    let mut k = count;
-    while 0 < k {
-        k -= 1;
-        found = chosen(record_at(cells, k), slot, index, found);
+    ghost count = { λ s. length s.cells.now };
+
+    ghost cut = { λ _. false };
+
+    fn count(&self) -> usize {
+        self.cells.len()
     }
-    found
+
+    fn is_cut(&self) -> bool {
+        false
+    }
+
+    fn cell(&self, k: usize) -> Cell {
+        self.cells[k]
+    }
 }

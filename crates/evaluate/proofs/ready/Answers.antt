@@ -1,44 +1,28 @@
-use Rattle.evaluate.proofs.Answers.{is-admitted, stands, goes_on}
-use Rattle.evaluate.specs.Evaluation.{afford}
-use Rattle.table.specs.Admission.{and_then, accepts}
-use Rattle.evaluate.specs.declared.Evaluation.TheVariants.{NotEvaluated}
-use Rattle.setting.specs.Check.{check}
-use Rattle.table.specs.WellFormed.{WellFormed}
-use Rattle.table.specs.declared.Acceptance.{Acceptance}
-use mathlib.Core.Bool.{true}
-use mathlib.Core.Path.{◌≡◌, sym, ap, ◌∙◌}
+use Rattle.std.proofs.Common.{◌≡◌, ◌∙◌, Err, ap, ap₂, sym, rules}
+use Rattle.table.specs.Admission.{accepts}
+use Rattle.table.specs.Answers.{Acceptance}
+use Rattle.setting.specs.Check.{check_by}
+use Rattle.evaluate.specs.Evaluation.{ready_by}
 use Rattle.evaluate.proofs.ready.Goals as goal
 
-pub returns-then-not-accepts : goal.returns-then-not-accepts
-returns-then-not-accepts c =
-    c.and_then.ensures
-    ∙ stands c.args.admitted _ (and_then NotEvaluated (check c.args.table.now c.args.values.now c.args.cells.now) (afford c.args.table.now c.args.each c.args.allowance c.args.room)) (sym c.accepts.ensures ∙ c.if-not-accepts.true)
+pub returns-in_err-admitted : goal.returns-in_err-admitted
+returns-in_err-admitted g c =
+    let e : c.from_residual.result ≡ Err c.in_err-admitted.field-0.0 = search rules in
+    let m = g.C.Cells in
+    e ∙ ap (λ (a : Acceptance). ready_by c.args.table.now a (check_by (m.cut c.args.cells.now) c.args.table.now c.args.values.now (m.at c.args.cells.now) (m.count c.args.cells.now)) c.args.each c.args.allowance c.args.room) (sym c.in_err-admitted.was)
 
-pub check-checked-requires : goal.check-checked-requires
-check-checked-requires c =
-    let admits : accepts c.args.admitted ≡ true = sym c.accepts.ensures ∙ c.if-not-accepts.false in
-    let formed : WellFormed 80000 c.args.table.now = c.requires.well_formed admits in
-    formed
+pub check-requires : goal.check-requires
+check-requires g c = c.requires.well_formed (ap accepts c.in_ok-admitted.was)
 
-pub returns-then-not-accepts-2 : goal.returns-then-not-accepts-2
-returns-then-not-accepts-2 c =
-    let admits : accepts c.args.admitted ≡ true = sym c.accepts.ensures ∙ c.if-not-accepts.false in
-    let rest = afford c.args.table.now c.args.each c.args.allowance c.args.room in
-    c.and_then-then-not-accepts-2.ensures
-    ∙ stands c.check-checked.result _ rest (sym c.accepts-2.ensures ∙ c.if-not-accepts-2.true)
-    ∙ ap (λ (x : Acceptance). and_then NotEvaluated x rest) c.check-checked.ensures
-    ∙ goes_on c.args.admitted _ admits
+pub returns-in_err-check : goal.returns-in_err-check
+returns-in_err-check g c =
+    let e : c.from_residual-in_err-check.result ≡ Err c.in_err-check.field-0.0 = search rules in
+    e ∙ ap₂ (λ (a b : Acceptance). ready_by c.args.table.now a b c.args.each c.args.allowance c.args.room) (sym c.in_ok-admitted.was) (sym c.in_err-check.was ∙ c.check.ensures)
 
 pub afford-requires : goal.afford-requires
-afford-requires c =
-    let admits : accepts c.args.admitted ≡ true = sym c.accepts.ensures ∙ c.if-not-accepts.false in
-    let formed : WellFormed 80000 c.args.table.now = c.requires.well_formed admits in
-    record { well_formed = formed; each_bound = c.requires.each_bound }
+afford-requires g c = record { well_formed = c.requires.well_formed (ap accepts c.in_ok-admitted.was); each_bound = c.requires.each_bound }
 
 pub returns : goal.returns
-returns c =
-    let admits : accepts c.args.admitted ≡ true = sym c.accepts.ensures ∙ c.if-not-accepts.false in
-    let rest = afford c.args.table.now c.args.each c.args.allowance c.args.room in
+returns g c =
     c.afford.ensures
-    ∙ sym (ap (λ (x : Acceptance). and_then NotEvaluated x rest) (sym c.check-checked.ensures ∙ is-admitted c.check-checked.result (sym c.accepts-2.ensures ∙ c.if-not-accepts-2.false)))
-    ∙ goes_on c.args.admitted _ admits
+    ∙ ap₂ (λ (a b : Acceptance). ready_by c.args.table.now a b c.args.each c.args.allowance c.args.room) (sym c.in_ok-admitted.was) (sym c.in_ok-check.was ∙ c.check.ensures)

@@ -5,5 +5,5 @@ use Rattle.hiranthok.proofs.hiranthok_admit.Goals as goal
 
 pub returns : goal.returns
 returns c =
-    let is = c.admission_reply.ensures ∙ ap admission_reply c.admit.ensures in
+    let is = c.from.ensures ∙ ap admission_reply c.admit.ensures in
     record { value = c.deliver.ensures.value ∙ ap (λ (r : Reply). r.number) is; answer_after = c.deliver.ensures.answer_after ∙ ap row is }

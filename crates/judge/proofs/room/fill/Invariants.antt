@@ -1,11 +1,10 @@
 use Prim.Native.Nat.{◌-◌, ◌*◌}
-use Rattle.setting.specs.Cells.{cell_at}
 use Rattle.sheets.specs.Code.Said.{marks_by}
 use Rattle.judge.proofs.Fills.{Filling}
 use Rattle.judge.proofs.room.fill.Given as goal
 
 abbrev pub invariant-loop-turn : goal.invariant-loop-turn
-invariant-loop-turn l = Filling l.table (marks_by l.said) l.values (cell_at l.cells) l.count l.terms l.initial.work l.work l.turn
+invariant-loop-turn g l = Filling l.table (marks_by l.said) l.values (g.C.Cells.at l.cells) l.count l.terms l.initial.work l.work l.turn
 
 abbrev pub decreases-loop-turn : goal.decreases-loop-turn
-decreases-loop-turn l = (l.terms - l.turn.at) * 18 - l.turn.met
+decreases-loop-turn g l = (l.terms - l.turn.at) * 18 - l.turn.met

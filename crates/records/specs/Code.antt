@@ -1,2 +1,0 @@
--- How the code goes: what contracts inside the crate say. Nobody needs to believe it: laws connect it with the definitions beside.
-pub mod Drive

@@ -1,12 +1,13 @@
 pub mod Booleans
+pub mod Results
 pub mod Scans
 pub mod Feeds
-pub mod Ways
 pub mod Standing
-pub mod Writing
+pub mod Ways
 pub mod Limits
 pub mod Totals
-pub mod Answers
 pub mod TableLines
+pub mod Answers
 pub mod Inside
 pub mod Samples
+pub mod Writing

@@ -1,130 +1,112 @@
--- One number more: nothing is wrong with it, the limits on the parts are kept, and a room for all numbers within them is never too short.
+-- One number more: the limits on the parts are kept, and a room for all numbers within them is never too short.
 -- Assumes nothing.
-use mathlib.Core.Path.{◌≡◌, refl, sym, ◌∙◌}
-use mathlib.Core.Bool.{Bool, true, false, not, cond, ◌&&◌}
-use Prim.Native.Nat.{ℕ, suc, ◌+◌, ◌-◌, ◌≤◌, ◌<◌}
-use native.Mathlib.Omega.{arith}
-use lib.Dec.{eqb, ltb, leb}
-use borrow.Author.Tests.{eqb-true, eqb-false, leb-false, lt-ltb, ltb-true, not-true}
+use Rattle.std.proofs.Common.{◌≡◌, ℕ, zero, suc, ◌+◌, ◌≤◌, ◌<◌, Bool, true, false, cond, ltb, leb, List, [], ◌∷◌, length, get_or, set, Option, Some, None, Result, Ok, Err, refl, sym, subst, arith}
+use Rattle.std.proofs.lemmas.List.{get_or-set_same, get_or-set_other}
+use Rattle.std.specs.Option.{option_map}
+use Rattle.std.specs.Bool.{⊤}
+use borrow.Author.Tests.{leb-false, ltb-true, ltb-false}
+use Rattle.cases.specs.declared.part.Part.{Part}
+use Rattle.cases.specs.declared.part.Part.TheVariants.{Table, Values, Cells, Allowance, Sheet}
+use Rattle.cases.specs.declared.error.ErrorKind.{ErrorKind}
+use Rattle.cases.specs.declared.error.ErrorKind.TheVariants.{RoomFull, TableFull, OthersFull, SecondAllowance}
 use Rattle.cases.specs.declared.parser.Run.{Run}
 use Rattle.cases.specs.declared.parser.Parser.{Parser}
-use Rattle.cases.specs.Parsing.{table_limit, others_limit, none, begun, extended, full, size, table_full, others_full, refuse_unless, number_fault, ended}
-use Rattle.cases.proofs.Booleans.{never}
+use Rattle.cases.specs.Parts.{index}
+use Rattle.cases.specs.Parsing.{table_limit, others_limit, size, size_of, others, others_fault, limit, number_fault, until}
+use Rattle.cases.specs.Reading.{WithinIf}
+use Rattle.cases.proofs.Results.{then_ok, then_err, passed_on, met}
 
-pub no-refusal : (number : ℕ) (ok : Bool) (rest : ℕ) → refuse_unless (suc number) ok rest ≡ 0 → (ok ≡ true) × (rest ≡ 0)
-no-refusal number true rest e = (refl, e)
-no-refusal number false rest e = absurd (omega arith)
+-- Runs
 
--- nothing is wrong with a number
-pub record Fits (room : ℕ) (p : Parser) : Type 0 where
-  pub table : table_full p ≡ false
-  pub others : others_full p ≡ false
-  pub space : p.total < room
+-- what holds of each part's run, and of a new one
+pub set_each : (P : Option Run → Type 0) (runs : List (Option Run)) (i j : ℕ) (run : Option Run) → P run → P (get_or runs j None) → P (get_or (set runs i run) j None)
+set_each P [] i j run h k = k
+set_each P (r ∷ runs) zero zero run h k = h
+set_each P (r ∷ runs) zero (suc j) run h k = k
+set_each P (r ∷ runs) (suc i) zero run h k = k
+set_each P (r ∷ runs) (suc i) (suc j) run h k = set_each P runs i j run h k
 
-pub fits : (room : ℕ) (p : Parser) → number_fault p room ≡ 0 → Fits room p
-unfolding number_fault
-fits room p e =
-    let first = no-refusal 2 (not (eqb p.part 0)) _ e in
-    let second = no-refusal 4 (not (full p)) _ first.1 in
-    let third = no-refusal 12 (not (table_full p)) _ second.1 in
-    let fourth = no-refusal 13 (not (others_full p)) _ third.1 in
-    let last = no-refusal 5 (ltb p.total room) 0 fourth.1 in
-    record { table = not-true (table_full p) third.0; others = not-true (others_full p) fourth.0; space = ltb-true p.total room last.0 }
+-- what holds of the table's run after a part's was changed
+pub table_after : (P : Option Run → Type 0) (runs : List (Option Run)) (part : Part) (run : Option Run) → length runs ≡ 5
+    → (part ≡ Table → P run) → ((part ≡ Table → ⊥) → P (get_or runs 0 None)) → P (get_or (set runs (index part) run) 0 None)
+table_after P runs Table run five f g = subst P (sym (get_or-set_same runs 0 run None (omega arith))) (f refl)
+table_after P runs Values run five f g = subst P (sym (get_or-set_other runs 1 0 run None (omega arith))) (g (λ z. cc))
+table_after P runs Cells run five f g = subst P (sym (get_or-set_other runs 2 0 run None (omega arith))) (g (λ z. cc))
+table_after P runs Allowance run five f g = subst P (sym (get_or-set_other runs 3 0 run None (omega arith))) (g (λ z. cc))
+table_after P runs Sheet run five f g = subst P (sym (get_or-set_other runs 4 0 run None (omega arith))) (g (λ z. cc))
+
+-- a part was given, and its numbers go up to n
+abbrev pub EndsAt : ℕ → Option Run → Type 0
+EndsAt n None = ⊥
+EndsAt n (Some run) = run.to ≡ n
+
+pub wider : (run : Option Run) (n m : ℕ) → n ≤ m → WithinIf run n → WithinIf run m
+wider None n m b h = tt
+wider (Some run) n m b h = record { low = h.low; high = omega (arith, h.high) }
+
+pub grown_within : (run : Option Run) (n : ℕ) → WithinIf run n → WithinIf (option_map (until (n + 1)) run) (n + 1)
+grown_within None n h = tt
+grown_within (Some run) n h = record { low = omega (arith, h.low, h.high); high = omega arith }
+
+pub grown_size : (run : Option Run) (n : ℕ) → WithinIf run n → EndsAt n run → size (option_map (until (n + 1)) run) ≡ size run + 1
+grown_size None n h e = absurd e
+grown_size (Some run) n h e = omega (arith, h.low, e)
+
+pub grown_ends : (run : Option Run) (n : ℕ) → EndsAt n run → EndsAt (n + 1) (option_map (until (n + 1)) run)
+grown_ends None n e = absurd e
+grown_ends (Some run) n e = refl
 
 -- The limits
 
--- a table that was not given has no numbers; that of the part being read goes up to the total
-pub record Limited (part total : ℕ) (run : Run) : Type 0 where
-  pub table : size run ≤ table_limit
-  pub others : total - size run ≤ others_limit
-  pub absent : run.given ≡ false → size run ≡ 0
-  pub present : part ≡ 1 → (run.given ≡ true) × (run.to ≡ total)
+pub table_few : (p : Parser) (a : ⊤) → limit p Table ≡ Ok a → size_of p Table < table_limit
+table_few p a e = passed_on (leb table_limit (size_of p Table)) _ _ a e (λ b _. leb-false table_limit (size_of p Table) b)
 
-module _ (old total : ℕ) (run : Run) (h : Limited old total run) where
-  pub headed_limited : (part : ℕ) → (eqb part 1 && run.given) ≡ false → Limited part total (begun run 1 part total)
-  headed_limited part = go (eqb part 1) refl
-    where
-      go : (b : Bool) → eqb part 1 ≡ b → (b && run.given) ≡ false → Limited part total (cond b (record { given = true; from = total; to = total }) run)
-      go true i e = record { table = omega arith; others = omega (arith, h.others, h.absent e); absent = λ z. never (sym z); present = λ _. (refl, refl) }
-      go false i e = record { table = h.table; others = h.others; absent = h.absent; present = λ z. absurd (eqb-false part 1 i z) }
+others_few_all : (p : Parser) (a : ⊤) → others_fault p ≡ Ok a → others p < others_limit
+others_few_all p a e = passed_on (leb others_limit (others p)) _ _ a e (λ b _. leb-false others_limit (others p) b)
 
-  pub counted_limited : run.from ≤ run.to → (eqb old 1 && leb table_limit (size run)) ≡ false → (not (eqb old 1) && leb others_limit (total - size run)) ≡ false
-      → Limited old (total + 1) (extended run 1 old (total + 1))
-  counted_limited low = go (eqb old 1) refl
-    where
-      go : (b : Bool) → eqb old 1 ≡ b → (b && leb table_limit (size run)) ≡ false → (not b && leb others_limit (total - size run)) ≡ false
-          → Limited old (total + 1) (cond b (record { given = run.given; from = run.from; to = total + 1 }) run)
-      go true i t o =
-          let now = h.present (eqb-true old 1 i) in
-          let less = leb-false table_limit (size run) t in
-          record {
-            table = omega (arith, low, now.1, less);
-            others = omega (arith, low, now.1, h.others);
-            absent = λ z. never (sym z ∙ now.0);
-            present = λ _. (now.0, refl);
-          }
-      go false i t o =
-          record { table = h.table; others = omega (arith, leb-false others_limit (total - size run) o); absent = h.absent; present = λ z. absurd (eqb-false old 1 i z) }
+pub others_few : (p : Parser) (part : Part) (a : ⊤) → limit p part ≡ Ok a → (part ≡ Table → ⊥) → others p < others_limit
+others_few p Table a e ne = absurd (ne refl)
+others_few p Values a e ne = others_few_all p a e
+others_few p Cells a e ne = others_few_all p a e
+others_few p Allowance a e ne = passed_on (ltb 0 (size_of p Allowance)) _ _ a e (λ _ d. others_few_all p a d)
+others_few p Sheet a e ne = others_few_all p a e
 
--- A part that may be missing
-
--- a part k that was not given is empty; the one that is being read was given
-pub record Kept (k part : ℕ) (run : Run) : Type 0 where
-  pub absent : run.given ≡ false → run ≡ none
-  pub present : part ≡ k → run.given ≡ true
-
-module _ (k old : ℕ) (run : Run) (h : Kept k old run) where
-  pub begun_kept : (part total : ℕ) → Kept k part (begun run k part total)
-  begun_kept part total = go (eqb part k) refl
-    where
-      go : (b : Bool) → eqb part k ≡ b → Kept k part (cond b (record { given = true; from = total; to = total }) run)
-      go true e = record { absent = λ z. never (sym z); present = λ _. refl }
-      go false e = record { absent = h.absent; present = λ z. absurd (eqb-false part k e z) }
-
-  pub extended_kept : (next : ℕ) → Kept k old (extended run k old next)
-  extended_kept next = go (eqb old k) refl
-    where
-      go : (b : Bool) → eqb old k ≡ b → Kept k old (cond b (record { given = run.given; from = run.from; to = next }) run)
-      go true e = let now = h.present (eqb-true old k e) in record { absent = λ z. never (sym z ∙ now); present = λ _. now }
-      go false e = h
+-- nothing is wrong with a number
+pub fits : (p : Parser) (part : Part) (room : ℕ) (a : ⊤) → number_fault p part room ≡ Ok a → (limit p part ≡ Ok tt) × (p.total < room)
+fits p part room a e =
+    then_ok (limit p part) (λ _. cond (ltb p.total room) (Ok tt) (Err RoomFull)) a e
+    (λ x i d. (i, met (ltb p.total room) RoomFull (Ok tt) a d (λ b _. ltb-true p.total room b)))
 
 -- A room for all
 
-not_six : (number : ℕ) (ok : Bool) (rest : ℕ) → (number ≡ 6 → ⊥) → refuse_unless number ok rest ≡ 6 → (ok ≡ true) × (rest ≡ 6)
-not_six number true rest f e = (refl, e)
-not_six number false rest f e = absurd (f e)
+not_full : (b : Bool) (kind : ErrorKind) (r : Result ⊤ ErrorKind) → (kind ≡ RoomFull → ⊥) → (r ≡ Err RoomFull → ⊥) → cond b (Err kind) r ≡ Err RoomFull → ⊥
+not_full true kind r f g e = f cc
+not_full false kind r f g e = g e
 
-pub number_short : (room : ℕ) (p : Parser) → table_limit + others_limit ≤ room → Limited p.part p.total p.table → number_fault p room ≡ 6 → ⊥
-unfolding number_fault
-number_short room p b h e =
-    let first = not_six 3 (not (eqb p.part 0)) _ (λ z. omega arith) e in
-    let second = not_six 5 (not (full p)) _ (λ z. omega arith) first.1 in
-    let third = not_six 13 (not (table_full p)) _ (λ z. omega arith) second.1 in
-    let fourth = not_six 14 (not (others_full p)) _ (λ z. omega arith) third.1 in
-    let last : refuse_unless 6 true 0 ≡ 6 = rw (lt-ltb p.total room (go (eqb p.part 1) (not-true (table_full p) third.0) (not-true (others_full p) fourth.0))) at fourth.1 in
-    omega arith
-  where
-    go : (t : Bool) → (t && leb table_limit (size p.table)) ≡ false → (not t && leb others_limit (p.total - size p.table)) ≡ false → p.total < room
-    go true t o = omega (arith, leb-false table_limit (size p.table) t, h.others)
-    go false t o = omega (arith, leb-false others_limit (p.total - size p.table) o, h.table)
+others_not : (p : Parser) → others_fault p ≡ Err RoomFull → ⊥
+others_not p = not_full (leb others_limit (others p)) OthersFull (Ok tt) (λ z. cc) (λ z. cc)
 
-short-first : (fault rest : ℕ) → (rest ≡ 6 → ⊥) → refuse_unless fault (eqb fault 0) rest ≡ 6 → fault ≡ 6
-short-first fault rest f = go (eqb fault 0)
-  where
-    go : (b : Bool) → cond b rest fault ≡ 6 → fault ≡ 6
-    go true e = absurd (f e)
-    go false e = e
+limit_not : (p : Parser) (part : Part) → limit p part ≡ Err RoomFull → ⊥
+limit_not p Table = not_full (leb table_limit (size_of p Table)) TableFull (Ok tt) (λ z. cc) (λ z. cc)
+limit_not p Values = others_not p
+limit_not p Cells = others_not p
+limit_not p Allowance = not_full (ltb 0 (size_of p Allowance)) SecondAllowance (others_fault p) (λ z. cc) (others_not p)
+limit_not p Sheet = others_not p
 
--- a parsed text that the room is too short for was so at a number
-pub ended-short : (p : Parser) (whole : Bool) → ended p whole ≡ 6 → p.fault ≡ 6
-unfolding ended
-ended-short p whole =
-    short-first p.fault _
-    (λ e.
-    let first = not_six 12 whole _ (λ z. omega arith) e in
-    let second = not_six 7 p.table.given _ (λ z. omega arith) first.1 in
-    let third = not_six 8 p.values.given _ (λ z. omega arith) second.1 in
-    let fourth = not_six 9 p.cells.given _ (λ z. omega arith) third.1 in
-    let fifth = not_six 10 p.allowance.given _ (λ z. omega arith) fourth.1 in
-    let last = not_six 11 (not (eqb p.allowance.from p.allowance.to)) 0 (λ z. omega arith) fifth.1 in
-    omega (arith, last.1))
+few_enough : (p : Parser) (part : Part) (a : ⊤) → size_of p Table ≤ table_limit → others p ≤ others_limit → limit p part ≡ Ok a → p.total < table_limit + others_limit
+few_enough p Table a t o e = let few = table_few p a e in omega arith
+few_enough p Values a t o e = let few = others_few p Values a e (λ z. cc) in omega arith
+few_enough p Cells a t o e = let few = others_few p Cells a e (λ z. cc) in omega arith
+few_enough p Allowance a t o e = let few = others_few p Allowance a e (λ z. cc) in omega arith
+few_enough p Sheet a t o e = let few = others_few p Sheet a e (λ z. cc) in omega arith
+
+full_at : {A E : Type 0} (b : Bool) (a : A) (x y : E) → cond b (Ok a) (Err x) ≡ Err y → b ≡ false
+full_at true a x y e = absurd cc
+full_at false a x y e = refl
+
+pub number_short : (p : Parser) (part : Part) (room : ℕ) → table_limit + others_limit ≤ room → size_of p Table ≤ table_limit → others p ≤ others_limit
+    → number_fault p part room ≡ Err RoomFull → ⊥
+number_short p part room b t o e =
+    then_err (limit p part) (λ _. cond (ltb p.total room) (Ok tt) (Err RoomFull)) RoomFull e
+    (limit_not p part)
+    (λ a i d. let few = few_enough p part a t o i in let full = ltb-false p.total room (full_at (ltb p.total room) tt RoomFull RoomFull d) in omega arith)

@@ -1,6 +1,6 @@
 -- A scan of a text: what is left of the tokens after some bytes, and of parsing them.
 -- Assumes nothing.
-use mathlib.Core.Path.{◌≡◌, sym, ap, ◌∙◌}
+use mathlib.Core.Path.{◌≡◌, refl, sym, ap, ◌∙◌}
 use mathlib.Core.Bool.{Bool}
 use mathlib.Core.List.{List, [], ◌∷◌}
 use Prim.Native.Nat.{ℕ, ◌+◌, ◌≤◌, ◌<◌}
@@ -8,11 +8,14 @@ use native.Mathlib.Numerals.{add-one}
 use native.Mathlib.Omega.{arith}
 use lib.ListN.{length, drop, get_or, drop_of_length-le}
 use lib.Seq.{drop-cons}
+use Rattle.std.specs.Prelude.{Option, Result, Ok, Err}
 use Rattle.cases.specs.declared.lexer.Lexer.{Lexer}
+use Rattle.cases.specs.declared.lexer.Lexer.TheVariants.{Blank}
 use Rattle.cases.specs.declared.lexer.Token.{Token}
+use Rattle.cases.specs.declared.parser.Fault.{Fault}
 use Rattle.cases.specs.declared.parser.Parser.{Parser}
-use Rattle.cases.specs.Lexing.{fresh, lexed, token_at, token_at_end, lex}
-use Rattle.cases.specs.Parsing.{start, taken, parse}
+use Rattle.cases.specs.Lexing.{lexed, token_at, token_at_end, lex}
+use Rattle.cases.specs.Parsing.{start, then_on, taken, parse}
 
 -- from byte i on
 module _ (whole : Bool) (text : List ℕ) (l : Lexer) (i : ℕ) where
@@ -27,29 +30,49 @@ module _ (whole : Bool) (text : List ℕ) (l : Lexer) (i : ℕ) where
 -- the parse has come to byte i
 pub record Parsed (whole : Bool) (room : ℕ) (text : List ℕ) (l : Lexer) (p : Parser) (i : ℕ) : Type 0 where
   pub within : i ≤ length text
-  pub is : parse room 0 start (lex whole fresh text) ≡ parse room i p (lex whole l (drop i text))
+  pub is : parse room 0 start (lex whole Blank text) ≡ parse room i p (lex whole l (drop i text))
+
+pub parsed_none : (whole : Bool) (room : ℕ) (text : List ℕ) → Parsed whole room text Blank start 0
+parsed_none whole room text = record { within = omega arith; is = refl }
 
 module _ (whole : Bool) (room : ℕ) (text : List ℕ) (l : Lexer) (p : Parser) where
-  pub parsed_none : l ≡ fresh → p ≡ start → Parsed whole room text l p 0
-  parsed_none e f = record { within = omega arith; is = ap (λ (q : Parser). parse room 0 q (lex whole fresh text)) (sym f) ∙ ap (λ (k : Lexer). parse room 0 p (lex whole k text)) (sym e) }
-
   module _ (i : ℕ) (h : Parsed whole room text l p i) where
-    pub parsed_more : i < length text → (token : Token) → token ≡ token_at l (get_or text i 0) → (q : Parser) → q ≡ taken room i p token
-        → (k : Lexer) → k ≡ lexed l (get_or text i 0) → Parsed whole room text k q (i + 1)
-    unfolding parse
-    parsed_more b token t q e k f =
-        record {
-          within = omega arith;
-          is =
-              h.is
-              ∙ ap (parse room i p) (lex_turn whole text l i b)
-              ∙ ap (λ (n : ℕ). parse room n (taken room i p (token_at l (get_or text i 0))) (lex whole (lexed l (get_or text i 0)) (drop (i + 1) text))) (sym (add-one i))
-              ∙ ap (λ (r : Parser). parse room (i + 1) r (lex whole (lexed l (get_or text i 0)) (drop (i + 1) text))) (sym (e ∙ ap (taken room i p) t))
-              ∙ ap (λ (r : Lexer). parse room (i + 1) q (lex whole r (drop (i + 1) text))) (sym f);
-        }
+    -- byte i ends a token, or none
+    module _ (b : i < length text) (token : Option Token) (t : token ≡ token_at l (get_or text i 0)) where
+      turn : parse room 0 start (lex whole Blank text) ≡ then_on (taken room i p token) (λ q. parse room (i + 1) q (lex whole (lexed l (get_or text i 0)) (drop (i + 1) text)))
+      unfolding parse
+      turn =
+          h.is
+          ∙ ap (parse room i p) (lex_turn whole text l i b)
+          ∙ ap (λ (n : ℕ). then_on (taken room i p (token_at l (get_or text i 0))) (λ q. parse room n q (lex whole (lexed l (get_or text i 0)) (drop (i + 1) text)))) (sym (add-one i))
+          ∙ ap (λ (u : Option Token). then_on (taken room i p u) (λ q. parse room (i + 1) q (lex whole (lexed l (get_or text i 0)) (drop (i + 1) text)))) (sym t)
 
-    pub parsed_all : length text ≤ i → taken room (length text) p (token_at_end l whole) ≡ parse room 0 start (lex whole fresh text)
+      pub parsed_more : (q : Parser) → Ok q ≡ taken room i p token → (k : Lexer) → k ≡ lexed l (get_or text i 0) → Parsed whole room text k q (i + 1)
+      parsed_more q e k f =
+          record {
+            within = omega arith;
+            is =
+                turn
+                ∙ ap (λ (r : Result Parser Fault). then_on r (λ q. parse room (i + 1) q (lex whole (lexed l (get_or text i 0)) (drop (i + 1) text)))) (sym e)
+                ∙ ap (λ (r : Lexer). parse room (i + 1) q (lex whole r (drop (i + 1) text))) (sym f);
+          }
+
+      pub parsed_fault : (fault : Fault) → Err fault ≡ taken room i p token → Err fault ≡ parse room 0 start (lex whole Blank text)
+      parsed_fault fault e =
+          sym
+          (turn
+          ∙ ap (λ (r : Result Parser Fault). then_on r (λ q. parse room (i + 1) q (lex whole (lexed l (get_or text i 0)) (drop (i + 1) text)))) (sym e))
+
+    pub parsed_all : length text ≤ i → taken room (length text) p (token_at_end l whole) ≡ parse room 0 start (lex whole Blank text)
     unfolding parse
     parsed_all end =
         let e : i ≡ length text = let b : i ≤ length text = h.within in omega arith in
-        sym (h.is ∙ ap (parse room i p) (lex_end whole text l i end) ∙ ap (λ (n : ℕ). taken room n p (token_at_end l whole)) e)
+        sym
+        (h.is
+        ∙ ap (parse room i p) (lex_end whole text l i end)
+        ∙ last (taken room i p (token_at_end l whole))
+        ∙ ap (λ (n : ℕ). taken room n p (token_at_end l whole)) e)
+      where
+        last : (r : Result Parser Fault) → then_on r Ok ≡ r
+        last (Ok q) = refl
+        last (Err fault) = refl

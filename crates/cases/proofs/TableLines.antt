@@ -1,82 +1,107 @@
 -- The table of a parsed text has as many numbers as there are lines of them.
 -- Assumes nothing.
-use mathlib.Core.Path.{◌≡◌, refl, ap}
-use mathlib.Core.Bool.{Bool, true, false, cond, ◌&&◌}
-use mathlib.Core.List.{List, [], ◌∷◌}
-use Prim.Native.Nat.{ℕ, suc, ◌+◌, ◌≤◌}
-use native.Mathlib.Omega.{arith}
-use lib.Dec.{eqb}
-use lib.ListN.{length}
-use borrow.Author.Tests.{eqb-true, eqb-false}
+use Rattle.std.proofs.Common.{◌≡◌, ℕ, suc, ◌+◌, Bool, true, false, cond, eqb, List, [], ◌∷◌, length, Option, Some, None, Ok, refl, sym, ap, subst, ◌∙◌, arith}
+use Rattle.std.specs.Option.{option_map}
+use Rattle.cases.specs.declared.part.Part.{Part}
+use Rattle.cases.specs.declared.part.Part.TheVariants.{Table, Values, Cells, Allowance, Sheet}
 use Rattle.cases.specs.declared.lexer.Lexer.{Lexer}
 use Rattle.cases.specs.declared.lexer.Token.{Token}
-use Rattle.cases.specs.declared.lexer.Token.TheVariants.{Nothing, Number, Heading, Unknown, TooLarge}
+use Rattle.cases.specs.declared.lexer.Token.TheVariants.{Number, Heading, Unknown, TooLarge}
+use Rattle.cases.specs.declared.parser.Run.{Run}
 use Rattle.cases.specs.declared.parser.Parser.{Parser}
+use Rattle.cases.specs.Parts.{number_or_none}
 use Rattle.cases.specs.Places.{feed}
 use Rattle.cases.specs.Lexing.{lexed, token_at, token_at_end, lex}
-use Rattle.cases.specs.Parsing.{begun, extended, is_given, size, headed, number_fault, counted, taken_by, taken, parse}
+use Rattle.cases.specs.Parsing.{run_of, size, size_of, begun, until, extended, headed_at, number_fault, counted_in, taken_by, taken, parse}
 use Rattle.cases.specs.Lines.{part_after, belongs, lines_from}
-use Rattle.cases.proofs.Totals.{Sound, pick, table_given, taken-sound, parse_counts}
+use Rattle.cases.proofs.Results.{then_ok}
+use Rattle.cases.proofs.Limits.{table_after, grown_size}
+use Rattle.cases.proofs.Totals.{Sound, found_ok, taken-sound}
 
--- where q has no fault, it is p with the token's number, if that is the table's
-After : Parser → Token → Parser → Type 0
-After p token q = q.fault ≡ 0 → (q.part ≡ part_after p.part token) × (size q.table ≡ size p.table + cond (belongs false 1 p.part token) 1 0)
+-- 1 where it is the table
+abbrev tabled : Option Part → ℕ
+tabled now = cond (eqb (number_or_none now) 1) 1 0
 
-module _ (room at : ℕ) (p : Parser) (h : Sound room p) where
-  more : size (extended p.table 1 p.part (p.total + 1)) ≡ size p.table + cond (eqb p.part 1) 1 0
-  more = go (eqb p.part 1) refl
+-- q is p with the token's number, if that is the table's
+After : Parser → Option Token → Parser → Type 0
+After p token q = (q.part ≡ part_after p.part token) × (size_of q Table ≡ size_of p Table + cond (belongs false 1 p.part token) 1 0)
+
+module _ (room : ℕ) (p : Parser) (h : Sound room p) where
+  more : (part : Part) → p.part ≡ Some part → size_of (extended p part) Table ≡ size_of p Table + tabled (Some part)
+  more part now =
+      table_after (λ r. size r ≡ size_of p Table + tabled (Some part)) p.runs part _ h.five
+      (λ z.
+      let one : tabled (Some part) ≡ 1 = ap (λ (k : Part). tabled (Some k)) z in
+      let grown = ap (λ (k : Part). size (option_map (until (p.total + 1)) (run_of p k))) z ∙ grown_size (run_of p Table) p.total (h.runs Table) (h.reading (now ∙ ap Some z)) in
+      omega arith)
+      (λ ne. let none : tabled (Some part) ≡ 0 = other part ne in omega arith)
     where
-      go : (b : Bool) → eqb p.part 1 ≡ b → size (cond b (record { given = p.table.given; from = p.table.from; to = p.total + 1 }) p.table) ≡ size p.table + cond b 1 0
-      go true e =
-          let end : p.table.to ≡ p.total = (h.limits.present (eqb-true p.part 1 e)).1 in
-          let low : p.table.from ≤ p.table.to = h.table.low in
-          omega arith
-      go false e = omega arith
+      other : (part : Part) → (part ≡ Table → ⊥) → tabled (Some part) ≡ 0
+      other Table ne = absurd (ne refl)
+      other Values ne = refl
+      other Cells ne = refl
+      other Allowance ne = refl
+      other Sheet ne = refl
 
-  same : (part : ℕ) → (eqb part 1 && p.table.given) ≡ false → size (begun p.table 1 part p.total) ≡ size p.table
-  same part = go (eqb part 1)
-    where
-      go : (b : Bool) → (b && p.table.given) ≡ false → size (cond b (record { given = true; from = p.total; to = p.total }) p.table) ≡ size p.table
-      go true e = let none : size p.table ≡ 0 = h.limits.absent e in omega arith
-      go false e = refl
+  same : (part : Part) → run_of p part ≡ None → size_of (begun p part) Table ≡ size_of p Table
+  same part none =
+      table_after (λ r. size r ≡ size_of p Table) p.runs part _ h.five
+      (λ z. let empty = ap size (ap (run_of p) (sym z) ∙ none) in omega arith)
+      (λ _. refl)
 
-  taken_by-after : (token : Token) → After p token (taken_by room at p token)
-  unfolding After headed counted
-  taken_by-after Nothing e = (refl, omega arith)
-  taken_by-after (Number n) e =
-      pick (After p (Number n)) (eqb (number_fault p room) 0)
-      (λ _ _. (refl, more))
-      (λ i f. absurd (eqb-false (number_fault p room) 0 i f))
-      e
-  taken_by-after (Heading part) e =
-      pick (After p (Heading part)) (is_given p part)
-      (λ _ f. absurd (omega arith))
-      (λ i _. (refl, let z = same part (table_given p part i) in omega arith))
-      e
-  taken_by-after Unknown e = absurd (omega arith)
-  taken_by-after TooLarge e = absurd (omega arith)
-
-  taken-after : (token : Token) → After p token (taken room at p token)
+  headed-after : (part : Part) (given : Option Run) → run_of p part ≡ given → (q : Parser) → headed_at p part given ≡ Ok q → After p (Some (Heading part)) q
   unfolding After
-  taken-after token = pick (After p token) (eqb p.fault 0) (λ _. taken_by-after token) (λ e f. absurd (eqb-false p.fault 0 e f))
+  headed-after part None none q e =
+      let is : begun p part ≡ q = cc in
+      subst (λ (r : Parser). (r.part ≡ Some part) × (size_of r Table ≡ size_of p Table + 0)) is (refl, let s = same part none in omega arith)
+  headed-after part (Some run) given q e = absurd cc
+
+  counted-after : (n : ℕ) (now : Option Part) → p.part ≡ now → (q : Parser) → counted_in p room now ≡ Ok q → After p (Some (Number n)) q
+  unfolding After
+  counted-after n None now q e = absurd cc
+  counted-after n (Some part) now q e =
+      then_ok (number_fault p part room) (λ _. Ok (extended p part)) q e
+      (λ a i d.
+      let is : extended p part ≡ q = cc in
+      let hit : tabled p.part ≡ tabled (Some part) = ap (λ (k : Option Part). tabled k) now in
+      subst (λ (r : Parser). (r.part ≡ p.part) × (size_of r Table ≡ size_of p Table + tabled p.part)) is
+      (refl, more part now ∙ ap (λ (k : ℕ). size_of p Table + k) (sym hit)))
+
+  taken_by-after : (token : Token) (q : Parser) → taken_by room p token ≡ Ok q → After p (Some token) q
+  taken_by-after (Number n) q e = counted-after n p.part refl q e
+  taken_by-after (Heading part) q e = headed-after part (run_of p part) refl q e
+  taken_by-after Unknown q e = absurd cc
+  taken_by-after TooLarge q e = absurd cc
+
+  taken-after : (at : ℕ) (token : Option Token) (q : Parser) → taken room at p token ≡ Ok q → After p token q
+  unfolding After
+  taken-after at None q e =
+      let is : p ≡ q = cc in
+      subst (λ (r : Parser). (r.part ≡ p.part) × (size_of r Table ≡ size_of p Table + 0)) is (refl, omega arith)
+  taken-after at (Some token) q e = taken_by-after token q (found_ok at (taken_by room p token) q e)
 
 hits : (b : Bool) (line : ℕ) (lines : List ℕ) → length (cond b (line ∷ lines) lines) ≡ cond b 1 0 + length lines
 hits true line lines = omega arith
 hits false line lines = omega arith
 
-pub parse_lines : (whole : Bool) (l : Lexer) (text : List ℕ) (room at : ℕ) (p : Parser) (line : ℕ) → Sound room p → (parse room at p (lex whole l text)).fault ≡ 0
-    → size (parse room at p (lex whole l text)).table ≡ size p.table + length (lines_from false 1 p.part line text (lex whole l text))
+pub parse_lines : (whole : Bool) (l : Lexer) (text : List ℕ) (room at : ℕ) (p : Parser) (line : ℕ) (q : Parser) → Sound room p → parse room at p (lex whole l text) ≡ Ok q
+    → size_of q Table ≡ size_of p Table + length (lines_from false 1 p.part line text (lex whole l text))
 unfolding parse lex lines_from After
-parse_lines whole l [] room at p line h e =
+parse_lines whole l [] room at p line q h e =
     let token = token_at_end l whole in
-    let after = taken-after room at p h token e in
-    omega (arith, after.1, hits (belongs false 1 p.part token) line [])
-parse_lines whole l (b ∷ bs) room at p line h e =
+    then_ok (taken room at p token) Ok q e
+    (λ r i later.
+    let is : r ≡ q = cc in
+    let after = taken-after room p h at token r i in
+    let size_is = ap (λ (k : Parser). size_of k Table) is in
+    omega (arith, after.1, hits (belongs false 1 p.part token) line []))
+parse_lines whole l (b ∷ bs) room at p line q h e =
     let token = token_at l b in
-    let q = taken room at p token in
     let tokens = lex whole (lexed l b) bs in
-    let after = taken-after room at p h token (parse_counts room (suc at) q tokens e).0 in
-    let later = parse_lines whole (lexed l b) bs room (suc at) q (line + feed b) (taken-sound room at p h token) e in
-    let rest = lines_from false 1 (part_after p.part token) (line + feed b) bs tokens in
-    let same : length (lines_from false 1 q.part (line + feed b) bs tokens) ≡ length rest = ap (λ (k : ℕ). length (lines_from false 1 k (line + feed b) bs tokens)) after.0 in
-    omega (arith, later, after.1, same, hits (belongs false 1 p.part token) line rest)
+    then_ok (taken room at p token) (λ r. parse room (suc at) r tokens) q e
+    (λ r i rest.
+    let after = taken-after room p h at token r i in
+    let later = parse_lines whole (lexed l b) bs room (suc at) r (line + feed b) q (taken-sound room at p token r h i) rest in
+    let left = lines_from false 1 (part_after p.part token) (line + feed b) bs tokens in
+    let same : length (lines_from false 1 r.part (line + feed b) bs tokens) ≡ length left = ap (λ (k : Option Part). length (lines_from false 1 k (line + feed b) bs tokens)) after.0 in
+    omega (arith, later, after.1, same, hits (belongs false 1 p.part token) line left))

@@ -1,198 +1,250 @@
--- What a parse keeps: the parts are among the numbers read, and where there is no fault these are all the text's numbers.
+-- What a parse keeps: the parts are among the numbers read, and these are all the text's numbers.
 -- Assumes nothing.
-use mathlib.Core.Path.{◌≡◌, refl, sym, ap, subst, ◌∙◌}
-use mathlib.Core.Bool.{Bool, true, false, not, cond, ◌&&◌}
-use mathlib.Core.List.{List, [], ◌∷◌}
-use Prim.Native.Nat.{ℕ, suc, ◌+◌, ◌≤◌}
-use native.Mathlib.Omega.{arith}
-use lib.Dec.{eqb, ltb}
-use lib.ListN.{length, length-append}
-use borrow.Author.Tests.{eqb-true, eqb-false, ltb-false, not-true}
+use Rattle.std.proofs.Common.{◌≡◌, ℕ, suc, ◌+◌, ◌-◌, ◌≤◌, Bool, true, false, cond, eqb, ltb, List, [], ◌∷◌, length, length-append, Option, Some, None, Result, Ok, Err, refl, sym, ap, subst, ◌∙◌, arith}
+use Rattle.std.proofs.lemmas.List.{length-set}
+use Rattle.std.specs.Option.{ok_or, option_map}
+use Rattle.std.specs.Bool.{⊤}
+use borrow.Author.Tests.{eqb-false, ltb-false}
+use Rattle.cases.specs.declared.part.Part.{Part}
+use Rattle.cases.specs.declared.part.Part.TheVariants.{Table, Values, Cells, Allowance, Sheet}
+use Rattle.cases.specs.declared.error.ErrorKind.{ErrorKind}
+use Rattle.cases.specs.declared.error.ErrorKind.TheVariants.{RoomFull, NoTable, NoValues, NoCells, NoAllowance, EmptyAllowance, LongText}
 use Rattle.cases.specs.declared.lexer.Token.{Token}
-use Rattle.cases.specs.declared.lexer.Token.TheVariants.{Nothing, Number, Heading, Unknown, TooLarge}
+use Rattle.cases.specs.declared.lexer.Token.TheVariants.{Number, Heading, Unknown, TooLarge}
 use Rattle.cases.specs.declared.parser.Run.{Run}
+use Rattle.cases.specs.declared.parser.Fault.{Fault}
 use Rattle.cases.specs.declared.parser.Parser.{Parser}
-use Rattle.cases.specs.Parsing.{table_limit, others_limit, none, start, failed, begun, extended, is_given, refuse_unless, headed, number_fault, counted, taken_by, taken, parse, ended}
+use Rattle.cases.specs.declared.Case.{Case}
+use Rattle.cases.specs.Parts.{index}
+use Rattle.cases.specs.Parsing.{table_limit, others_limit, start, run_of, size, size_of, others, limit, begun, until, extended, headed_at, number_fault, counted_in, taken_by, found_at, taken, parse, case_of}
 use Rattle.cases.specs.Numbers.{number_in, numbers_in}
-use Rattle.cases.specs.Reading.{capped, case_of, Within, Placed}
-use Rattle.cases.proofs.Booleans.{or-first}
-use Rattle.cases.proofs.Limits.{no-refusal, fits, Limited, headed_limited, counted_limited, Kept, begun_kept, extended_kept, number_short}
+use Rattle.cases.specs.Reading.{capped, WithinIf, Placed}
+use Rattle.cases.proofs.Results.{then_ok, then_err, passed_on, met, unmet}
+use Rattle.cases.proofs.Limits.{set_each, table_after, EndsAt, wider, grown_within, grown_size, grown_ends, table_few, others_few, fits, number_short}
 
--- The parts
-
+-- the parts are among the numbers read, both limits are kept, and the table goes up to the last number while it is being read
 pub record Sound (room : ℕ) (p : Parser) : Type 0 where
-  pub table : Within p.table p.total
-  pub values : Within p.values p.total
-  pub cells : Within p.cells p.total
-  pub allowance : Within p.allowance p.total
-  pub sheet : Within p.sheet p.total
+  pub five : length p.runs ≡ 5
+  pub runs : (part : Part) → WithinIf (run_of p part) p.total
   pub few : p.total ≤ room
-  pub limits : Limited p.part p.total p.table
-  pub sheeted : Kept 5 p.part p.sheet
-  pub short : table_limit + others_limit ≤ room → p.fault ≡ 6 → ⊥
+  pub table : size_of p Table ≤ table_limit
+  pub others : others p ≤ others_limit
+  pub reading : p.part ≡ Some Table → EndsAt p.total (run_of p Table)
 
-begun-within : (run : Run) (k part total : ℕ) → Within run total → Within (begun run k part total) total
-begun-within run k part total h = go (eqb part k)
-  where
-    go : (b : Bool) → Within (cond b (record { given = true; from = total; to = total }) run) total
-    go true = record { low = omega arith; high = omega arith }
-    go false = h
-
-extended-within : (run : Run) (k part total : ℕ) → Within run total → Within (extended run k part (total + 1)) (total + 1)
-extended-within run k part total h = go (eqb part k)
-  where
-    go : (b : Bool) → Within (cond b (record { given = run.given; from = run.from; to = total + 1 }) run) (total + 1)
-    go true = record { low = omega (arith, h.low, h.high); high = omega arith }
-    go false = record { low = h.low; high = omega (arith, h.high) }
-
-pub pick : (P : Parser → Type 0) (b : Bool) {x y : Parser} → (b ≡ true → P x) → (b ≡ false → P y) → P (cond b x y)
-pick P true f g = f refl
-pick P false f g = g refl
+none_given : (part : Part) → run_of start part ≡ None
+none_given Table = refl
+none_given Values = refl
+none_given Cells = refl
+none_given Allowance = refl
+none_given Sheet = refl
 
 pub start-sound : (room : ℕ) → Sound room start
 start-sound room =
-    let empty : Within none 0 = record { low = omega arith; high = omega arith } in
     record {
-      table = empty;
-      values = empty;
-      cells = empty;
-      allowance = empty;
-      sheet = empty;
+      five = refl;
+      runs = λ part. subst (λ r. WithinIf r 0) (sym (none_given part)) tt;
       few = omega arith;
-      limits = record { table = omega arith; others = omega arith; absent = λ _. refl; present = λ z. absurd (omega arith) };
-      sheeted = record { absent = λ _. refl; present = λ z. absurd (omega arith) };
-      short = λ _ z. omega arith;
+      table = omega arith;
+      others = omega arith;
+      reading = λ z. absurd cc;
     }
 
-pub table_given : (p : Parser) (part : ℕ) → is_given p part ≡ false → (eqb part 1 && p.table.given) ≡ false
-table_given p part e = or-first _ _ (or-first _ _ (or-first _ (eqb part 4 && p.allowance.given) (or-first _ (eqb part 5 && p.sheet.given) e)))
-
-module _ (room at : ℕ) (p : Parser) (h : Sound room p) where
-  failed-sound : (kind : ℕ) → (table_limit + others_limit ≤ room → kind ≡ 6 → ⊥) → Sound room (failed p kind at)
-  failed-sound kind f = record { table = h.table; values = h.values; cells = h.cells; allowance = h.allowance; sheet = h.sheet; few = h.few; limits = h.limits; sheeted = h.sheeted; short = f }
-
-  headed-sound : (part : ℕ) → Sound room (headed p part at)
-  unfolding headed
-  headed-sound part =
-      pick (Sound room) (is_given p part) (λ _. failed-sound 4 (λ _ z. omega arith))
-      (λ e.
+module _ (room : ℕ) (p : Parser) (h : Sound room p) where
+  begun-sound : (part : Part) → run_of p part ≡ None → Sound room (begun p part)
+  begun-sound part none =
       record {
-        table = begun-within p.table 1 part p.total h.table;
-        values = begun-within p.values 2 part p.total h.values;
-        cells = begun-within p.cells 3 part p.total h.cells;
-        allowance = begun-within p.allowance 4 part p.total h.allowance;
-        sheet = begun-within p.sheet 5 part p.total h.sheet;
+        five = length-set p.runs (index part) _ ∙ h.five;
+        runs = λ other. set_each (λ r. WithinIf r p.total) p.runs (index part) (index other) _ (record { low = omega arith; high = omega arith }) (h.runs other);
         few = h.few;
-        limits = headed_limited p.part p.total p.table h.limits part (table_given p part e);
-        sheeted = begun_kept 5 p.part p.sheet h.sheeted part p.total;
-        short = h.short;
-      })
+        table = table_after (λ r. size r ≤ table_limit) p.runs part _ h.five (λ _. omega arith) (λ _. h.table);
+        others = table_after (λ r. p.total - size r ≤ others_limit) p.runs part _ h.five (λ z. let e = ap size (ap (run_of p) (sym z) ∙ none) in let o = h.others in omega arith) (λ _. h.others);
+        reading = table_after (λ r. Some part ≡ Some Table → EndsAt p.total r) p.runs part _ h.five (λ _ _. refl) (λ ne z. absurd (ne cc));
+      }
 
-  counted-sound : Sound room (counted p room at)
-  unfolding counted
-  counted-sound =
-      pick (Sound room) (eqb (number_fault p room) 0)
-      (λ e.
-      let ok = fits room p (eqb-true (number_fault p room) 0 e) in
+  extended-sound : (part : Part) → p.part ≡ Some part → (a : ⊤) → number_fault p part room ≡ Ok a → Sound room (extended p part)
+  extended-sound part now a e =
+      let ok = fits p part room a e in
+      let ends : part ≡ Table → EndsAt p.total (run_of p Table) = λ z. h.reading (now ∙ ap Some z) in
+      let table = run_of p Table in
+      let at : part ≡ Table → option_map (until (p.total + 1)) (run_of p part) ≡ option_map (until (p.total + 1)) table = λ z. ap (λ (k : Part). option_map (until (p.total + 1)) (run_of p k)) z in
       record {
-        table = extended-within p.table 1 p.part p.total h.table;
-        values = extended-within p.values 2 p.part p.total h.values;
-        cells = extended-within p.cells 3 p.part p.total h.cells;
-        allowance = extended-within p.allowance 4 p.part p.total h.allowance;
-        sheet = extended-within p.sheet 5 p.part p.total h.sheet;
-        few = omega (arith, ok.space);
-        limits = counted_limited p.part p.total p.table h.limits h.table.low ok.table ok.others;
-        sheeted = extended_kept 5 p.part p.sheet h.sheeted (p.total + 1);
-        short = h.short;
-      })
-      (λ _. failed-sound (number_fault p room) (λ b. number_short room p b h.limits))
+        five = length-set p.runs (index part) _ ∙ h.five;
+        runs = λ other. set_each (λ r. WithinIf r (p.total + 1)) p.runs (index part) (index other) _ (grown_within (run_of p part) p.total (h.runs part)) (wider (run_of p other) p.total (p.total + 1) (omega arith) (h.runs other));
+        few = let room_left = ok.1 in omega arith;
+        table = table_after (λ r. size r ≤ table_limit) p.runs part _ h.five
+            (λ z.
+            let more = ap size (at z) ∙ grown_size table p.total (h.runs Table) (ends z) in
+            let few = table_few p tt (subst (λ (k : Part). limit p k ≡ Ok tt) z ok.0) in
+            omega arith)
+            (λ _. h.table);
+        others = table_after (λ r. (p.total + 1) - size r ≤ others_limit) p.runs part _ h.five
+            (λ z.
+            let more = ap size (at z) ∙ grown_size table p.total (h.runs Table) (ends z) in
+            let o = h.others in
+            omega arith)
+            (λ ne. let few = others_few p part tt ok.0 ne in omega arith);
+        reading = table_after (λ r. p.part ≡ Some Table → EndsAt (p.total + 1) r) p.runs part _ h.five
+            (λ z _. subst (EndsAt (p.total + 1)) (sym (at z)) (grown_ends table p.total (ends z)))
+            (λ ne z. absurd (ne (let same : Some part ≡ Some Table = sym now ∙ z in cc)));
+      }
 
-  taken_by-sound : (token : Token) → Sound room (taken_by room at p token)
-  taken_by-sound Nothing = h
-  taken_by-sound (Number n) = counted-sound
-  taken_by-sound (Heading part) = headed-sound part
-  taken_by-sound Unknown = failed-sound 1 (λ _ z. omega arith)
-  taken_by-sound TooLarge = failed-sound 2 (λ _ z. omega arith)
+  headed-sound : (part : Part) (given : Option Run) → run_of p part ≡ given → (q : Parser) → headed_at p part given ≡ Ok q → Sound room q
+  headed-sound part None none q e = let same : begun p part ≡ q = cc in subst (Sound room) same (begun-sound part none)
+  headed-sound part (Some run) given q e = absurd cc
 
-  pub taken-sound : (token : Token) → Sound room (taken room at p token)
-  taken-sound token = pick (Sound room) (eqb p.fault 0) (λ _. taken_by-sound token) (λ _. h)
+  counted-sound : (now : Option Part) → p.part ≡ now → (q : Parser) → counted_in p room now ≡ Ok q → Sound room q
+  counted-sound None now q e = absurd cc
+  counted-sound (Some part) now q e =
+      then_ok (number_fault p part room) (λ _. Ok (extended p part)) q e (λ a i d. let same : extended p part ≡ q = cc in subst (Sound room) same (extended-sound part now a i))
 
-parse-sound : (room at : ℕ) (p : Parser) (tokens : List Token) → Sound room p → Sound room (parse room at p tokens)
+  taken_by-sound : (token : Token) (q : Parser) → taken_by room p token ≡ Ok q → Sound room q
+  taken_by-sound (Number n) q e = counted-sound p.part refl q e
+  taken_by-sound (Heading part) q e = headed-sound part (run_of p part) refl q e
+  taken_by-sound Unknown q e = absurd cc
+  taken_by-sound TooLarge q e = absurd cc
+
+  -- a room for all is never too short
+  counted-short : (now : Option Part) → table_limit + others_limit ≤ room → counted_in p room now ≡ Err RoomFull → ⊥
+  counted-short None b e = cc
+  counted-short (Some part) b e =
+      then_err (number_fault p part room) (λ _. Ok (extended p part)) RoomFull e
+      (number_short p part room b h.table h.others)
+      (λ a i d. cc)
+
+  headed-short : (part : Part) (given : Option Run) → headed_at p part given ≡ Err RoomFull → ⊥
+  headed-short part None e = cc
+  headed-short part (Some run) e = cc
+
+  taken_by-short : (token : Token) → table_limit + others_limit ≤ room → taken_by room p token ≡ Err RoomFull → ⊥
+  taken_by-short (Number n) b e = counted-short p.part b e
+  taken_by-short (Heading part) b e = headed-short part (run_of p part) e
+  taken_by-short Unknown b e = cc
+  taken_by-short TooLarge b e = cc
+
+-- a token that was taken, with no fault, or found at fault
+pub found_ok : (at : ℕ) (r : Result Parser ErrorKind) (q : Parser) → found_at at r ≡ Ok q → r ≡ Ok q
+found_ok at (Ok p) q e = cc
+found_ok at (Err kind) q e = absurd cc
+
+pub found_err : (at : ℕ) (r : Result Parser ErrorKind) (f : Fault) → found_at at r ≡ Err f → r ≡ Err f.kind
+found_err at (Ok p) f e = absurd cc
+found_err at (Err kind) f e = let same : record { kind = kind; at = at } ≡ f = cc in ap (λ (g : Fault). Err g.kind) same
+
+pub taken-sound : (room at : ℕ) (p : Parser) (token : Option Token) (q : Parser) → Sound room p → taken room at p token ≡ Ok q → Sound room q
+taken-sound room at p None q h e = let same : p ≡ q = cc in subst (Sound room) same h
+taken-sound room at p (Some token) q h e = taken_by-sound room p h token q (found_ok at (taken_by room p token) q e)
+
+pub parse-sound : (room at : ℕ) (p : Parser) (tokens : List (Option Token)) (q : Parser) → Sound room p → parse room at p tokens ≡ Ok q → Sound room q
 unfolding parse
-parse-sound room at p [] h = h
-parse-sound room at p (token ∷ tokens) h = parse-sound room (suc at) (taken room at p token) tokens (taken-sound room at p h token)
+parse-sound room at p [] q h e = let same : p ≡ q = cc in subst (Sound room) same h
+parse-sound room at p (token ∷ tokens) q h e =
+    then_ok (taken room at p token) (λ r. parse room (suc at) r tokens) q e
+    (λ r i later. parse-sound room (suc at) r tokens q (taken-sound room at p token r h i) later)
+
+taken-short : (room at : ℕ) (p : Parser) (token : Option Token) (f : Fault) → Sound room p → table_limit + others_limit ≤ room → taken room at p token ≡ Err f → f.kind ≡ RoomFull → ⊥
+taken-short room at p None f h b e z = cc
+taken-short room at p (Some token) f h b e z = taken_by-short room p h token b (found_err at (taken_by room p token) f e ∙ ap Err z)
+
+pub parse-short : (room at : ℕ) (p : Parser) (tokens : List (Option Token)) (f : Fault) → Sound room p → table_limit + others_limit ≤ room → parse room at p tokens ≡ Err f → f.kind ≡ RoomFull → ⊥
+unfolding parse
+parse-short room at p [] f h b e z = cc
+parse-short room at p (token ∷ tokens) f h b e z =
+    then_err (taken room at p token) (λ r. parse room (suc at) r tokens) f e
+    (λ i. taken-short room at p token f h b i z)
+    (λ r i later. parse-short room (suc at) r tokens f (taken-sound room at p token r h i) b later z)
 
 -- The count
 
--- where q has no fault it is n numbers after p
-Counts : Parser → ℕ → Parser → Type 0
-Counts p n q = q.fault ≡ 0 → q.total ≡ p.total + n
+headed_counts : (p : Parser) (part : Part) (given : Option Run) (q : Parser) → headed_at p part given ≡ Ok q → q.total ≡ p.total
+headed_counts p part None q e = let same : begun p part ≡ q = cc in sym (ap (λ (r : Parser). r.total) same)
+headed_counts p part (Some run) q e = absurd cc
 
-module _ (room at : ℕ) (p : Parser) where
-  failed_counts : (kind n : ℕ) → (kind ≡ 0 → ⊥) → Counts p n (failed p kind at)
-  unfolding Counts
-  failed_counts kind n f e = absurd (f e)
+counted_counts : (room : ℕ) (p : Parser) (now : Option Part) (q : Parser) → counted_in p room now ≡ Ok q → q.total ≡ p.total + 1
+counted_counts room p None q e = absurd cc
+counted_counts room p (Some part) q e =
+    then_ok (number_fault p part room) (λ _. Ok (extended p part)) q e (λ a i d. let same : extended p part ≡ q = cc in sym (ap (λ (r : Parser). r.total) same))
 
-  headed_counts : (part : ℕ) → Counts p 0 (headed p part at)
-  unfolding headed Counts
-  headed_counts part = pick (Counts p 0) (is_given p part) (λ _. failed_counts 4 0 (λ z. omega arith)) (λ _ _. omega arith)
+taken_by_counts : (room : ℕ) (p : Parser) (token : Token) (q : Parser) → taken_by room p token ≡ Ok q → q.total ≡ p.total + length (number_in (Some token))
+taken_by_counts room p (Number n) q e = counted_counts room p p.part q e
+taken_by_counts room p (Heading part) q e = let same = headed_counts p part (run_of p part) q e in omega arith
+taken_by_counts room p Unknown q e = absurd cc
+taken_by_counts room p TooLarge q e = absurd cc
 
-  counted_counts : Counts p 1 (counted p room at)
-  unfolding counted Counts
-  counted_counts =
-      pick (Counts p 1) (eqb (number_fault p room) 0)
-      (λ _ _. refl)
-      (λ e. failed_counts (number_fault p room) 1 (eqb-false (number_fault p room) 0 e))
+taken_counts : (room at : ℕ) (p : Parser) (token : Option Token) (q : Parser) → taken room at p token ≡ Ok q → q.total ≡ p.total + length (number_in token)
+taken_counts room at p None q e = let same : p ≡ q = cc in let total = ap (λ (r : Parser). r.total) same in omega arith
+taken_counts room at p (Some token) q e = taken_by_counts room p token q (found_ok at (taken_by room p token) q e)
 
-  taken_by_counts : (token : Token) → Counts p (length (number_in token)) (taken_by room at p token)
-  unfolding Counts
-  taken_by_counts Nothing = λ _. omega arith
-  taken_by_counts (Number n) = counted_counts
-  taken_by_counts (Heading part) = headed_counts part
-  taken_by_counts Unknown = failed_counts 1 0 (λ z. omega arith)
-  taken_by_counts TooLarge = failed_counts 2 0 (λ z. omega arith)
-
-  taken_counts : (token : Token) → (taken room at p token).fault ≡ 0 → (p.fault ≡ 0) × ((taken room at p token).total ≡ p.total + length (number_in token))
-  unfolding Counts
-  taken_counts token =
-      pick (λ q. q.fault ≡ 0 → (p.fault ≡ 0) × (q.total ≡ p.total + length (number_in token))) (eqb p.fault 0)
-      (λ e d. (eqb-true p.fault 0 e, taken_by_counts token d))
-      (λ e d. absurd (eqb-false p.fault 0 e d))
-
-pub parse_counts : (room at : ℕ) (p : Parser) (tokens : List Token) → (parse room at p tokens).fault ≡ 0
-    → (p.fault ≡ 0) × ((parse room at p tokens).total ≡ p.total + length (numbers_in tokens))
+pub parse_counts : (room at : ℕ) (p : Parser) (tokens : List (Option Token)) (q : Parser) → parse room at p tokens ≡ Ok q → q.total ≡ p.total + length (numbers_in tokens)
 unfolding parse numbers_in
-parse_counts room at p [] e = (e, omega arith)
-parse_counts room at p (token ∷ tokens) e =
-    let later = parse_counts room (suc at) (taken room at p token) tokens e in
-    let now = taken_counts room at p token later.0 in
-    (now.0, omega (arith, later.1, now.1, length-append (number_in token) (numbers_in tokens)))
+parse_counts room at p [] q e = let same : p ≡ q = cc in let total = ap (λ (r : Parser). r.total) same in omega arith
+parse_counts room at p (token ∷ tokens) q e =
+    then_ok (taken room at p token) (λ r. parse room (suc at) r tokens) q e
+    (λ r i later.
+    let rest = parse_counts room (suc at) r tokens q later in
+    let now = taken_counts room at p token r i in
+    omega (arith, length-append (number_in token) (numbers_in tokens)))
 
--- The end
+-- The case
 
-no-fault : (fault rest : ℕ) → refuse_unless fault (eqb fault 0) rest ≡ 0 → (fault ≡ 0) × (rest ≡ 0)
-no-fault fault rest = go (eqb fault 0) refl
+-- a parsed text with each part
+pub record Read (p : Parser) (n : ℕ) (c : Case) : Type 0 where
+  pub table : run_of p Table ≡ Some c.table
+  pub values : run_of p Values ≡ Some c.values
+  pub cells : run_of p Cells ≡ Some c.cells
+  pub sheet : run_of p Sheet ≡ c.sheet
+  pub allowance : (run : Run) × (run_of p Allowance ≡ Some run) × (run.from ≡ c.allowance) × (run.from ≡ run.to → ⊥)
+  pub count : c.count ≡ n
+
+given : {E : Type 0} (o : Option Run) (x : E) (run : Run) → ok_or o x ≡ Ok run → o ≡ Some run
+given None x run e = absurd cc
+given (Some r) x run e = cc
+
+pub case_read : (p : Parser) (whole : Bool) (count : ℕ) (c : Case) → case_of p whole count ≡ Ok c → Read p count c
+case_read p whole count c e =
+    met whole LongText _ c e
+    (λ _ one.
+    then_ok (ok_or (run_of p Table) NoTable) _ c one
+    (λ table t two.
+    then_ok (ok_or (run_of p Values) NoValues) _ c two
+    (λ values v three.
+    then_ok (ok_or (run_of p Cells) NoCells) _ c three
+    (λ cells l four.
+    then_ok (ok_or (run_of p Allowance) NoAllowance) _ c four
+    (λ allowance a five.
+    passed_on (eqb allowance.from allowance.to) EmptyAllowance _ c five
+    (λ ne six.
+    let same : record { table = table; values = values; cells = cells; sheet = run_of p Sheet; allowance = allowance.from; count = count } ≡ c = cc in
+    subst (Read p count) same
+    (record {
+      table = given _ _ table t;
+      values = given _ _ values v;
+      cells = given _ _ cells l;
+      sheet = refl;
+      allowance = (allowance, given _ _ allowance a, refl, eqb-false allowance.from allowance.to ne);
+      count = refl;
+    })))))))
+
+missing : {E : Type 0} (o : Option Run) (x kind : E) → ok_or o x ≡ Err kind → x ≡ kind
+missing None x kind e = cc
+missing (Some run) x kind e = absurd cc
+
+-- what is missing is no fault of the room
+pub case_not : (p : Parser) (whole : Bool) (n : ℕ) (kind : ErrorKind) → case_of p whole n ≡ Err kind → kind ≡ RoomFull → ⊥
+case_not p whole n kind e z =
+    unmet whole LongText _ kind e (λ i. cc)
+    (λ one.
+    then_err (ok_or (run_of p Table) NoTable) _ kind one (λ i. let x = missing (run_of p Table) NoTable kind i in cc)
+    (λ table _ two.
+    then_err (ok_or (run_of p Values) NoValues) _ kind two (λ i. let x = missing (run_of p Values) NoValues kind i in cc)
+    (λ values _ three.
+    then_err (ok_or (run_of p Cells) NoCells) _ kind three (λ i. let x = missing (run_of p Cells) NoCells kind i in cc)
+    (λ cells _ four.
+    then_err (ok_or (run_of p Allowance) NoAllowance) _ kind four (λ i. let x = missing (run_of p Allowance) NoAllowance kind i in cc)
+    (λ allowance _ five. last (eqb allowance.from allowance.to) _ five)))))
   where
-    go : (b : Bool) → eqb fault 0 ≡ b → cond b rest fault ≡ 0 → (fault ≡ 0) × (rest ≡ 0)
-    go true e h = (eqb-true fault 0 e, h)
-    go false e h = absurd (eqb-false fault 0 e h)
-
--- a parse that is refused nothing
-pub record Passed (p : Parser) : Type 0 where
-  pub clear : p.fault ≡ 0
-  pub one : p.allowance.from ≡ p.allowance.to → ⊥
-
-pub passed : (p : Parser) (whole : Bool) → ended p whole ≡ 0 → Passed p
-unfolding ended
-passed p whole e =
-    let first = no-fault p.fault _ e in
-    let second = no-refusal 11 whole _ first.1 in
-    let third = no-refusal 6 p.table.given _ second.1 in
-    let fourth = no-refusal 7 p.values.given _ third.1 in
-    let fifth = no-refusal 8 p.cells.given _ fourth.1 in
-    let sixth = no-refusal 9 p.allowance.given _ fifth.1 in
-    let last = no-refusal 10 (not (eqb p.allowance.from p.allowance.to)) 0 sixth.1 in
-    record { clear = first.0; one = eqb-false p.allowance.from p.allowance.to (not-true (eqb p.allowance.from p.allowance.to) last.0) }
+    last : (b : Bool) (c : Case) → cond b (Err EmptyAllowance) (Ok c) ≡ Err kind → ⊥
+    last true c f = let x : EmptyAllowance ≡ kind = cc in cc
+    last false c f = cc
 
 pub capped-most : (n : ℕ) → capped n ≤ n
 capped-most n = go (ltb n 4294967295) refl
@@ -208,30 +260,24 @@ capped-least m n b d = go (ltb n 4294967295)
     go true = b
     go false = d
 
-wider : (run : Run) (n m : ℕ) → n ≤ m → Within run n → Within run m
-wider run n m b h = record { low = h.low; high = omega (arith, h.high) }
-
-pub sound : (room : ℕ) (tokens : List Token) (p : Parser) → p ≡ parse room 0 start tokens → Sound room p
-sound room tokens p is = subst (Sound room) (sym is) (parse-sound room 0 start tokens (start-sound room))
-
 -- the tokens are read with nothing refused: their numbers are within the room, and the parts are among them
-module _ (room : ℕ) (tokens : List Token) (p : Parser) (is : p ≡ parse room 0 start tokens) (whole : Bool) (e : ended p whole ≡ 0) where
+module _ (room : ℕ) (tokens : List (Option Token)) (p : Parser) (is : parse room 0 start tokens ≡ Ok p) where
+  pub sound : Sound room p
+  sound = parse-sound room 0 start tokens p (start-sound room) is
+
   pub all : p.total ≡ length (numbers_in tokens)
-  all =
-      let clear : (parse room 0 start tokens).fault ≡ 0 = sym (ap (λ (q : Parser). q.fault) is) ∙ (passed p whole e).clear in
-      omega (arith, ap (λ (q : Parser). q.total) is, (parse_counts room 0 start tokens clear).1)
+  all = let counts = parse_counts room 0 start tokens p is in omega arith
 
-  pub held : length (numbers_in tokens) ≤ room
-  held = omega (arith, all, (sound room tokens p is).few)
-
-  pub placed : (n : ℕ) → length (numbers_in tokens) ≤ n → Placed (case_of p p.total) n
-  placed n b =
-      let t : p.total ≤ n = omega (arith, all) in
-      let s = sound room tokens p is in
+  pub placed : (whole : Bool) (n m : ℕ) (c : Case) → p.total ≤ m → case_of p whole n ≡ Ok c → Placed c m
+  placed whole n m c few e =
+      let read = case_read p whole n c e in
+      let within : (part : Part) → WithinIf (run_of p part) m = λ part. wider (run_of p part) p.total m few (sound.runs part) in
+      let allowance : WithinIf (Some read.allowance.0) m = subst (λ r. WithinIf r m) read.allowance.1 (within Allowance) in
+      let ne = read.allowance.3 in
       record {
-        table = wider p.table p.total n t s.table;
-        values = wider p.values p.total n t s.values;
-        cells = wider p.cells p.total n t s.cells;
-        sheet = wider p.sheet p.total n t s.sheet;
-        allowance = omega (arith, s.allowance.low, s.allowance.high, (passed p whole e).one);
+        table = subst (λ r. WithinIf r m) read.table (within Table);
+        values = subst (λ r. WithinIf r m) read.values (within Values);
+        cells = subst (λ r. WithinIf r m) read.cells (within Cells);
+        sheet = subst (λ r. WithinIf r m) read.sheet (within Sheet);
+        allowance = let from = read.allowance.2 in omega (arith, allowance.low, allowance.high);
       }

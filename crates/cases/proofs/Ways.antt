@@ -1,22 +1,19 @@
--- The way back to a byte that stops, turn by turn; and where a fault was found.
+-- The way back to a line's or a token's first byte, and the byte at which a fault is found.
 -- Assumes nothing.
-use mathlib.Core.Path.{◌≡◌, refl, sym, ap, subst, ◌∙◌}
-use mathlib.Core.Bool.{Bool, true, false, cond}
-use mathlib.Core.List.{List, [], ◌∷◌}
-use Prim.Native.Nat.{ℕ, zero, suc, ◌+◌, ◌-◌, ◌≤◌, ◌<◌}
-use native.Mathlib.Omega.{arith}
-use lib.Dec.{eqb}
-use lib.ListN.{length, get_or}
+use Rattle.std.proofs.Common.{◌≡◌, ℕ, zero, suc, ◌+◌, ◌-◌, ◌≤◌, ◌<◌, Bool, true, false, cond, List, [], ◌∷◌, length, get_or, Option, Some, None, Result, Ok, Err, refl, sym, ap, ◌∙◌, arith}
 use Rattle.cases.specs.declared.lexer.Lexer.{Lexer}
+use Rattle.cases.specs.declared.lexer.Lexer.TheVariants.{Blank}
 use Rattle.cases.specs.declared.lexer.Token.{Token}
-use Rattle.cases.specs.declared.lexer.Token.TheVariants.{Nothing, Number, Heading, Unknown, TooLarge}
+use Rattle.cases.specs.declared.error.ErrorKind.{ErrorKind}
+use Rattle.cases.specs.declared.error.ParseError.{ParseError}
+use Rattle.cases.specs.declared.parser.Fault.{Fault}
 use Rattle.cases.specs.declared.parser.Parser.{Parser}
-use Rattle.cases.specs.declared.Parsing.{Parsing}
-use Rattle.cases.specs.declared.Parsing.TheVariants.{Parsed, NotParsed}
-use Rattle.cases.specs.Places.{stops, back_to, token_start}
-use Rattle.cases.specs.Lexing.{fresh, lexed, lex}
-use Rattle.cases.specs.Parsing.{start, is_given, number_fault, headed, counted, taken, parse}
-use Rattle.cases.specs.Reading.{error_at_end, error_between, error_of, Spanned, Inside}
+use Rattle.cases.specs.declared.Case.{Case}
+use Rattle.cases.specs.Places.{stops, back_to}
+use Rattle.cases.specs.Lexing.{lexed, lex}
+use Rattle.cases.specs.Parsing.{start, taken_by, found_at, taken, parse}
+use Rattle.cases.specs.Reading.{error_at_token, Spanned, Inside}
+use Rattle.cases.proofs.Results.{then_err}
 
 module _ (lines : Bool) (text : List ℕ) where
   pub back_stop : (k b : ℕ) → 0 < k → b ≡ get_or text (k - 1) 0 → stops lines b ≡ true → k ≡ back_to lines text k
@@ -49,45 +46,34 @@ module _ (lines : Bool) (text : List ℕ) where
 
 -- A fault is found at a byte of the text, or at its end
 
-either : (P : Parser → Type 0) (b : Bool) {x y : Parser} → P x → P y → P (cond b x y)
-either P true x y = x
-either P false x y = y
-
 module _ (n room : ℕ) where
-  Early : Parser → Type 0
-  Early p = p.at ≤ n
+  found-there : (at : ℕ) (r : Result Parser ErrorKind) (f : Fault) → found_at at r ≡ Err f → f.at ≡ at
+  found-there at (Ok q) f e = absurd cc
+  found-there at (Err kind) f e = cc
 
-  taken_early : (at : ℕ) (p : Parser) (token : Token) → at ≤ n → Early p → Early (taken room at p token)
-  unfolding Early headed counted
-  taken_early at p Nothing b h = either Early (eqb p.fault 0) h h
-  taken_early at p (Number v) b h = either Early (eqb p.fault 0) (either Early (eqb (number_fault p room) 0) h b) h
-  taken_early at p (Heading part) b h = either Early (eqb p.fault 0) (either Early (is_given p part) b h) h
-  taken_early at p Unknown b h = either Early (eqb p.fault 0) b h
-  taken_early at p TooLarge b h = either Early (eqb p.fault 0) b h
+  taken-there : (at : ℕ) (p : Parser) (token : Option Token) (f : Fault) → taken room at p token ≡ Err f → f.at ≡ at
+  taken-there at p None f e = absurd cc
+  taken-there at p (Some token) f e = found-there at (taken_by room p token) f e
 
-  parse_early : (at : ℕ) (p : Parser) (tokens : List Token) → at + length tokens ≤ suc n → Early p → Early (parse room at p tokens)
+  parse_early : (at : ℕ) (p : Parser) (tokens : List (Option Token)) (f : Fault) → at + length tokens ≤ suc n → parse room at p tokens ≡ Err f → f.at ≤ n
   unfolding parse
-  parse_early at p [] b h = h
-  parse_early at p (token ∷ tokens) b h = parse_early (suc at) (taken room at p token) tokens (omega arith) (taken_early at p token (omega arith) h)
+  parse_early at p [] f b e = absurd cc
+  parse_early at p (token ∷ tokens) f b e =
+      then_err (taken room at p token) (λ q. parse room (suc at) q tokens) f e
+      (λ i. let here = taken-there at p token f i in omega arith)
+      (λ q i later. parse_early (suc at) q tokens f (omega arith) later)
 
 lex-length : (whole : Bool) (l : Lexer) (text : List ℕ) → length (lex whole l text) ≡ suc (length text)
 unfolding lex
 lex-length whole l [] = refl
 lex-length whole l (b ∷ bs) = ap suc (lex-length whole (lexed l b) bs)
 
-pub early : (room : ℕ) (whole : Bool) (text : List ℕ) (p : Parser) → p ≡ parse room 0 start (lex whole fresh text) → p.at ≤ length text
-unfolding Early
-early room whole text p is =
-    let found = parse_early (length text) room 0 start (lex whole fresh text) (omega (arith, lex-length whole fresh text)) (omega arith) in
-    subst (λ (q : Parser). q.at ≤ length text) (sym is) found
+pub early : (room : ℕ) (whole : Bool) (text : List ℕ) (f : Fault) → Err f ≡ parse room 0 start (lex whole Blank text) → f.at ≤ length text
+early room whole text f is = parse_early (length text) room 0 start (lex whole Blank text) f (omega (arith, lex-length whole Blank text)) (sym is)
 
-pub spanned : (text : List ℕ) (p : Parser) (kind : ℕ) → p.at ≤ length text → Spanned (error_of text p kind) (length text)
-spanned text p kind h = go (eqb p.fault 0)
-  where
-    go : (b : Bool) → Spanned (cond b (error_at_end text kind) (error_between text kind (token_start text p.at) p.at)) (length text)
-    go true = record { low = omega arith; high = omega arith }
-    go false = record { low = back-most false text p.at; high = h }
+pub spanned : (text : List ℕ) (f : Fault) → f.at ≤ length text → Spanned (error_at_token text f) (length text)
+spanned text f h = record { low = back-most false text f.at; high = h }
 
-pub inside_longer : (r : Parsing) (room m n : ℕ) → m ≤ n → Inside r room m → Inside r room n
-inside_longer (Parsed c) room m n b h = h
-inside_longer (NotParsed e) room m n b h = record { low = h.low; high = omega (arith, h.high) }
+pub inside_longer : (r : Result Case ParseError) (room m n : ℕ) → m ≤ n → Inside r room m → Inside r room n
+inside_longer (Ok c) room m n b h = h
+inside_longer (Err e) room m n b h = record { low = h.low; high = omega (arith, h.high) }

@@ -1,17 +1,12 @@
 -- The tokens of a text. A line feed ends a comment, which a semicolon starts; white space and a semicolon end a token.
 -- Assumes nothing.
-use Rattle.std.specs.Prelude.{Bool, true, false, cond, ◌&&◌, List, [], ◌∷◌, ℕ, ◌+◌, ◌-◌, ◌*◌, eqb, ltb}
+use Rattle.std.specs.Prelude.{Bool, true, false, cond, ◌&&◌, ◌||◌, List, [], ◌∷◌, ℕ, ◌+◌, ◌-◌, ◌*◌, eqb, ltb, Option, Some, None}
 use Rattle.cases.specs.declared.lexer.Lexer.{Lexer}
+use Rattle.cases.specs.declared.lexer.Lexer.TheVariants.{Blank, Comment, Digits, Word}
 use Rattle.cases.specs.declared.lexer.Token.{Token}
-use Rattle.cases.specs.declared.lexer.Token.TheVariants.{Nothing, Number, Heading, Unknown, TooLarge}
+use Rattle.cases.specs.declared.lexer.Token.TheVariants.{Number, Heading, Unknown, TooLarge}
+use Rattle.cases.specs.declared.part.Part.TheVariants.{Table, Values, Cells, Allowance, Sheet}
 use Rattle.cases.specs.Bytes.{white, ends, digit, letter}
-
--- outside comments and tokens
-abbrev pub fresh : Lexer
-fresh = record { comment = false; token = false; digits = true; value = 0; word = 0 }
-
-abbrev pub commenting : Lexer
-commenting = record { comment = true; token = false; digits = true; value = 0; word = 0 }
 
 -- a number with one digit more; at 2^32 (4294967296) or more it stays
 abbrev pub next_value : ℕ → ℕ → ℕ
@@ -22,18 +17,30 @@ next_value value b = cond (digit b && ltb value 4294967296) (value * 10 + (b - 4
 abbrev pub next_word : ℕ → ℕ → ℕ
 next_word word b = cond (letter b && ltb word 36028797018963968) (word * 32 + (b - 96)) 1152921504606846976
 
--- a token with one byte more
+-- a token's first byte
+abbrev pub begun : ℕ → Lexer
+begun b = cond (digit b) (Digits (next_value 0 b)) (Word (next_word 0 b))
+
+-- a token with one byte more; digits and another byte are a word that is no heading
 abbrev pub inside : Lexer → ℕ → Lexer
-inside l b = record { comment = false; token = true; digits = l.digits && digit b; value = next_value l.value b; word = next_word l.word b }
+inside Blank b = begun b
+inside Comment b = begun b
+inside (Digits value) b = cond (digit b) (Digits (next_value value b)) (Word 1152921504606846976)
+inside (Word word) b = Word (next_word word b)
+
+abbrev pub in_comment : Lexer → Bool
+in_comment Blank = false
+in_comment Comment = true
+in_comment (Digits value) = false
+in_comment (Word word) = false
 
 -- after one byte more
-unfoldable pub lexed : Lexer → ℕ → Lexer
+abbrev pub lexed : Lexer → ℕ → Lexer
 lexed l b =
-    cond (eqb b 10) fresh
-    (cond l.comment l
-    (cond (eqb b 59) commenting
-    (cond (white b) fresh
-    (inside l b))))
+    cond (eqb b 10) Blank
+    (cond (in_comment l || eqb b 59) Comment
+    (cond (white b) Blank
+    (inside l b)))
 
 -- the number of a word, from its letters
 abbrev pub spelt : ℕ → List ℕ → ℕ
@@ -58,25 +65,31 @@ sheet_word = spelt 0 (115 ∷ 104 ∷ 101 ∷ 101 ∷ 116 ∷ [])
 
 abbrev pub heading : ℕ → Token
 heading word =
-    cond (eqb word table_word) (Heading 1)
-    (cond (eqb word values_word) (Heading 2)
-    (cond (eqb word cells_word) (Heading 3)
-    (cond (eqb word allowance_word) (Heading 4)
-    (cond (eqb word sheet_word) (Heading 5)
+    cond (eqb word table_word) (Heading Table)
+    (cond (eqb word values_word) (Heading Values)
+    (cond (eqb word cells_word) (Heading Cells)
+    (cond (eqb word allowance_word) (Heading Allowance)
+    (cond (eqb word sheet_word) (Heading Sheet)
     Unknown))))
 
--- the token whose bytes were read
-unfoldable pub classified : Lexer → Token
-classified l = cond l.digits (cond (ltb l.value 4294967296) (Number l.value) TooLarge) (heading l.word)
+abbrev pub number_of : ℕ → Token
+number_of value = cond (ltb value 4294967296) (Number value) TooLarge
+
+-- the token whose bytes were read, if one was begun
+abbrev pub classified : Lexer → Option Token
+classified Blank = None
+classified Comment = None
+classified (Digits value) = Some (number_of value)
+classified (Word word) = Some (heading word)
 
 -- the token that a byte ends, and that the end of a whole text does
-abbrev pub token_at : Lexer → ℕ → Token
-token_at l b = cond (l.token && ends b) (classified l) Nothing
+abbrev pub token_at : Lexer → ℕ → Option Token
+token_at l b = cond (ends b) (classified l) None
 
-abbrev pub token_at_end : Lexer → Bool → Token
-token_at_end l whole = cond (l.token && whole) (classified l) Nothing
+abbrev pub token_at_end : Lexer → Bool → Option Token
+token_at_end l whole = cond whole (classified l) None
 
 -- what ends at each byte of a text and at its end
-unfoldable pub lex : Bool → Lexer → List ℕ → List Token
+unfoldable pub lex : Bool → Lexer → List ℕ → List (Option Token)
 lex whole l [] = token_at_end l whole ∷ []
 lex whole l (b ∷ bs) = token_at l b ∷ lex whole (lexed l b) bs

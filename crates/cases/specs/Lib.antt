@@ -1,5 +1,7 @@
 pub mod Bytes
 pub mod Places
+pub mod Parts
+pub mod Errors
 pub mod Lexing
 pub mod Parsing
 pub mod Numbers

@@ -1,10 +1,17 @@
 -- The parts of a case. A heading begins its part, and the numbers after it are the part's.
 -- Assumes nothing.
-use Rattle.std.specs.Prelude.{Bool, true, false, cond, not, ◌&&◌, ◌||◌, List, [], ◌∷◌, ℕ, suc, ◌+◌, ◌-◌, eqb, ltb, leb}
+use Rattle.std.specs.Prelude.{Bool, cond, List, [], ◌∷◌, ℕ, suc, ◌+◌, ◌-◌, eqb, ltb, leb, set, get_or, ⊤, Option, Some, None, Result, Ok, Err, ok_or, option_map}
+use Rattle.cases.specs.declared.part.Part.{Part}
+use Rattle.cases.specs.declared.part.Part.TheVariants.{Table, Values, Cells, Allowance, Sheet}
+use Rattle.cases.specs.declared.error.ErrorKind.{ErrorKind}
+use Rattle.cases.specs.declared.error.ErrorKind.TheVariants.{UnknownWord, LargeNumber, NumberBeforeParts, PartGivenTwice, SecondAllowance, RoomFull, NoTable, NoValues, NoCells, NoAllowance, EmptyAllowance, LongText, TableFull, OthersFull}
 use Rattle.cases.specs.declared.lexer.Token.{Token}
-use Rattle.cases.specs.declared.lexer.Token.TheVariants.{Nothing, Number, Heading, Unknown, TooLarge}
+use Rattle.cases.specs.declared.lexer.Token.TheVariants.{Number, Heading, Unknown, TooLarge}
 use Rattle.cases.specs.declared.parser.Run.{Run}
+use Rattle.cases.specs.declared.parser.Fault.{Fault}
 use Rattle.cases.specs.declared.parser.Parser.{Parser}
+use Rattle.cases.specs.declared.Case.{Case}
+use Rattle.cases.specs.Parts.{index}
 
 -- the most numbers of the table, and of sheet, values, cells and allowance together
 abbrev pub table_limit : ℕ
@@ -13,122 +20,103 @@ table_limit = 480000
 abbrev pub others_limit : ℕ
 others_limit = 200000
 
-abbrev pub none : Run
-none = record { given = false; from = 0; to = 0 }
+-- what follows, unless something was wrong
+abbrev pub then_on : {A B E : Type 0} → Result A E → (A → Result B E) → Result B E
+then_on (Ok a) f = f a
+then_on (Err e) f = Err e
 
+-- no part was given yet
 abbrev pub start : Parser
-start = record { part = 0; total = 0; table = none; values = none; cells = none; allowance = none; sheet = none; fault = 0; at = 0 }
+start = record { part = None; total = 0; runs = None ∷ None ∷ None ∷ None ∷ None ∷ [] }
 
-abbrev pub failed : Parser → ℕ → ℕ → Parser
-failed p fault at =
-    record { part = p.part; total = p.total; table = p.table; values = p.values; cells = p.cells; allowance = p.allowance; sheet = p.sheet; fault = fault; at = at }
-
--- the run of part k, where a part begins after total numbers, and where its numbers now go up to next
-abbrev pub begun : Run → ℕ → ℕ → ℕ → Run
-begun run k part total = cond (eqb part k) (record { given = true; from = total; to = total }) run
-
-abbrev pub extended : Run → ℕ → ℕ → ℕ → Run
-extended run k part next = cond (eqb part k) (record { given = run.given; from = run.from; to = next }) run
-
--- the part was begun before
-abbrev pub is_given : Parser → ℕ → Bool
-is_given p part =
-    ((((eqb part 1 && p.table.given) || (eqb part 2 && p.values.given)) || (eqb part 3 && p.cells.given)) || (eqb part 4 && p.allowance.given))
-    || (eqb part 5 && p.sheet.given)
-
--- the part is the allowance, which takes one number, and has it
-abbrev pub full : Parser → Bool
-full p = eqb p.part 4 && ltb p.allowance.from p.allowance.to
+-- a part's numbers, where it was given
+abbrev pub run_of : Parser → Part → Option Run
+run_of p part = get_or p.runs (index part) None
 
 -- how many numbers a part has
-abbrev pub size : Run → ℕ
-size run = run.to - run.from
+abbrev pub size : Option Run → ℕ
+size None = 0
+size (Some run) = run.to - run.from
+
+abbrev pub size_of : Parser → Part → ℕ
+size_of p part = size (run_of p part)
 
 -- how many the parts but the table have: all that are not the table's
 abbrev pub others : Parser → ℕ
-others p = p.total - size p.table
+others p = p.total - size_of p Table
 
--- the part is the table, which has its most numbers; it is another, and these have theirs
-abbrev pub table_full : Parser → Bool
-table_full p = eqb p.part 1 && leb table_limit (size p.table)
+-- a part takes a further number: the table and the other parts together have their limits, and an allowance takes one
+abbrev pub others_fault : Parser → Result ⊤ ErrorKind
+others_fault p = cond (leb others_limit (others p)) (Err OthersFull) (Ok tt)
 
-abbrev pub others_full : Parser → Bool
-others_full p = not (eqb p.part 1) && leb others_limit (others p)
+abbrev pub limit : Parser → Part → Result ⊤ ErrorKind
+limit p Table = cond (leb table_limit (size_of p Table)) (Err TableFull) (Ok tt)
+limit p Values = others_fault p
+limit p Cells = others_fault p
+limit p Allowance = cond (ltb 0 (size_of p Allowance)) (Err SecondAllowance) (others_fault p)
+limit p Sheet = others_fault p
 
-abbrev pub refuse_unless : ℕ → Bool → ℕ → ℕ
-refuse_unless number ok rest = cond ok rest number
+-- a part begins after the numbers read so far; its numbers go up to one more
+abbrev pub begun : Parser → Part → Parser
+begun p part = record { part = Some part; total = p.total; runs = set p.runs (index part) (Some (record { from = p.total; to = p.total })) }
 
--- a heading: 4 the part was given before
-unfoldable pub headed : Parser → ℕ → ℕ → Parser
-headed p part at =
-    cond (is_given p part) (failed p 4 at)
-    (record {
-      part = part;
-      total = p.total;
-      table = begun p.table 1 part p.total;
-      values = begun p.values 2 part p.total;
-      cells = begun p.cells 3 part p.total;
-      allowance = begun p.allowance 4 part p.total;
-      sheet = begun p.sheet 5 part p.total;
-      fault = p.fault;
-      at = p.at;
-    })
+abbrev pub until : ℕ → Run → Run
+until to run = record { from = run.from; to = to }
 
--- what is wrong with a number, 0 where nothing is: 3 before any heading; 5 a second one of the allowance; 13 one too many in the
--- table, 14 in the other parts together; 6 one too many for the room
-unfoldable pub number_fault : Parser → ℕ → ℕ
-number_fault p room =
-    refuse_unless 3 (not (eqb p.part 0))
-    (refuse_unless 5 (not (full p))
-    (refuse_unless 13 (not (table_full p))
-    (refuse_unless 14 (not (others_full p))
-    (refuse_unless 6 (ltb p.total room)
-    0))))
+abbrev pub extended : Parser → Part → Parser
+extended p part =
+    record { part = p.part; total = p.total + 1; runs = set p.runs (index part) (option_map (until (p.total + 1)) (run_of p part)) }
 
--- a number, with room for so many
-unfoldable pub counted : Parser → ℕ → ℕ → Parser
-counted p room at =
-    cond (eqb (number_fault p room) 0)
-    (record {
-      part = p.part;
-      total = p.total + 1;
-      table = extended p.table 1 p.part (p.total + 1);
-      values = extended p.values 2 p.part (p.total + 1);
-      cells = extended p.cells 3 p.part (p.total + 1);
-      allowance = extended p.allowance 4 p.part (p.total + 1);
-      sheet = extended p.sheet 5 p.part (p.total + 1);
-      fault = p.fault;
-      at = p.at;
-    })
-    (failed p (number_fault p room) at)
+-- a heading, unless its part was given before
+abbrev pub headed_at : Parser → Part → Option Run → Result Parser ErrorKind
+headed_at p part None = Ok (begun p part)
+headed_at p part (Some run) = Err PartGivenTwice
 
--- a token that the byte at ends, where there was no fault: 1 no number and no heading (told as 15 where it begins with a byte-order
--- mark: Reading.antt); 2 a number of 2^32 or more
-abbrev pub taken_by : ℕ → ℕ → Parser → Token → Parser
-taken_by room at p Nothing = p
-taken_by room at p (Number n) = counted p room at
-taken_by room at p (Heading part) = headed p part at
-taken_by room at p Unknown = failed p 1 at
-taken_by room at p TooLarge = failed p 2 at
+abbrev pub headed : Parser → Part → Result Parser ErrorKind
+headed p part = headed_at p part (run_of p part)
 
--- the first fault stands
-abbrev pub taken : ℕ → ℕ → Parser → Token → Parser
-taken room at p token = cond (eqb p.fault 0) (taken_by room at p token) p
+-- a number of the part that is being read, unless there is none yet, or the part takes no further one, or the room has not so many
+abbrev pub number_fault : Parser → Part → ℕ → Result ⊤ ErrorKind
+number_fault p part room = then_on (limit p part) (λ _. cond (ltb p.total room) (Ok tt) (Err RoomFull))
 
--- the tokens in order, the first of which ends at the byte at
-unfoldable pub parse : ℕ → ℕ → Parser → List Token → Parser
-parse room at p [] = p
-parse room at p (token ∷ tokens) = parse room (suc at) (taken room at p token) tokens
+abbrev pub counted_in : Parser → ℕ → Option Part → Result Parser ErrorKind
+counted_in p room None = Err NumberBeforeParts
+counted_in p room (Some part) = then_on (number_fault p part room) (λ _. Ok (extended p part))
 
--- the first fault, 0 where there is none: of the tokens; 12 the text is not whole; 7, 8, 9, 10 a part is missing, of which the
--- sheet is none; 11 the allowance has no number
-unfoldable pub ended : Parser → Bool → ℕ
-ended p whole =
-    refuse_unless p.fault (eqb p.fault 0)
-    (refuse_unless 12 whole
-    (refuse_unless 7 p.table.given
-    (refuse_unless 8 p.values.given
-    (refuse_unless 9 p.cells.given
-    (refuse_unless 10 p.allowance.given
-    (refuse_unless 11 (not (eqb p.allowance.from p.allowance.to))
-    0))))))
+abbrev pub counted : Parser → ℕ → Result Parser ErrorKind
+counted p room = counted_in p room p.part
+
+-- a token: neither a number nor a heading (told as another kind where it begins with a byte-order mark: Reading.antt); a number of 2^32
+-- or more
+abbrev pub taken_by : ℕ → Parser → Token → Result Parser ErrorKind
+taken_by room p (Number n) = counted p room
+taken_by room p (Heading part) = headed p part
+taken_by room p Unknown = Err UnknownWord
+taken_by room p TooLarge = Err LargeNumber
+
+abbrev pub found_at : ℕ → Result Parser ErrorKind → Result Parser Fault
+found_at at (Ok p) = Ok p
+found_at at (Err kind) = Err (record { kind = kind; at = at })
+
+-- a token that the byte at ends
+abbrev pub taken : ℕ → ℕ → Parser → Option Token → Result Parser Fault
+taken room at p None = Ok p
+taken room at p (Some token) = found_at at (taken_by room p token)
+
+-- the tokens in order, the first of which ends at the byte at; the first fault stands
+unfoldable pub parse : ℕ → ℕ → Parser → List (Option Token) → Result Parser Fault
+parse room at p [] = Ok p
+parse room at p (token ∷ tokens) = then_on (taken room at p token) (λ q. parse room (suc at) q tokens)
+
+-- the parts of a parsed text, and the count of its numbers; the text is not whole, or a part is missing, of which the sheet is none, or
+-- the allowance has no number
+abbrev pub case_of : Parser → Bool → ℕ → Result Case ErrorKind
+case_of p whole count =
+    cond whole
+    (then_on (ok_or (run_of p Table) NoTable) (λ table.
+    then_on (ok_or (run_of p Values) NoValues) (λ values.
+    then_on (ok_or (run_of p Cells) NoCells) (λ cells.
+    then_on (ok_or (run_of p Allowance) NoAllowance) (λ allowance.
+    cond (eqb allowance.from allowance.to) (Err EmptyAllowance)
+    (Ok (record { table = table; values = values; cells = cells; sheet = run_of p Sheet; allowance = allowance.from; count = count })))))))
+    (Err LongText)

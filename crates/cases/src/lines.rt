@@ -1,134 +1,115 @@
 // On which lines the words and numbers of a part stand.
-ghost use Rattle.std.specs.Prelude.{◌≡◌, true, false, cond, [], ◌-◌, ◌≤◌, length, get_or};
-ghost use Rattle.cases.specs.Lines.{part_after, belongs, lines_within, even, odd, counted, odd_after};
+ghost use Rattle.std.specs.Prelude.{◌≡◌, None, false, cond, ◌-◌, ◌≤◌, length, slice_get};
+ghost use Rattle.cases.specs.Lines.{part_after, belongs, lines_within, odd, counted, closed, odd_after, few};
 ghost use Rattle.cases.specs.Reading.{byte_limit};
 
-use crate::lexer::{Token, fresh, lexed, token_at, token_at_end};
+use crate::lexer::{Lexer, Token, lexed, token_at, token_at_end};
+use crate::part::{Part, number_or_none};
 use crate::places::feed;
 
 // A line of the table, and the count of its numbers.
-#[derive(Clone, Copy)]
+#[derive(Clone, Copy, Debug, PartialEq, Eq)]
 pub struct OddLine {
     pub line: u64,
     pub count: u32,
 }
 
 // The part that is being read after a token.
-fn part_after(now: u32, token: Token) -> u32
+fn part_after(now: Option<Part>, token: Option<Token>) -> Option<Part>
     ensures { result ≡ part_after now token }
 {
     match token {
-        Token::Nothing => now,
-        Token::Number(_) => now,
-        Token::Heading(part) => part,
-        Token::Unknown => now,
-        Token::TooLarge => now,
+        Some(Token::Heading(part)) => Some(part),
+        _ => now,
     }
 }
 
 // Whether a token is a part's heading, or a number of it.
-fn belongs(heading: bool, part: u32, now: u32, token: Token) -> bool
+fn belongs(heading: bool, part: u32, now: Option<Part>, token: Option<Token>) -> bool
     ensures { result ≡ belongs heading part now token }
 {
     match token {
-        Token::Nothing => false,
-        Token::Number(_) => !heading & (now == part),
-        Token::Heading(begun) => heading & (begun == part),
-        Token::Unknown => false,
-        Token::TooLarge => false,
+        Some(Token::Number(_)) => !heading && number_or_none(now) == part,
+        Some(Token::Heading(begun)) => heading && begun.number() == part,
+        _ => false,
     }
 }
 
-// One fewer where there is a hit.
-fn fewer(left: usize, hit: bool) -> usize
-    ensures { result ≡ cond hit (left - 1) left }
-{
-    if hit & (0 < left) { left - 1 } else { left }
-}
-
-// The line of heading or number `k` of a part, 0 where there is none.
-pub fn line_within(text: &[u8], whole: bool, heading: bool, part: u32, k: usize) -> u64
+// The line of heading or number `k` of a part.
+pub fn line_within(text: &[u8], whole: bool, heading: bool, part: u32, k: usize) -> Option<u64>
     requires { length text.now ≤ byte_limit }
-    ensures { result ≡ get_or (lines_within heading part text.now whole) k 0 }
+    ensures { result ≡ slice_get (lines_within heading part text.now whole) k }
 {
-    let mut l = fresh();
-    let mut now = 0u32;
+    let mut l = Lexer::Blank;
+    let mut now = None;
     let mut line = 1u64;
     let mut left = k;
-    for i in 0..text.len() {
-        let b = text[i];
-        let token = token_at(l, b);
+    for b in text {
+        let token = token_at(l, *b);
         let hit = belongs(heading, part, now, token);
         if hit & (left == 0) {
-            return line;
+            return Some(line);
         }
-        left = fewer(left, hit);
+        left = left.saturating_sub(usize::from(hit));
         now = part_after(now, token);
-        line += feed(b);
-        l = lexed(l, b);
+        line += feed(*b);
+        l = lexed(l, *b);
     }
     let last = belongs(heading, part, now, token_at_end(l, whole));
-    if last & (left == 0) { line } else { 0 }
-}
-
-fn even() -> OddLine
-    ensures { result ≡ even }
-{
-    OddLine { line: 0, count: 0 }
+    if last & (left == 0) { Some(line) } else { None }
 }
 
 // Whether a line is another than the one that was counted, whose count is no multiple of six.
-fn odd(s: OddLine, line: u64) -> bool
-    ensures { result ≡ odd s line }
+fn odd(counted: Option<OddLine>, line: u64) -> bool
+    ensures { result ≡ odd counted line }
 {
-    (line != s.line) & (s.count % 6 != 0)
+    match counted {
+        Some(last) => line != last.line && last.count % 6 != 0,
+        None => false,
+    }
 }
 
 // The count with one more, where there is a hit.
-fn counted(s: OddLine, hit: bool, line: u64) -> OddLine
-    requires { s.count ≤ byte_limit }
-    ensures { result ≡ cond hit (counted s line) s }
+fn counted(before: Option<OddLine>, hit: bool, line: u64) -> Option<OddLine>
+    requires { few before byte_limit }
+    ensures { result ≡ cond hit (counted before line) before }
 {
-    if !hit {
-        return s;
-    }
-    if line == s.line {
-        OddLine {
+    match before {
+        _ if !hit => before,
+        Some(last) if line == last.line => Some(OddLine {
             line,
-            count: s.count + 1,
-        }
-    } else {
-        OddLine { line, count: 1 }
+            count: last.count + 1,
+        }),
+        _ => Some(OddLine { line, count: 1 }),
     }
 }
 
 // The count at the end, where it is no multiple of six.
-fn closed(s: OddLine) -> OddLine
-    ensures { result ≡ odd_after s [] }
+fn closed(counted: Option<OddLine>) -> Option<OddLine>
+    ensures { result ≡ closed counted }
 {
-    if s.count % 6 == 0 { even() } else { s }
+    counted.filter(|last| last.count % 6 != 0)
 }
 
 // The first line of the table whose count of numbers is no multiple of six.
-pub fn odd_within(text: &[u8], whole: bool) -> OddLine
+pub fn odd_within(text: &[u8], whole: bool) -> Option<OddLine>
     requires { length text.now ≤ byte_limit }
-    ensures { result ≡ odd_after even (lines_within false 1 text.now whole) }
+    ensures { result ≡ odd_after None (lines_within false 1 text.now whole) }
 {
-    let mut l = fresh();
-    let mut now = 0u32;
+    let mut l = Lexer::Blank;
+    let mut now = None;
     let mut line = 1u64;
-    let mut s = even();
-    for i in 0..text.len() {
-        let b = text[i];
-        let token = token_at(l, b);
+    let mut s = None;
+    for b in text {
+        let token = token_at(l, *b);
         let hit = belongs(false, 1, now, token);
         if hit & odd(s, line) {
             return s;
         }
         s = counted(s, hit, line);
         now = part_after(now, token);
-        line += feed(b);
-        l = lexed(l, b);
+        line += feed(*b);
+        l = lexed(l, *b);
     }
     let last = belongs(false, 1, now, token_at_end(l, whole));
     if last & odd(s, line) {

@@ -9,7 +9,9 @@ use native.Mathlib.Omega.{arith}
 use lib.Dec.{eqb, ltb}
 use lib.ListN.{length, take, drop, get_or, drop_of_length-le, length-drop}
 use lib.Seq.{drop-cons, take-nil, take_all}
-use borrow.Author.Tests.{eqb-true, eq-eqb, ne_eqb, ltb-true, ltb-false}
+use borrow.Author.Tests.{eqb-true, eq-eqb, ltb-true, ltb-false}
+use Rattle.std.specs.Prelude.{nat_eq}
+use Rattle.std.specs.Cmp.Lexicographic.{pointwise}
 use Rattle.smtlib.specs.Bytes.{part, same_bytes, place_in, cuts}
 use Rattle.smtlib.proofs.Cuts.{and_left, and_right}
 
@@ -38,21 +40,13 @@ unlike_lengths (a ∷ x) (b ∷ y) h = go (eqb a b) (unlike_lengths x y (λ e. h
     go true e = e
     go false e = refl
 
--- the rests from i on are equal just where the words are
-module _ (x y : List ℕ) (i : ℕ) (long : length x ≡ length y) (so_far : same_bytes (drop i x) (drop i y) ≡ same_bytes x y) where
-  heads : i < length x → same_bytes (drop i x) (drop i y) ≡ eqb (get_or x i 0) (get_or y i 0) && same_bytes (drop (suc i) x) (drop (suc i) y)
-  unfolding same_bytes
-  heads b = ap₂ same_bytes (drop-cons x i 0 b) (drop-cons y i 0 (omega (arith, long)))
-
-  pub byte_differs : i < length x → (get_or x i 0 ≡ get_or y i 0 → ⊥) → false ≡ same_bytes x y
-  byte_differs b e = sym (sym so_far ∙ heads b ∙ rw (ne_eqb (get_or x i 0) (get_or y i 0) e))
-
-  pub byte_same : i < length x → get_or x i 0 ≡ get_or y i 0 → same_bytes (drop (i + 1) x) (drop (i + 1) y) ≡ same_bytes x y
-  byte_same b e = rw (add-one i) (sym (rw (eq-eqb (get_or x i 0) (get_or y i 0) e) at (heads b)) ∙ so_far)
-
-  pub bytes_through : length x ≤ i → true ≡ same_bytes x y
-  unfolding same_bytes
-  bytes_through b = sym (sym so_far ∙ ap₂ same_bytes (drop_of_length-le x b) (drop_of_length-le y {i = i} (omega (arith, long))))
+-- what `==` answers of two slices
+pub same_pointwise : (x y : List ℕ) → pointwise nat_eq x y ≡ same_bytes x y
+unfolding same_bytes
+same_pointwise [] [] = refl
+same_pointwise [] (b ∷ y) = refl
+same_pointwise (a ∷ x) [] = refl
+same_pointwise (a ∷ x) (b ∷ y) = ap (λ (t : Bool). eqb a b && t) (same_pointwise x y)
 
 -- A part of a text, with its places brought into the text
 

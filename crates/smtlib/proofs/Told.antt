@@ -8,6 +8,7 @@ use native.Mathlib.Omega.{arith}
 use lib.ListN.{get_or}
 use lib.Dec.{eqb, ltb, eqb-suc-zero}
 use borrow.Author.Tests.{eqb-true, leb-true, ltb-true, lt-ltb, le-ltb}
+use Rattle.std.proofs.lemmas.Bool.Decides.{nat_tests}
 use Rattle.ops.specs.Numbers.{last_op}
 use Rattle.smtlib.specs.Bytes.{bytes, same_bytes, place_in, is_in}
 use Rattle.smtlib.specs.Numerals.{numeral, bits}
@@ -73,6 +74,26 @@ operators-named w h = go (is_in operators w) refl h
     go : (t : Bool) → is_in operators w ≡ t → 0 < cond t (place_in operators w) 0 → get_or operators (cond t (place_in operators w) 0) [] ≡ w
     go true e k = word_at operators w (ltb-true (place_in operators w) (suc last_op) e)
     go false e k = absurd (omega arith)
+
+nothing_named : operator_of [] ≡ 0
+unfolding place_in same_bytes
+nothing_named = refl
+
+-- a word that no operator has
+pub unnamed : (w : List ℕ) → ((k : ℕ) → 2 ≤ k → k < 21 → operator_name k ≡ w → ⊥) → 0 ≡ operator_of w
+unnamed w h = go (operator_of w) refl
+  where
+    few : operator_of w < 21
+    few = grind (arith, nat_tests)
+
+    go : (n : ℕ) → operator_of w ≡ n → 0 ≡ operator_of w
+    go zero e = sym e
+    go (suc zero) e =
+        let named : operator_name (operator_of w) ≡ w = operators-named w (omega arith) in
+        let empty : [] ≡ w = ap operator_name (sym e) ∙ named in
+        let none : operator_of w ≡ 0 = ap operator_of (sym empty) ∙ nothing_named in
+        sym none
+    go (suc (suc n)) e = absurd (h (operator_of w) (omega arith) few (operators-named w (omega arith)))
 
 pub operators-told : OperatorsTold
 operators-told a b h k e = sym (operators-read a h) ∙ ap operator_of e ∙ operators-read b k

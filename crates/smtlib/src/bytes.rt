@@ -1,4 +1,5 @@
 // Bytes, words and numbers, written at a place. Each answers the next place; past the room's end nothing is written.
+// The room and the place stay two parameters: the public functions, which docs/PROOFS.md names, take and answer them so.
 ghost use Rattle.std.specs.Prelude.{◌≡◌, ◌<◌};
 ghost use Rattle.smtlib.specs.Writing.{page, put, Wrote};
 ghost use Rattle.smtlib.specs.Writing as writing;
@@ -19,7 +20,6 @@ pub fn put(room: &mut [u8], at: usize, byte: u8) -> usize
 {
     if at < room.len() {
         room[at] = byte;
-        return next(at);
     }
     next(at)
 }
@@ -28,8 +28,8 @@ pub fn word(room: &mut [u8], at: usize, w: &[u8]) -> usize
     ensures { Wrote (page room.old at) w.now (page room.new result) }
 {
     let mut to = at;
-    for i in 0..w.len() {
-        to = put(room, to, w[i]);
+    for b in w {
+        to = put(room, to, *b);
     }
     to
 }
@@ -38,7 +38,7 @@ fn digit(room: &mut [u8], at: usize, d: u32) -> usize
     requires { d < 10 }
     ensures { Wrote (page room.old at) (numerals.digit d) (page room.new result) }
 {
-    put(room, at, 48 + (d as u8))
+    put(room, at, b'0' + d as u8)
 }
 
 // `v` in decimal digits.

@@ -1,55 +1,42 @@
 // SMT-LIB's names of operators, sorts and constants, written at a place.
-ghost use Rattle.std.specs.Prelude.{◌≡◌, ◌-◌, ◌≤◌, length, take, drop};
+ghost use Rattle.std.specs.Prelude.{◌≡◌};
 ghost use Rattle.smtlib.specs.Writing.{page, Wrote};
 ghost use Rattle.smtlib.specs.Symbols.{operator_name, operator_of, vector_sort, sort_name, constant_name};
 
 use crate::bytes::{bits, numeral, word};
-use crate::lookup::place_in;
 
-// The last operator's number, and how many there are.
-const LAST: usize = 20;
-
-const COUNT: usize = 21;
-
-// The operators' names in a row.
-const NAMES: [u8; 80] =
-    *b"notandor=>=itebvnotbvandbvorbvaddbvmulbvshlbvultselectstorebvnegbvsubbvsltbvashr";
-
-// Where the name of each operator begins among all, by its number, and where the last ends.
-const STARTS: [usize; 22] = [
-    0, 0, 0, 3, 6, 8, 10, 11, 14, 19, 24, 28, 33, 38, 43, 48, 54, 59, 64, 69, 74, 80,
+// The operators' names by their numbers; constant and variable have none.
+const NAMES: [&[u8]; 21] = [
+    b"", b"", b"not", b"and", b"or", b"=>", b"=", b"ite", b"bvnot", b"bvand", b"bvor", b"bvadd",
+    b"bvmul", b"bvshl", b"bvult", b"select", b"store", b"bvneg", b"bvsub", b"bvslt", b"bvashr",
 ];
 
-// The part of a text from one place to another.
-fn part(room: &mut [u8], at: usize, all: &[u8], from: usize, to: usize) -> usize
-    requires { (from ≤ to) × (to ≤ length all.now) }
-    ensures { Wrote (page room.old at)
-        (take (to - from) (drop from all.now)) (page room.new result) }
+// The name of an operator; nothing for a number that has none.
+fn name(op: u32) -> &'static [u8]
+    ensures { result.now ≡ operator_name op }
 {
-    word(room, at, &all[from..to])
+    let k = op as usize;
+    if k < NAMES.len() { NAMES[k] } else { b"" }
 }
 
-// The name of an operator; nothing for a number that has none.
+// The name of an operator, written.
 pub fn operator(room: &mut [u8], at: usize, op: u32) -> usize
     ensures { Wrote (page room.old at) (operator_name op) (page room.new result) }
 {
-    let k = op as usize;
-    if LAST < k {
-        return at;
-    }
-    let all = &NAMES;
-    part(room, at, all, STARTS[k], STARTS[k + 1])
+    word(room, at, name(op))
 }
 
-// The number of the operator that a word names; 0 where it names none.
+// The number of the operator that a word names; 0 where it names none. A `for`: with `position` over NAMES the proof
+// didn't close, since `search` stops at the names written out.
 pub fn operator_of(word: &[u8]) -> u32
     ensures { result ≡ operator_of word.now }
 {
-    let k = place_in(&NAMES, &STARTS, word);
-    if (k == 0) | (COUNT < k) {
-        return 0;
+    for op in 2..21 {
+        if name(op) == word {
+            return op;
+        }
     }
-    (k - 1) as u32
+    0
 }
 
 fn vector_sort(room: &mut [u8], at: usize, n: u32) -> usize

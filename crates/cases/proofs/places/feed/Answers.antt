@@ -1,8 +1,0 @@
-use borrow.Author.Tests.{eq-eqb, ne_eqb}
-use Rattle.cases.proofs.places.feed.Goals as goal
-
-pub returns-then-b-eq10 : goal.returns-then-b-eq10
-returns-then-b-eq10 c = rw (eq-eqb _ _ c.if-b-eq10.true)
-
-pub returns-else-b-eq10 : goal.returns-else-b-eq10
-returns-else-b-eq10 c = rw (ne_eqb _ _ c.if-b-eq10.false)

@@ -1,6 +1,7 @@
 -- The grammar is unambiguous. What a derivation at a place has is written as a chain of parts, each with the place where it ends;
 -- each part is one at most (the word at a place is given by the text), so the chain is, and so is the derivation that is made of it.
 -- Assumes nothing.
+use Rattle.std.specs.Prelude.{Option, Some, None}
 use mathlib.Core.Path.{◌≡◌, refl, sym, ap, ◌∙◌, subst, subst_refl, fst_path, snd_path, from_path_p}
 use mathlib.Core.HLevel.{Σ_prop, Σ_prop_path, Σ_set, Unit-prop, collapsible→set, is_prop→PathP}
 use mathlib.Core.List.{List, [], ◌∷◌, is_set}
@@ -12,7 +13,10 @@ use Rattle.smtlib.specs.Bytes.{part}
 use Rattle.table.specs.declared.words.Sort.{Sort}
 use Rattle.parser.specs.declared.words.Word.{Word}
 use Rattle.parser.specs.declared.words.Word.TheVariants.{Open, Close, Keyword, Operator, Literal, Width, Name, Other, End}
-use Rattle.parser.specs.Words.{token_at}
+use Rattle.parser.specs.declared.words.Keyword.TheVariants.{DeclareConst, Assert, CheckSat, Underscore}
+use Rattle.parser.specs.declared.words.SortName.{SortName}
+use Rattle.parser.specs.declared.words.SortName.TheVariants as sort_name
+use Rattle.parser.specs.Words.{keyword_at, name_number, name_at, token_at}
 use Rattle.parser.specs.Grammar.{Tree, Trees, Declared, Rule, Stands, Named, Vector, Sorting, Expression, Operands, Declarations, Asserts, Reads}
 use Rattle.parser.specs.Grammar.Tree.{literal, symbol, apply}
 use Rattle.parser.specs.Grammar.Trees.{nil, cons}
@@ -58,16 +62,22 @@ abbrev Numbers : Type 0
 Numbers = (k : ℕ) × ((n : ℕ) × ℕ)
 
 abbrev word_by : ℕ → ℕ → ℕ → Word
-word_by k n v = get_or (Open ∷ Close ∷ Keyword n ∷ Operator n ∷ Literal n v ∷ Width n ∷ Name n ∷ Other ∷ []) k End
+word_by k n v = get_or (Open ∷ Close ∷ Keyword (keyword_at n) ∷ Operator n ∷ Literal n v ∷ Width n ∷ Name (name_at n) ∷ Other ∷ []) k End
 
 word_back : (w : Word) → word_by (kind w) (carried w) (valued w) ≡ w
 word_back Open = refl
 word_back Close = refl
-word_back (Keyword k) = refl
+word_back (Keyword DeclareConst) = refl
+word_back (Keyword Assert) = refl
+word_back (Keyword CheckSat) = refl
+word_back (Keyword Underscore) = refl
 word_back (Operator op) = refl
 word_back (Literal n v) = refl
 word_back (Width w) = refl
-word_back (Name k) = refl
+word_back (Name None) = refl
+word_back (Name (Some sort_name.Bool)) = refl
+word_back (Name (Some sort_name.BitVec)) = refl
+word_back (Name (Some sort_name.Array)) = refl
 word_back Other = refl
 word_back End = refl
 
@@ -102,24 +112,33 @@ stands_prop {text} {from} {to} {w} s s' = λ i.
 one_word : {text : List ℕ} {from : ℕ} {w : Word} → IsProp (To (Stands text from w))
 one_word {text} {from} {w} x y = Σ_prop_path (λ to. stands_prop) (sym x.1.after ∙ y.1.after)
 
--- a word that carries a number: the number is one too
+-- a word that carries a value, as a number: the value is one too
+one_carried : {A : Type 0} {text : List ℕ} {from : ℕ} (w : A → Word) (value : ℕ → A) → ((a : A) → value (carried (w a)) ≡ a) → IsProp ((a : A) × To (Stands text from (w a)))
+one_carried w value known x y =
+    Σ_prop_path (λ n. one_word) (sym (known x.0) ∙ ap (λ (u : Word). value (carried u)) (same_word refl x.1.1 y.1.1).0 ∙ known y.0)
+
 one_number : {text : List ℕ} {from : ℕ} (w : ℕ → Word) → ((n : ℕ) → carried (w n) ≡ n) → IsProp ((n : ℕ) × To (Stands text from (w n)))
-one_number w known x y =
-    Σ_prop_path (λ n. one_word) (sym (known x.0) ∙ ap carried (same_word refl x.1.1 y.1.1).0 ∙ known y.0)
+one_number w known = one_carried w (λ n. n) known
+
+name_back : (k : Option SortName) → name_at (name_number k) ≡ k
+name_back None = refl
+name_back (Some sort_name.Bool) = refl
+name_back (Some sort_name.BitVec) = refl
+name_back (Some sort_name.Array) = refl
 
 one_name : {text : List ℕ} {from : ℕ} {w : List ℕ} → IsProp (To (Named text from w))
 one_name {text} {from} {w} =
-    retract_prop {B = (x : (n : ℕ) × To (Stands text from (Name n))) × (part text (token_at text from).from (token_at text from).next ≡ w)}
-    (λ x. ((x.1.tag, (x.0, x.1.stands)), x.1.bytes_are))
-    (λ x. (x.0.1.0, record { tag = x.0.0; stands = x.0.1.1; bytes_are = x.1 }))
+    retract_prop {B = (x : (n : Option SortName) × To (Stands text from (Name n))) × (part text (token_at text from).from (token_at text from).next ≡ w)}
+    (λ x. ((x.1.sort, (x.0, x.1.stands)), x.1.bytes_are))
+    (λ x. (x.0.1.0, record { sort = x.0.0; stands = x.0.1.1; bytes_are = x.1 }))
     (λ x. refl)
-    (Σ_prop (one_number Name (λ n. refl)) (λ _. is_set ℕ_set (part text (token_at text from).from (token_at text from).next) w))
+    (Σ_prop (one_carried Name name_at name_back) (λ _. is_set ℕ_set (part text (token_at text from).from (token_at text from).next) w))
 
 -- Sorts
 
 abbrev VectorParts : List ℕ → ℕ → Type 0
 VectorParts text from =
-    Then (Stands text from Open) (λ a. Then (Stands text a (Keyword 3)) (λ b. Then (Stands text b (Name 2)) (λ c.
+    Then (Stands text from Open) (λ a. Then (Stands text a (Keyword Underscore)) (λ b. Then (Stands text b (Name (Some sort_name.BitVec))) (λ c.
     (x : (n : ℕ) × To (Stands text c (Width n))) × To (Stands text x.1.0 Close))))
 
 abbrev Vectors : List ℕ → ℕ → Type 0
@@ -141,7 +160,7 @@ one_vector =
 
 abbrev ArrayParts : List ℕ → ℕ → Type 0
 ArrayParts text from =
-    Then (Stands text from Open) (λ a. Then (Stands text a (Name 3)) (λ b.
+    Then (Stands text from Open) (λ a. Then (Stands text a (Name (Some sort_name.Array))) (λ b.
     (x : Vectors text b) × ((y : Vectors text x.1.0) × To (Stands text y.1.0 Close))))
 
 one_array : {text : List ℕ} {from : ℕ} → IsProp (ArrayParts text from)
@@ -151,7 +170,7 @@ one_array = then one_word (λ a. then one_word (λ b. Σ_prop one_vector (λ x. 
 abbrev Sorts : List ℕ → ℕ → Type 0
 Sorts text from = (s : Sort) × To (Sorting text from s)
 
-abbrev bool_of : {text : List ℕ} {from : ℕ} → To (Stands text from (Name 1)) → Sorts text from
+abbrev bool_of : {text : List ℕ} {from : ℕ} → To (Stands text from (Name (Some sort_name.Bool))) → Sorts text from
 bool_of x = (record { m = 0; n = 0 }, (x.0, bool x.1))
 
 abbrev vector_sort : {text : List ℕ} {from : ℕ} → Vectors text from → Sorts text from
@@ -242,7 +261,7 @@ mutual
 abbrev DeclarationsParts : List ℕ → ℕ → List Declared → Type 0
 DeclarationsParts text from [] = Unit
 DeclarationsParts text from (d ∷ ds) =
-    Then (Stands text from Open) (λ a. Then (Stands text a (Keyword 0)) (λ b. Then (Named text b d.name) (λ c.
+    Then (Stands text from Open) (λ a. Then (Stands text a (Keyword DeclareConst)) (λ b. Then (Named text b d.name) (λ c.
     Then (Sorting text c d.sort) (λ e. Then (Stands text e Close) (λ f. To (Declarations text f ds))))))
 
 abbrev declarations_parts : {text : List ℕ} {from to : ℕ} {ds : List Declared} → Declarations text from ds to → DeclarationsParts text from ds
@@ -270,7 +289,7 @@ one_declarations (d ∷ ds) =
 abbrev AssertsParts : List ℕ → ℕ → List Tree → Type 0
 AssertsParts text from [] = Unit
 AssertsParts text from (t ∷ ts) =
-    Then (Stands text from Open) (λ a. Then (Stands text a (Keyword 1)) (λ b. Then (Expression text b t) (λ c.
+    Then (Stands text from Open) (λ a. Then (Stands text a (Keyword Assert)) (λ b. Then (Expression text b t) (λ c.
     Then (Stands text c Close) (λ d. To (Asserts text d ts)))))
 
 abbrev asserts_parts : {text : List ℕ} {from to : ℕ} {ts : List Tree} → Asserts text from ts to → AssertsParts text from ts
@@ -299,7 +318,7 @@ one_asserts (t ∷ ts) =
 abbrev ReadsParts : List ℕ → Rule → Type 0
 ReadsParts text r =
     Then (Declarations text 0 r.declarations) (λ a. Then (Asserts text a r.asserts) (λ b. Then (Stands text b Open) (λ c.
-    Then (Stands text c (Keyword 2)) (λ d. Then (Stands text d Close) (λ e. (token_at text e).word ≡ End)))))
+    Then (Stands text c (Keyword CheckSat)) (λ d. Then (Stands text d Close) (λ e. (token_at text e).word ≡ End)))))
 
 abbrev reads_parts : {text : List ℕ} {r : Rule} → Reads text r → ReadsParts text r
 reads_parts x =

@@ -1,5 +1,7 @@
 -- Parsing refuses by these numbers alone: of the table's, 1, 3, 4, 5 and 8 do not occur.
 -- Assumes nothing.
+use Rattle.std.specs.Prelude.{Ok, Err}
+use Rattle.parser.specs.Expressions.{fault_in}
 use mathlib.Core.Path.{◌≡◌, refl, sym, ap, ◌∙◌, subst}
 use mathlib.Core.Bool.{Bool, true, false, cond, ◌&&◌}
 use mathlib.Core.List.{List, []}
@@ -12,8 +14,7 @@ use lib.ListN.{length, get_or, take, drop, take-append-drop, get_or-append, get_
 use lib.Seq.{length-take-le}
 use borrow.Author.Tests.{eq-eqb, ne_eqb, ltb-true, ltb-false}
 use Rattle.ops.proofs.Booleans.{never}
-use Rattle.table.specs.declared.Acceptance.{Acceptance}
-use Rattle.table.specs.declared.Acceptance.TheVariants.{Accepted}
+use Rattle.table.specs.Answers.{Acceptance, accepted}
 use Rattle.table.specs.Terms.{words, terms, term_at, sort_at, boolean}
 use Rattle.table.specs.Folds.{any_below}
 use Rattle.table.specs.Refusals.{between}
@@ -21,8 +22,7 @@ use Rattle.table.specs.Faults.{is_variable, fields, typed, valued_as, conflicts,
 use Rattle.table.specs.Admission.{refused, and_then, admission_within, admission}
 use Rattle.table.proofs.Refusals.{Fault, refuse_by, scan_by, either_of}
 use Rattle.table.proofs.Refusals.Fault.{none}
-use Rattle.parser.specs.declared.Parsing.{Parsing}
-use Rattle.parser.specs.declared.Parsing.TheVariants.{Parsed, NotParsed}
+use Rattle.parser.specs.Parsing.{Parsing}
 use Rattle.parser.specs.Rules.{Step, rule_of}
 use Rattle.parser.specs.Parsing.{not_parsed, tabled}
 use Rattle.parser.proofs.Choices.{by_test}
@@ -68,7 +68,7 @@ module _ (t : List ℕ) (clean : (k : ℕ) → Clean k (term_at t k)) where
       rw (fault_is k) (refuse_by 6 refl (typed t x) (refuse_by 7 refl (valued_as (fields x) x) (refuse_by 9 refl (leb (size t k) 16) none)))
 
   -- of the whole 2 and 10 besides
-  admission_by : (c : ℕ) → length t ≡ c * 6 → 1 ≤ c → (Q : Acceptance → Type 0) → Q Accepted
+  admission_by : (c : ℕ) → length t ≡ c * 6 → 1 ≤ c → (Q : Acceptance → Type 0) → Q accepted
       → ((number place : ℕ) → parse_numbers number ≡ true → Q (refused number place)) → Q (admission t)
   unfolding admission_within
   admission_by c long some Q admitted by =
@@ -104,7 +104,7 @@ module _ (names c : ℕ) (room : List ℕ) (t : Table names c room) (few : c ≤
           (λ i f. get_or-eq_default (take (c * 6) room) 0 (omega (arith, front_long))))) (nothing_clean k)
 
 -- a text that is read without a fault
-pub rule_fine : (text : List ℕ) → (rule_of text).progress.state.fault ≡ 0 → Fine 1 (rule_of text)
+pub rule_fine : (text : List ℕ) → (fault_in (rule_of text).progress.state) ≡ 0 → Fine 1 (rule_of text)
 rule_fine text e = go (rule_good text)
   where
     go : Good 1 (rule_of text) → Fine 1 (rule_of text)
@@ -125,18 +125,18 @@ tabled-known v g room =
     (λ e. let few : c ≤ 512 = ltb-false 512 c e in
     admission_by t (front_clean v.progress.names c v.room g.table few) c (front_long v.progress.names c v.room g.table few)
     g.some
-    (λ a. Known (and_then NotParsed a (cond (ltb room (c * words)) (not_parsed 21 c) (Parsed (c * words)))))
+    (λ a. Known (and_then Err a (cond (ltb room (c * words)) (not_parsed 21 c) (Ok (c * words)))))
     (by_test Known (ltb room (c * words)) (λ f. refl) (λ f. tt)) (λ number place f. f))
 
 faulty_known : (f : ℕ) → between 31 35 f ≡ true → parse_numbers f ≡ true
 faulty_known f e = rw e
 
 parsing-known : (v : Step) → Good 1 v → (room : ℕ)
-    → Known (cond (eqb v.progress.state.fault 0) (tabled (take (v.progress.state.count * words) v.room) v.progress.state.count room)
-    (not_parsed v.progress.state.fault v.progress.state.at))
-parsing-known v (rule-refused b) room = rw (ne_eqb v.progress.state.fault 0 (not_clean v.progress.state b))
-    (faulty_known v.progress.state.fault b)
-parsing-known v (good g) room = rw (eq-eqb v.progress.state.fault 0 g.clean) (tabled-known v g room)
+    → Known (cond (eqb (fault_in v.progress.state) 0) (tabled (take (v.progress.state.count * words) v.room) v.progress.state.count room)
+    (not_parsed (fault_in v.progress.state) v.progress.state.at))
+parsing-known v (rule-refused b) room = rw (ne_eqb (fault_in v.progress.state) 0 (not_clean v.progress.state b))
+    (faulty_known (fault_in v.progress.state) b)
+parsing-known v (good g) room = rw (eq-eqb (fault_in v.progress.state) 0 g.clean) (tabled-known v g room)
 
 pub parsing-numbers : ParsingNumbers
 parsing-numbers text room = parsing-known (rule_of text) (rule_good text) room

@@ -1,6 +1,7 @@
 -- Reading a text word by word is refused by 31 to 35 alone; and without a fault it leaves a table of at least one term whose terms pass 3, 4
 -- and 5.
 -- Assumes nothing.
+use Rattle.parser.specs.declared.states.Fault.TheVariants as fault_kind
 use mathlib.Core.Path.{◌≡◌, refl, sym, ◌∙◌, subst}
 use mathlib.Core.Bool.{Bool, true, cond, ◌&&◌, ◌||◌}
 use mathlib.Core.List.{List}
@@ -22,7 +23,7 @@ use Rattle.parser.specs.declared.states.Sorted.{Sorted}
 use Rattle.parser.specs.declared.states.Progress.{Progress}
 use Rattle.parser.specs.Words.{marked, token_at}
 use Rattle.parser.specs.Names.{declared}
-use Rattle.parser.specs.Expressions.{Work, faulty_at, added, number, expression_of}
+use Rattle.parser.specs.Expressions.{fault_in, Work, faulty_at, added, number, expression_of}
 use Rattle.parser.specs.Rules.{Step, code_of, moved_to, expected, width_in, width_of, vector_of, array_of, sort_of, is_name, new_name, variable_term, one_more}
 use Rattle.parser.specs.Rules.{with_state, declaration_of, joined_rule, assert_of, ended_rule, check_of, command_by, command_of, halted, commands_of, start}
 use Rattle.parser.specs.Rules.{rule_of}
@@ -42,33 +43,33 @@ use Rattle.meanings.proofs.NumbersExpressions.Outcome.{stopped as outcome-stoppe
 
 still_faulty : (text : List ℕ) (s : State) (code : ℕ) → Faulty s → Faulty (expected text s code)
 unfolding expected
-still_faulty text s code b = rw (ne_eqb s.fault 0 (not_clean s b)) b
+still_faulty text s code b = rw (ne_eqb (fault_in s) 0 (not_clean s b)) b
 
 pub data Passed (a v : State) : Type 0 where
   stopped : Faulty v → Passed a v
-  fine : v.fault ≡ 0 → v.count ≡ a.count → v.root ≡ a.root → Passed a v
+  fine : fault_in v ≡ 0 → v.count ≡ a.count → v.root ≡ a.root → Passed a v
 
 module _ (text : List ℕ) {a : State} where
   then_expected : {s : State} (code : ℕ) → Passed a s → Passed a (expected text s code)
   unfolding expected
   then_expected {s} code (stopped b) = stopped (still_faulty text s code b)
   then_expected {s} code (fine f c r) =
-      rw (eq-eqb s.fault 0 f) (by_test (Passed a) (eqb (code_of (token_at text s.at).word) code) (λ e. fine f c r) (λ e. stopped refl))
+      rw (eq-eqb (fault_in s) 0 f) (by_test (Passed a) (eqb (code_of (token_at text s.at).word) code) (λ e. fine f c r) (λ e. stopped refl))
 
   then_new : {s : State} (names : ℕ) → Passed a s → Passed a (new_name text names s)
   unfolding new_name
-  then_new {s} names (stopped b) = rw (ne_eqb s.fault 0 (not_clean s b)) (stopped b)
+  then_new {s} names (stopped b) = rw (ne_eqb (fault_in s) 0 (not_clean s b)) (stopped b)
   then_new {s} names (fine f c r) =
       let t = token_at text s.at in
-      rw (eq-eqb s.fault 0 f)
+      rw (eq-eqb (fault_in s) 0 f)
       (by_test (Passed a) (is_name t.word)
       (λ e. by_test (Passed a) (declared text names (part text t.from t.next)) (λ g. stopped refl) (λ g. fine f c r)) (λ e. stopped refl))
 
   then_width : {s : State} → Passed a s → Passed a (width_of text s).state
   unfolding width_of
-  then_width {s} (stopped b) = rw (ne_eqb s.fault 0 (not_clean s b)) (stopped b)
+  then_width {s} (stopped b) = rw (ne_eqb (fault_in s) 0 (not_clean s b)) (stopped b)
   then_width {s} (fine f c r) =
-      rw (eq-eqb s.fault 0 f)
+      rw (eq-eqb (fault_in s) 0 f)
       (by_test (λ (v : Sorted). Passed a v.state) (eqb (width_in (token_at text s.at).word) 0) (λ e. stopped refl) (λ e. fine f c r))
 
   then_vector : {s : State} → Passed a s → Passed a (vector_of text s).state
@@ -104,7 +105,7 @@ spelt-sorted (array {m = m} {n = n} o a v w z) = rw (is-width m (vector_wide v),
 -- What a step leaves: a fault, or a table of at least some terms
 
 pub record Fine (least : ℕ) (v : Step) : Type 0 where
-  pub clean : v.progress.state.fault ≡ 0
+  pub clean : fault_in v.progress.state ≡ 0
   pub table : Table v.progress.names v.progress.state.count v.room
   pub declaring : v.progress.asserts ≡ 0 → v.progress.state.count ≤ 512 → v.progress.names ≡ v.progress.state.count
   pub ruled : (v.progress.asserts ≡ 0 → ⊥) → v.progress.state.count ≤ 512 → v.progress.rule < v.progress.state.count
@@ -134,8 +135,8 @@ module _ (text : List ℕ) (p : Progress) (room : List ℕ) {least : ℕ} (g : F
       (λ i. spelt-sorted (sort_read text n (went text (sort_of text n).state 1 i).clean).reads)
       (then_expected text 2 (then_sort text (then_new text p.names passed)))
     where
-      go : (mark : Bool) (q : Sorted) (e : State) → (e.fault ≡ 0 → sorted (record { m = q.m; n = q.n }) ≡ true) → Passed p.state e
-          → Good 1 (cond (eqb e.fault 0)
+      go : (mark : Bool) (q : Sorted) (e : State) → (fault_in e ≡ 0 → sorted (record { m = q.sort.m; n = q.sort.n }) ≡ true) → Passed p.state e
+          → Good 1 (cond (eqb (fault_in e) 0)
           (record {
             progress = record {
               state = added e e.at;
@@ -145,18 +146,18 @@ module _ (text : List ℕ) (p : Progress) (room : List ℕ) {least : ℕ} (g : F
               bare = p.bare;
               ended = p.ended;
             };
-            room = placed room e.count (variable_term q.m q.n (number p.names) mark);
+            room = placed room e.count (variable_term q.sort.m q.sort.n (number p.names) mark);
           })
           (record { progress = with_state p e; room = room }))
-      go mark q e sorts (stopped b) = rw (ne_eqb e.fault 0 (not_clean e b)) (refused b)
+      go mark q e sorts (stopped b) = rw (ne_eqb (fault_in e) 0 (not_clean e b)) (refused b)
       go mark q e sorts (fine f c r) =
           let slot : count < 512 → number p.names ≡ count =
           λ i. let same = g.declaring none (omega arith) in rw (lt-ltb p.names 513 (omega arith)) same in
           let next : count < 512 → one_more p.names ≡ count + 1 =
           λ i. let same = g.declaring none (omega arith) in rw (lt-ltb p.names 4611686018427387904 (omega arith)) (omega arith) in
-          let t = one_more_lem {x = variable_term q.m q.n (number p.names) mark} g.table
-          (λ i. variable_clean count q.m q.n (number p.names) mark (sorts f) (slot i)) in
-          rw (eq-eqb e.fault 0 f, c)
+          let t = one_more_lem {x = variable_term q.sort.m q.sort.n (number p.names) mark} g.table
+          (λ i. variable_clean count q.sort.m q.sort.n (number p.names) mark (sorts f) (slot i)) in
+          rw (eq-eqb (fault_in e) 0 f, c)
           (good (record {
             clean = refl;
             table = record { long = t.long; enough = λ i. let (less, is) = more_is count i in omega (arith, next less); clean = t.clean };
@@ -168,10 +169,10 @@ module _ (text : List ℕ) (p : Progress) (room : List ℕ) {least : ℕ} (g : F
   -- Asserts
   joined_good : (bare : Bool) (v : Work) → Outcome p.names count v → Good 1 (joined_rule p bare v)
   unfolding joined_rule
-  joined_good bare v (outcome-stopped b) = rw (ne_eqb v.state.fault 0 (not_clean v.state b)) (refused b)
+  joined_good bare v (outcome-stopped b) = rw (ne_eqb (fault_in v.state) 0 (not_clean v.state b)) (refused b)
   joined_good bare v (outcome-fine f t r up) =
       let k = v.state.count in
-      rw (eq-eqb v.state.fault 0 f)
+      rw (eq-eqb (fault_in v.state) 0 f)
       (by_test (Good 1) (eqb p.asserts 0)
       (λ e. good (record { clean = f; table = t; declaring = λ z. absurd (omega arith); ruled = λ z. r; some = some_there k v.state.root r }))
       (λ e. good (record {
@@ -183,7 +184,7 @@ module _ (text : List ℕ) (p : Progress) (room : List ℕ) {least : ℕ} (g : F
         some = more_some k;
       })))
 
-  assert_good : (s : State) → s.fault ≡ 0 → s.count ≡ count → Good 1 (assert_of text p s room)
+  assert_good : (s : State) → fault_in s ≡ 0 → s.count ≡ count → Good 1 (assert_of text p s room)
   unfolding assert_of
   assert_good s f c =
       let v = expression_of 64 text p.names s room in
@@ -202,12 +203,12 @@ module _ (text : List ℕ) (p : Progress) (room : List ℕ) {least : ℕ} (g : F
       go v (outcome-fine z t r up) = went_on v (expected text v.state 2) t r up (then_expected text 2 (fine z refl refl))
 
   -- The end
-  ended_good : (s : State) → (s.fault ≡ 0 → p.asserts ≡ 0 → ⊥) → Passed p.state s → Good 1 (ended_rule p s room)
+  ended_good : (s : State) → (fault_in s ≡ 0 → p.asserts ≡ 0 → ⊥) → Passed p.state s → Good 1 (ended_rule p s room)
   unfolding ended_rule
-  ended_good s some (stopped b) = rw (ne_eqb s.fault 0 (not_clean s b)) (refused b)
+  ended_good s some (stopped b) = rw (ne_eqb (fault_in s) 0 (not_clean s b)) (refused b)
   ended_good s some (fine f c r) =
       let below = g.ruled (some f) in
-      rw (eq-eqb s.fault 0 f, c)
+      rw (eq-eqb (fault_in s) 0 f, c)
       (by_test (Good 1) (eqb p.asserts 1 && p.bare)
       (λ e. good (record {
         clean = refl;
@@ -227,9 +228,9 @@ module _ (text : List ℕ) (p : Progress) (room : List ℕ) {least : ℕ} (g : F
   check_good : (t : Token) → Good 1 (check_of text p t room)
   unfolding check_of
   check_good t =
-      let s = cond (eqb p.asserts 0) (faulty_at p.state 35 t.from) (moved_to p.state t.next) in
+      let s = cond (eqb p.asserts 0) (faulty_at p.state fault_kind.Unasserted t.from) (moved_to p.state t.next) in
       let passed : Passed p.state s = by_test (Passed p.state) (eqb p.asserts 0) (λ e. stopped refl) (λ e. fine g.clean refl refl) in
-      let some : s.fault ≡ 0 → p.asserts ≡ 0 → ⊥ = λ f z. let e : ◌≡◌ {A = ℕ} 35 0 = rw (eq-eqb p.asserts 0 z) at f in omega arith in
+      let some : fault_in s ≡ 0 → p.asserts ≡ 0 → ⊥ = λ f z. let e : ◌≡◌ {A = ℕ} 35 0 = rw (eq-eqb p.asserts 0 z) at f in omega arith in
       ended_good (expected text (expected text s 2) 10) (λ f. some (went text s 1 (went text (expected text s 2) 9 f).clean).clean)
       (then_expected text 10 (then_expected text 2 passed))
 
@@ -254,7 +255,7 @@ commands_good : (text : List ℕ) (left : ℕ) (v : Step) → Good 1 v → Good 
 unfolding commands_of
 commands_good text zero v g = g
 commands_good text (suc left) v
-    (refused b) = rw (ne_eqb v.progress.state.fault 0 (not_clean v.progress.state b), or_open v.progress.ended) (refused b)
+    (refused b) = rw (ne_eqb (fault_in v.progress.state) 0 (not_clean v.progress.state b), or_open v.progress.ended) (refused b)
 commands_good text (suc left) v (good g) =
     by_test (Good 1) (halted v.progress) (λ e. good g)
     (λ e. commands_good text left (command_of text v.progress v.room) (command_good text v.progress v.room g))

@@ -1,5 +1,7 @@
 -- An expression is refused by 31 to 35 alone; and one that is read leaves a table whose terms pass 3, 4 and 5.
 -- Assumes nothing.
+use Rattle.parser.specs.declared.states.Fault.{Fault}
+use Rattle.parser.specs.declared.states.Fault.TheVariants as fault_kind
 use mathlib.Core.Path.{◌≡◌, refl, sym, ap, ◌∙◌, subst}
 use mathlib.Core.Bool.{true, cond}
 use mathlib.Core.List.{List}
@@ -23,8 +25,8 @@ use Rattle.parser.specs.declared.states.Listed.{Listed}
 use Rattle.parser.specs.declared.states.Head.{Head}
 use Rattle.parser.specs.declared.states.Head.TheVariants.{Done, Constant, Call}
 use Rattle.parser.specs.Words.{token_at}
-use Rattle.parser.specs.Names.{index_of, declared}
-use Rattle.parser.specs.Expressions.{Work, Listing, added, named, operator_in, head_in, head_of, begin_list, joined_to, term_of, closed_in, closed_state}
+use Rattle.parser.specs.Names.{index_of}
+use Rattle.parser.specs.Expressions.{fault_in, Work, Listing, added, named, operator_in, head_in, head_of, begin_list, joined_to, term_of, closed_in, closed_state, fault_number, too_few, too_deep, too_many}
 use Rattle.parser.specs.Expressions.{closed_by, operands_by, operands_of, begun, expression_of}
 use Rattle.parser.proofs.Choices.{by_test}
 use Rattle.parser.proofs.Accepts.{joined_state}
@@ -34,22 +36,29 @@ use Rattle.meanings.proofs.NumbersTerms.{constant_clean, list_clean, Held}
 
 -- 31 to 35
 abbrev pub Faulty : State → Type 0
-Faulty s = between 31 35 s.fault ≡ true
+Faulty s = between 31 35 (fault_in s) ≡ true
 
-pub not_clean : (s : State) → Faulty s → s.fault ≡ 0 → ⊥
+in_range : (f : Fault) → between 31 35 (fault_number f) ≡ true
+in_range fault_kind.Unexpected = refl
+in_range fault_kind.Undeclared = refl
+in_range fault_kind.TooDeep = refl
+in_range fault_kind.Miscounted = refl
+in_range fault_kind.Unasserted = refl
+
+pub not_clean : (s : State) → Faulty s → fault_in s ≡ 0 → ⊥
 not_clean s h e = never (ap (between 31 35) (sym e) ∙ h)
 
 -- what is read: a fault, or a table with the expression's own term in it, of at least c terms
 pub data Outcome (names c : ℕ) (w : Work) : Type 0 where
   stopped : Faulty w.state → Outcome names c w
-  fine : w.state.fault ≡ 0 → Table names w.state.count w.room → (w.state.count ≤ 512 → w.state.root < w.state.count)
+  fine : fault_in w.state ≡ 0 → Table names w.state.count w.room → (w.state.count ≤ 512 → w.state.root < w.state.count)
       → c ≤ w.state.count → Outcome names c w
 
 -- How an expression begins
 
 data Begins (names levels : ℕ) (s : State) : Head → Type 0 where
   stop : {v : State} → Faulty v → Begins names levels s (Done v)
-  name : {v : State} → v.fault ≡ 0 → v.count ≡ s.count → (s.count ≤ 512 → names ≤ s.count → v.root < s.count) → Begins names levels s (Done v)
+  name : {v : State} → fault_in v ≡ 0 → v.count ≡ s.count → (s.count ≤ 512 → names ≤ s.count → v.root < s.count) → Begins names levels s (Done v)
   constant : {n v next : ℕ} → n ≤ 32 → Begins names levels s (Constant n v next)
   call : {op next : ℕ} → (levels ≡ 0 → ⊥) → 2 ≤ op → op ≤ last_op → Begins names levels s (Call op next)
 
@@ -74,7 +83,7 @@ module _ (text : List ℕ) (names : ℕ) (s : State) (levels : ℕ) where
   head_begins : (t second : Token) → Bounded second.word → (w : Word) → Bounded w → Begins names levels s (head_in text names s levels t second w)
   head_begins t second c Open b = by_test (Begins names levels s) (eqb levels 0) (λ e. stop refl)
       (λ e. operator_begins (eqb-false levels 0 e) second second.word c)
-  head_begins t second c Close b = stop (by_test (λ (n : ℕ). between 31 35 n ≡ true) (ltb levels 64) (λ e. refl) (λ e. refl))
+  head_begins t second c Close b = stop (in_range (too_few levels))
   head_begins t second c (Keyword k) b = stop refl
   head_begins t second c (Operator op) b = stop refl
   head_begins t second c (Literal n v) b = constant b
@@ -83,11 +92,11 @@ module _ (text : List ℕ) (names : ℕ) (s : State) (levels : ℕ) where
   head_begins t second c Other b = stop refl
   head_begins t second c End b = stop refl
 
-  begins : s.fault ≡ 0 → Begins names levels s (head_of text names s levels)
+  begins : fault_in s ≡ 0 → Begins names levels s (head_of text names s levels)
   unfolding head_of
   begins clean =
       let t = token_at text s.at in
-      rw (eq-eqb s.fault 0 clean) (head_begins t (token_at text t.next) (bounded text t.next) t.word (bounded text s.at))
+      rw (eq-eqb (fault_in s) 0 clean) (head_begins t (token_at text t.next) (bounded text t.next) t.word (bounded text s.at))
 
 -- Operands
 
@@ -130,7 +139,7 @@ held_more c c' l s h up below few =
 -- what a list leaves: a fault, or n operands
 data Listings (names c n : ℕ) (u : Listing) : Type 0 where
   stopped : Faulty u.listed.state → Listings names c n u
-  fine : u.listed.state.fault ≡ 0 → Table names u.listed.state.count u.room
+  fine : fault_in u.listed.state ≡ 0 → Table names u.listed.state.count u.room
       → (u.listed.state.count ≤ 512 → Held u.listed.state.count u.listed)
       → u.listed.n ≡ n → c ≤ u.listed.state.count → Listings names c n u
 
@@ -141,29 +150,29 @@ few-operands One = omega arith
 few-operands Two = omega arith
 few-operands Three = omega arith
 
-module _ (names : ℕ) (one : State → List ℕ → Work) (read : (s : State) (room : List ℕ) → s.fault ≡ 0 → Table names s.count room
+module _ (names : ℕ) (one : State → List ℕ → Work) (read : (s : State) (room : List ℕ) → fault_in s ≡ 0 → Table names s.count room
     → Outcome names s.count (one s room)) (c n : ℕ) (few : n ≤ 3) where
   -- left operands after those of l
   abbrev Reads : ℕ → Listed → List ℕ → Type 0
   Reads left l room =
-      l.state.fault ≡ 0 → Table names l.state.count room → (l.state.count ≤ 512 → Held l.state.count l) → c ≤ l.state.count
+      fault_in l.state ≡ 0 → Table names l.state.count room → (l.state.count ≤ 512 → Held l.state.count l) → c ≤ l.state.count
       → l.n + left ≡ n
       → Listings names c n (operands_by one left l room)
 
   one_read : (left : ℕ) (l : Listed) → (l.state.count ≤ 512 → Held l.state.count l) → c ≤ l.state.count → l.n + suc left ≡ n
       → ((l' : Listed) (room' : List ℕ) → Reads left l' room')
       → (v : Work) → Outcome names l.state.count v
-      → Listings names c n (cond (eqb v.state.fault 0) (operands_by one left (joined_to l v.state) v.room)
+      → Listings names c n (cond (eqb (fault_in v.state) 0) (operands_by one left (joined_to l v.state) v.room)
       (record { listed = joined_to l v.state; room = v.room }))
-  one_read left l h low e rest v (stopped b) = rw (ne_eqb v.state.fault 0 (not_clean v.state b))
+  one_read left l h low e rest v (stopped b) = rw (ne_eqb (fault_in v.state) 0 (not_clean v.state b))
       (stopped (subst Faulty (sym (joined_state l v.state)) b))
   one_read left l h low e rest v (fine f t r up) =
       let l' = joined_to l v.state in
       let same : l'.state ≡ v.state = joined_state l v.state in
       let held : v.state.count ≤ 512 → Held v.state.count l' =
       λ i. held_more l.state.count v.state.count l v.state (h (omega arith)) up (r i) (omega arith) in
-      rw (eq-eqb v.state.fault 0 f)
-      (rest l' v.room (ap (λ (s : State). s.fault) same ∙ f) (subst (λ (s : State). Table names s.count v.room) (sym same) t)
+      rw (eq-eqb (fault_in v.state) 0 f)
+      (rest l' v.room (ap (λ (s : State). (fault_in s)) same ∙ f) (subst (λ (s : State). Table names s.count v.room) (sym same) t)
       (subst (λ (s : State). s.count ≤ 512 → Held s.count l') (sym same) held) (subst (λ (s : State). c ≤ s.count) (sym same) (omega arith))
       (omega (arith, joined_n l v.state (omega arith))))
 
@@ -181,24 +190,23 @@ data Closes (s : State) : State → Type 0 where
 
 module _ (text : List ℕ) (names levels : ℕ) where
   closes_in : (s : State) (t : Token) (w : Word) → Closes s (closed_in text names s levels t w)
-  closes_in s t Open = stop (by_test (λ (n : ℕ). between 31 35 n ≡ true) (eqb levels 0) (λ e. refl) (λ e. refl))
+  closes_in s t Open = stop (in_range (too_deep levels))
   closes_in s t Close = shut
   closes_in s t (Keyword k) = stop refl
   closes_in s t (Operator op) = stop refl
   closes_in s t (Literal n v) = stop refl
   closes_in s t (Width n) = stop refl
-  closes_in s t (Name k) = stop
-      (by_test (λ (n : ℕ). between 31 35 n ≡ true) (declared text names (part text t.from t.next)) (λ e. refl) (λ e. refl))
+  closes_in s t (Name k) = stop (in_range (too_many text names t))
   closes_in s t Other = stop refl
   closes_in s t End = stop refl
 
-  closes : (l : Listed) → l.state.fault ≡ 0 → Closes l.state (closed_state text names levels l)
+  closes : (l : Listed) → fault_in l.state ≡ 0 → Closes l.state (closed_state text names levels l)
   unfolding closed_state
-  closes l f = let t = token_at text l.state.at in rw (eq-eqb l.state.fault 0 f) (closes_in l.state t t.word)
+  closes l f = let t = token_at text l.state.at in rw (eq-eqb (fault_in l.state) 0 f) (closes_in l.state t t.word)
 
-  stays : (l : Listed) → (l.state.fault ≡ 0 → ⊥) → closed_state text names levels l ≡ l.state
+  stays : (l : Listed) → (fault_in l.state ≡ 0 → ⊥) → closed_state text names levels l ≡ l.state
   unfolding closed_state
-  stays l h = rw (ne_eqb l.state.fault 0 h)
+  stays l h = rw (ne_eqb (fault_in l.state) 0 h)
 
   closed-read : (c op : ℕ) → 2 ≤ op → op ≤ last_op → (u : Listing) → Listings names c (operands_of op) u → Outcome names c (closed_by text names levels op u)
   closed-read c op low high u (stopped b) = stopped
@@ -231,7 +239,7 @@ module _ (text : List ℕ) (names : ℕ) where
       fine refl (one_more_lem t (λ i. constant_clean s.count n v b)) (λ i. let (less, e) = more_is s.count i in omega arith) (more_grows s.count)
   begun-read levels list s room t later (Call op next) (call some low high) = later op next some low high
 
-  pub expression_read : (levels : ℕ) (s : State) (room : List ℕ) → s.fault ≡ 0 → Table names s.count room
+  pub expression_read : (levels : ℕ) (s : State) (room : List ℕ) → fault_in s ≡ 0 → Table names s.count room
       → Outcome names s.count (expression_of levels text names s room)
   unfolding expression_of
   expression_read zero s room f t =

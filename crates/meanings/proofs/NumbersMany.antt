@@ -1,5 +1,6 @@
 -- Texts of many declarations and many asserts, and their readings.
 -- Assumes nothing.
+use Rattle.std.specs.Prelude.{Some, None}
 use mathlib.Core.Path.{◌≡◌, refl, sym, ◌∙◌}
 use mathlib.Core.Bool.{Bool, true, false}
 use mathlib.Core.List.{List, [], ◌∷◌, ◌++◌}
@@ -13,6 +14,8 @@ use Rattle.table.specs.Folds.{every}
 use Rattle.table.specs.declared.words.Sort.{Sort}
 use Rattle.parser.specs.declared.words.Word.{Word}
 use Rattle.parser.specs.declared.words.Word.TheVariants.{Keyword, Literal, Name}
+use Rattle.parser.specs.declared.words.Keyword.TheVariants.{DeclareConst, Assert, CheckSat}
+use Rattle.parser.specs.declared.words.SortName.TheVariants as sort_name
 use Rattle.parser.specs.Words.{inside, among, symbolic, symbol, private, plain_of, word_of}
 use Rattle.parser.specs.Grammar.{Tree, Declared, Rule, Stands, Declarations, Asserts, Reads}
 use Rattle.parser.specs.Grammar.Tree.{literal}
@@ -31,23 +34,23 @@ unfolding every
 letters-all test e zero = refl
 letters-all test e (suc n) = rw (e, letters-all test e n)
 
-letters-name : (n : ℕ) → word_of (letters (suc n)) ≡ Name 0
+letters-name : (n : ℕ) → word_of (letters (suc n)) ≡ Name None
 unfolding word_of plain_of place_in same_bytes symbol private every among
 letters-name n = rw (letters-all symbolic refl n)
 
-declare_word : word_of (bytes "declare-const") ≡ Keyword 0
+declare_word : word_of (bytes "declare-const") ≡ Keyword DeclareConst
 unfolding word_of plain_of place_in same_bytes
 declare_word = refl
 
-assert-word : word_of (bytes "assert") ≡ Keyword 1
+assert-word : word_of (bytes "assert") ≡ Keyword Assert
 unfolding word_of plain_of place_in same_bytes
 assert-word = refl
 
-check-word : word_of (bytes "check-sat") ≡ Keyword 2
+check-word : word_of (bytes "check-sat") ≡ Keyword CheckSat
 unfolding word_of plain_of place_in same_bytes
 check-word = refl
 
-bool_word : word_of (bytes "Bool") ≡ Name 1
+bool_word : word_of (bytes "Bool") ≡ Name (Some sort_name.Bool)
 unfolding word_of plain_of place_in same_bytes every among symbol private
 bool_word = refl
 
@@ -93,7 +96,7 @@ module _ (text : List ℕ) where
         to = at + 1 + 13 + 1 + length (letters (suc k)) + 1 + 4 + 1;
         left = further (41 ∷ []) r₆;
         reads = λ es to ds. declared (opened r) (spelt k₁ declare_word)
-            (record { tag = 0; stands = spelt n (letters-name k); bytes_are = n.bytes_are }) (bool (spelt s bool_word)) (closed r₆) ds;
+            (record { sort = None; stands = spelt n (letters-name k); bytes_are = n.bytes_are }) (bool (spelt s bool_word)) (closed r₆) ds;
       }
 
   one_asserted : (at : ℕ) (rest : List ℕ) → Rest text at (bytes "(assert true)" ⧺ rest)

@@ -17,7 +17,7 @@ use Rattle.table.proofs.OpNumbers.{number_of}
 use Rattle.parser.specs.declared.words.Word.{Word}
 use Rattle.parser.specs.declared.words.Word.TheVariants.{Open, Close, Keyword, Operator, Literal, Width, Name, Other, End}
 use Rattle.parser.specs.declared.words.Token.{Token}
-use Rattle.parser.specs.Words.{inside, white, past, keywords, binary, width, is_name, tag_of, plain_of, word_of, word_from, token_at}
+use Rattle.parser.specs.Words.{inside, white, past, keywords, binary, width, is_name, keyword_at, sort_named, plain_of, word_of, word_from, token_at}
 use Rattle.parser.specs.Grammar.{Tree, Trees, Stands, Expression, Operands, Asserts}
 use Rattle.parser.specs.Grammar.Tree.{literal, symbol, apply}
 use Rattle.parser.specs.Grammar.Trees.{nil, cons}
@@ -62,13 +62,13 @@ operator_proper (b ∷ y) e = go (is_in operators (b ∷ y)) _ e
 word_proper : (w : List ℕ) → Proper (word_of w)
 unfolding word_of plain_of
 word_proper w =
-    either (is_in keywords w) {x = Keyword (place_in keywords w)} (sure refl)
+    either (is_in keywords w) {x = Keyword (keyword_at (place_in keywords w))} (sure refl)
     (either (ltb 0 (operator_of w)) {x = Operator (operator_of w)} (λ e. record { is = operator_proper w e })
     (either (same_bytes w (bytes "true")) {x = Literal 0 1} (sure refl)
     (either (same_bytes w (bytes "false")) {x = Literal 0 0} (sure refl)
     (either (binary w) {x = Literal (length w - 2) (value_of 2 0 (drop 2 w))} (sure refl)
     (either (width w) {x = Width (value_of 10 0 w)} (sure refl)
-    (either (is_name w) {x = Name (tag_of w)} {y = Other} (sure refl) (record { is = refl })))))))
+    (either (is_name w) {x = Name (sort_named w)} {y = Other} (sure refl) (record { is = refl })))))))
 
 record ProperAt (t : Token) : Type 0 where
   is : proper t.word ≡ true

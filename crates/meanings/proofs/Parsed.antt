@@ -1,5 +1,7 @@
 -- Parsing answers a table just where a text of the language has one.
 -- Assumes nothing.
+use Rattle.std.specs.Prelude.{Ok, Err}
+use Rattle.parser.specs.Expressions.{fault_in}
 use mathlib.Core.Path.{◌≡◌, refl, sym, ap, ◌∙◌}
 use mathlib.Core.Bool.{Bool, true, false, cond}
 use mathlib.Core.List.{List, ◌++◌}
@@ -8,13 +10,11 @@ use native.Mathlib.Omega.{arith}
 use lib.Dec.{eqb, ltb}
 use lib.ListN.{length, drop}
 use borrow.Author.Tests.{eq-eqb, ne_eqb, eqb-true, le-ltb, ltb-true, ltb-false}
-use Rattle.table.specs.declared.Acceptance.{Acceptance}
-use Rattle.table.specs.declared.Acceptance.TheVariants.{Accepted, Refused}
+use Rattle.table.specs.Answers.{Acceptance, accepted}
 use Rattle.table.specs.Terms.{words, terms}
 use Rattle.table.specs.Admission.{and_then, admission}
 use Rattle.table.proofs.Admitted.{admission-sound}
-use Rattle.parser.specs.declared.Parsing.{Parsing}
-use Rattle.parser.specs.declared.Parsing.TheVariants.{Parsed, NotParsed}
+use Rattle.parser.specs.Parsing.{Parsing}
 use Rattle.parser.specs.declared.states.State.{State}
 use Rattle.parser.specs.Rules.{rule_of}
 use Rattle.parser.specs.Parsing.{not_parsed, built, tabled, parsing, given_by}
@@ -31,28 +31,28 @@ use Rattle.meanings.proofs.Layouts.{terms_are}
 -- An answer that is a table
 
 abbrev is_parsed : Parsing → Bool
-is_parsed (Parsed n) = true
-is_parsed (NotParsed r) = false
+is_parsed (Ok n) = true
+is_parsed (Err r) = false
 
 -- the answer of a count by the three things that decide it
 abbrev decided : ℕ → Bool → Acceptance → Bool → Parsing
-decided count many a short = cond many (not_parsed 2 0) (and_then NotParsed a (cond short (not_parsed 21 count) (Parsed (count * words))))
+decided count many a short = cond many (not_parsed 2 0) (and_then Err a (cond short (not_parsed 21 count) (Ok (count * words))))
 
 record Answered (t : List ℕ) (count room n : ℕ) : Type 0 where
   few : count ≤ 512
-  admitted : admission t ≡ Accepted
+  admitted : admission t ≡ accepted
   size : n ≡ count * words
   enough : count * words ≤ room
 
-answered : (t : List ℕ) (count room n : ℕ) → tabled t count room ≡ Parsed n → Answered t count room n
+answered : (t : List ℕ) (count room n : ℕ) → tabled t count room ≡ Ok n → Answered t count room n
 answered t count room n e = go (ltb 512 count) refl (admission t) refl (ltb room (count * words)) refl e
   where
     go : (many : Bool) → ltb 512 count ≡ many → (a : Acceptance) → admission t ≡ a → (short : Bool) → ltb room (count * words) ≡ short
-        → decided count many a short ≡ Parsed n → Answered t count room n
+        → decided count many a short ≡ Ok n → Answered t count room n
     go true f a g short h e = absurd (never (ap is_parsed e))
-    go false f (Refused r) g short h e = absurd (never (ap is_parsed e))
-    go false f Accepted g true h e = absurd (never (ap is_parsed e))
-    go false f Accepted g false h e =
+    go false f (Err r) g short h e = absurd (never (ap is_parsed e))
+    go false f (Ok _) g true h e = absurd (never (ap is_parsed e))
+    go false f (Ok _) g false h e =
         record { few = ltb-false 512 count f; admitted = g; size = ap given_by (sym e); enough = ltb-false room (count * words) h }
 
 -- The answer of a text by its state
@@ -62,19 +62,19 @@ module _ (text : List ℕ) (room : ℕ) where
   state = (rule_of text).progress.state
 
   abbrev answer_if : Bool → Parsing
-  answer_if clean = cond clean (tabled (built text) state.count room) (not_parsed state.fault state.at)
+  answer_if clean = cond clean (tabled (built text) state.count room) (not_parsed (fault_in state) state.at)
 
-  clean_answer : state.fault ≡ 0 → parsing text room ≡ tabled (built text) state.count room
-  clean_answer e = ap answer_if (eq-eqb state.fault 0 e)
+  clean_answer : fault_in state ≡ 0 → parsing text room ≡ tabled (built text) state.count room
+  clean_answer e = ap answer_if (eq-eqb (fault_in state) 0 e)
 
-  faulty_answer : (state.fault ≡ 0 → ⊥) → parsing text room ≡ not_parsed state.fault state.at
-  faulty_answer n = ap answer_if (ne_eqb state.fault 0 n)
+  faulty_answer : (fault_in state ≡ 0 → ⊥) → parsing text room ≡ not_parsed (fault_in state) state.at
+  faulty_answer n = ap answer_if (ne_eqb (fault_in state) 0 n)
 
-  parsed_clean : (n : ℕ) → parsing text room ≡ Parsed n → state.fault ≡ 0
-  parsed_clean n e = go (eqb state.fault 0) refl e
+  parsed_clean : (n : ℕ) → parsing text room ≡ Ok n → fault_in state ≡ 0
+  parsed_clean n e = go (eqb (fault_in state) 0) refl e
     where
-      go : (b : Bool) → eqb state.fault 0 ≡ b → answer_if b ≡ Parsed n → state.fault ≡ 0
-      go true f e = eqb-true state.fault 0 f
+      go : (b : Bool) → eqb (fault_in state) 0 ≡ b → answer_if b ≡ Ok n → fault_in state ≡ 0
+      go true f e = eqb-true (fault_in state) 0 f
       go false f e = absurd (never (ap is_parsed e))
 
 -- By the rule's terms
@@ -98,7 +98,7 @@ module _ (text : List ℕ) (r : Rule) (c : Tabled text r) (room : ℕ) where
           ap (λ (t : List ℕ). tabled t (state text room).count room) (c.table few) ∙ ap (λ (n : ℕ). tabled table n room) (c.counted few)
 
 module _ (text : List ℕ) (r : Rule) (small : Storable text) (d : Reads text r) (m : meets r ≡ true) where
-  pub built_is : (room n : ℕ) → parsing text room ≡ Parsed n → built text ≡ numbers_of (rule_terms r)
+  pub built_is : (room n : ℕ) → parsing text room ≡ Ok n → built text ≡ numbers_of (rule_terms r)
   built_is room n e =
       let c = complete text r small d m in
       let a = answered (numbers_of (rule_terms r)) (length (rule_terms r)) room n (sym (terms-answer text r c room) ∙ e) in
@@ -117,9 +117,9 @@ parses_rule text r small d =
       met = parses_to text r small d;
       unmet = λ m room.
           let s = state text room in
-          let faulty : s.fault ≡ 0 → ⊥ = λ f. let a = sound text small f in never
+          let faulty : fault_in s ≡ 0 → ⊥ = λ f. let a = sound text small f in never
           (sym m ∙ ap meets (one_reading text r a.rule d a.reads) ∙ a.met) in
-          record { refusal = record { number = s.fault; place = s.at }; is = faulty_answer text room faulty };
+          record { refusal = record { number = (fault_in s); place = s.at }; is = faulty_answer text room faulty };
     }
 
 -- Just there

@@ -1,5 +1,6 @@
 -- A rule with other names is the same table.
 -- Assumes nothing.
+use Rattle.std.specs.Prelude.{Ok, Err}
 use mathlib.Core.Path.{◌≡◌, refl, sym, ap, ap₂, ◌∙◌}
 use mathlib.Core.Bool.{Bool, true, false, cond, not, ◌&&◌}
 use mathlib.Core.Logic.{◌⊎◌, inl, inr, ⊎_elim}
@@ -18,8 +19,7 @@ use Rattle.smtlib.proofs.Searches.{same_is, is_same}
 use Rattle.table.specs.declared.words.Term.{Term}
 use Rattle.table.specs.Folds.{every}
 use Rattle.table.specs.Ranks.{rank_of}
-use Rattle.parser.specs.declared.Parsing.{Parsing}
-use Rattle.parser.specs.declared.Parsing.TheVariants.{Parsed, NotParsed}
+use Rattle.parser.specs.Parsing.{Parsing}
 use Rattle.parser.specs.Words.{marked}
 use Rattle.parser.specs.Expressions.{sort_by, operands_of}
 use Rattle.parser.specs.Rules.{variable_term, and_term}
@@ -337,13 +337,13 @@ renamed_alike f r rn m a b small small' d d' =
     let answer : (room : ℕ) → parsing a room ≡ parsing b room =
     λ room. (parses_to a r small d m).answer room ∙ sym
     ((parses_to b (renamed f r) small' d' m').answer room ∙ ap (λ (xs : List Term). tabled (numbers_of xs) (length xs) room) same) in
-    let table : (room n : ℕ) → parsing a room ≡ Parsed n → built a ≡ built b =
+    let table : (room n : ℕ) → parsing a room ≡ Ok n → built a ≡ built b =
     λ room n e. built_is a r small d m room n e ∙ sym (built_is b (renamed f r) small' d' m' room n (sym (answer room) ∙ e) ∙ ap numbers_of same) in
     record { answer = answer; table = table; left = λ room. go room (answer (length room)) (table (length room)) (parsing a (length room)) refl }
   where
-    go : (room : List ℕ) → parsing a (length room) ≡ parsing b (length room) → ((n : ℕ) → parsing a (length room) ≡ Parsed n → built a ≡ built b)
+    go : (room : List ℕ) → parsing a (length room) ≡ parsing b (length room) → ((n : ℕ) → parsing a (length room) ≡ Ok n → built a ≡ built b)
         → (x : Parsing) → parsing a (length room) ≡ x → room_after (parsing a (length room)) a room ≡ room_after (parsing b (length room)) b room
-    go room same table (Parsed n) e =
+    go room same table (Ok n) e =
         ap (λ (y : Parsing). room_after y a room) e ∙ ap (λ (t : List ℕ). t ++ drop n room) (table n e) ∙ ap (λ (y : Parsing). room_after y b room)
         (sym e ∙ same)
-    go room same table (NotParsed q) e = ap (λ (y : Parsing). room_after y a room) e ∙ ap (λ (y : Parsing). room_after y b room) (sym e ∙ same)
+    go room same table (Err q) e = ap (λ (y : Parsing). room_after y a room) e ∙ ap (λ (y : Parsing). room_after y b room) (sym e ∙ same)

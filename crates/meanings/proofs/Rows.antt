@@ -1,5 +1,6 @@
 -- A text by computation: its derivation, its table, its meaning; and the same rule with other names.
 -- Assumes nothing.
+use Rattle.std.specs.Prelude.{Ok, None}
 use mathlib.Core.Path.{◌≡◌, refl, sym, ap, subst, ◌∙◌}
 use mathlib.Core.Bool.{Bool, true, cond, ◌&&◌, and-true}
 use mathlib.Core.List.{List, [], ◌∷◌}
@@ -12,14 +13,12 @@ use Rattle.ops.specs.Meaning.{bit, holds}
 use Rattle.ops.proofs.Booleans.{never}
 use Rattle.smtlib.specs.Bytes.{bytes, part, same_bytes, place_in}
 use Rattle.smtlib.specs.Numerals.{value_of}
-use Rattle.table.specs.declared.Acceptance.TheVariants.{Accepted}
 use Rattle.table.specs.Terms.{terms}
 use Rattle.table.specs.Folds.{every, any_below}
 use Rattle.table.specs.Faults.{typed, clash, size_within, fault_if, fault}
 use Rattle.table.specs.Admission.{scan, admission_within, admission}
 use Rattle.setting.specs.Interpretation.{Interpretation, FitInputs}
 use Rattle.evaluate.specs.Values.{value_at}
-use Rattle.parser.specs.declared.Parsing.TheVariants.{Parsed}
 use Rattle.parser.specs.declared.words.Word.TheVariants.{Name}
 use Rattle.parser.specs.Words.{among, symbol as simple, private, marked, plain_of, word_of, ahead, word_from, token_at}
 use Rattle.parser.specs.Parsing.{built, parsing}
@@ -40,15 +39,16 @@ use Rattle.meanings.specs.Renaming.{renamed_tree, renamed, Renames, OneParsing}
 use Rattle.meanings.proofs.Parsed.{built_is, parsed_just}
 use Rattle.meanings.proofs.Conjunctions.{bit-holds, rule_means_asserts}
 use Rattle.meanings.proofs.Renaming.{renames_computed, renamed_alike}
+use Rattle.table.specs.Answers.{accepted}
 
 -- the word that stands at a place
 word_at : (text : List ℕ) (from : ℕ) → Stands text from (token_at text from).word (token_at text from).next
 word_at text from = record { here = refl; after = refl }
 
 -- a name that is no sort's word
-name_at : (text : List ℕ) (from : ℕ) → (token_at text from).word ≡ Name 0
+name_at : (text : List ℕ) (from : ℕ) → (token_at text from).word ≡ Name None
     → Named text from (part text (token_at text from).from (token_at text from).next) (token_at text from).next
-name_at text from e = record { tag = 0; stands = record { here = e; after = refl }; bytes_are = refl }
+name_at text from e = record { sort = None; stands = record { here = e; after = refl }; bytes_are = refl }
 
 abbrev text : List ℕ
 text = bytes "(declare-const a Bool)(declare-const x1 (_ BitVec 2))(assert a)(assert (= x1 #b10))(check-sat)"
@@ -96,11 +96,11 @@ table : numbers_of (rule_terms rule)
 unfolding same_bytes place_in every marked size root roots sort_in tree_terms variables joins numbers_of
 table = refl
 
-admitted : admission (numbers_of (rule_terms rule)) ≡ Accepted
+admitted : admission (numbers_of (rule_terms rule)) ≡ accepted
 unfolding same_bytes place_in every marked size root roots sort_in tree_terms variables joins numbers_of any_below typed clash size_within fault_if fault scan admission_within
 admitted = refl
 
-pub parsed : (room : ℕ) → 30 ≤ room → parsing text room ≡ Parsed 30
+pub parsed : (room : ℕ) → 30 ≤ room → parsing text room ≡ Ok 30
 unfolding size tree_terms variables joins
 parsed room h =
     (parsed_just text small room 30).complete (record { rule = rule; reads = reads; met = met; admitted = admitted; count = refl; enough = h })

@@ -1,25 +1,24 @@
 -- What parsing answers for a text of the language, as named statements. The proofs are in proofs/.
 -- Assumes nothing.
-use Rattle.std.specs.Prelude.{◌≡◌, true, false, List, ◌++◌, ℕ, ◌*◌, ◌≤◌, length, drop}
+use Rattle.std.specs.Prelude.{Ok, Err, ◌≡◌, true, false, List, ◌++◌, ℕ, ◌*◌, ◌≤◌, length, drop}
 use Rattle.table.specs.declared.Refusal.{Refusal}
-use Rattle.table.specs.declared.Acceptance.TheVariants.{Accepted}
 use Rattle.table.specs.Terms.{words}
 use Rattle.table.specs.Admission.{admission}
-use Rattle.parser.specs.declared.Parsing.{Parsing}
-use Rattle.parser.specs.declared.Parsing.TheVariants.{Parsed, NotParsed}
+use Rattle.parser.specs.Parsing.{Parsing}
 use Rattle.parser.specs.Parsing.{tabled, parsing, room_after}
 use Rattle.parser.specs.Grammar.{Rule, Reads}
 use Rattle.parser.specs.Trees.{meets, rule_terms}
 use Rattle.parser.specs.Laws.{numbers_of, Storable}
+use Rattle.table.specs.Answers.{accepted}
 
 -- the answer is that of the rule's terms, and so is what is left in the room
 pub record ParsesTo (text : List ℕ) (r : Rule) : Type 0 where
   pub answer : (room : ℕ) → parsing text room ≡ tabled (numbers_of (rule_terms r)) (length (rule_terms r)) room
-  pub left : (room : List ℕ) (n : ℕ) → parsing text (length room) ≡ Parsed n → room_after (Parsed n) text room ≡ numbers_of (rule_terms r) ++ drop n room
+  pub left : (room : List ℕ) (n : ℕ) → parsing text (length room) ≡ Ok n → room_after (Ok n) text room ≡ numbers_of (rule_terms r) ++ drop n room
 
 pub record Refuses (answer : Parsing) : Type 0 where
   pub refusal : Refusal
-  pub is : answer ≡ NotParsed refusal
+  pub is : answer ≡ Err refusal
 
 -- A text with a derivation: by its rule's terms where that meets 32 to 35, else a refusal.
 pub record Parses (text : List ℕ) (r : Rule) : Type 0 where
@@ -34,14 +33,14 @@ pub record TableOf (text : List ℕ) (room n : ℕ) : Type 0 where
   pub rule : Rule
   pub reads : Reads text rule
   pub met : meets rule ≡ true
-  pub admitted : admission (numbers_of (rule_terms rule)) ≡ Accepted
+  pub admitted : admission (numbers_of (rule_terms rule)) ≡ accepted
   pub count : n ≡ length (rule_terms rule) * words
   pub enough : n ≤ room
 
 -- The theorem: a table is answered just where there is one.
 pub record Just (text : List ℕ) (room n : ℕ) : Type 0 where
-  pub sound : parsing text room ≡ Parsed n → TableOf text room n
-  pub complete : TableOf text room n → parsing text room ≡ Parsed n
+  pub sound : parsing text room ≡ Ok n → TableOf text room n
+  pub complete : TableOf text room n → parsing text room ≡ Ok n
 
 abbrev pub ParsedJust : Type 0
 ParsedJust = (text : List ℕ) → Storable text → (room n : ℕ) → Just text room n

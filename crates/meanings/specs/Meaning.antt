@@ -1,13 +1,12 @@
 -- What a typed rule means: the values of its trees in an interpretation of the declared names, each by its slot. Values are SMT-LIB's.
 -- Assumes nothing.
-use Rattle.std.specs.Prelude.{◌≡◌, Bool, List, ℕ, zero, suc, pred}
+use Rattle.std.specs.Prelude.{Ok, ◌≡◌, Bool, List, ℕ, zero, suc, pred}
 use Rattle.ops.specs.Numbers.{op_of}
 use Rattle.ops.specs.Meaning.{bit, holds}
 use Rattle.table.specs.Terms.{terms}
 use Rattle.setting.specs.Interpretation.{Value, Interpretation, FitInputs}
 use Rattle.evaluate.specs.Values.{scalar_value, value_at}
 use Rattle.evaluate.specs.Applied.{applied, input_value}
-use Rattle.parser.specs.declared.Parsing.TheVariants.{Parsed}
 use Rattle.parser.specs.Parsing.{built, parsing}
 use Rattle.parser.specs.Grammar.{Tree, Trees, Declared, Rule, Reads}
 use Rattle.parser.specs.Grammar.Tree.{literal, symbol, apply}
@@ -39,5 +38,5 @@ rule_holds r I = every_tree (tree_holds r.declarations I) r.asserts
 -- the table's inputs.
 abbrev pub RuleMeansAsserts : Type 0
 RuleMeansAsserts =
-    (text : List ℕ) → Storable text → (room n : ℕ) → parsing text room ≡ Parsed n → (r : Rule) → Reads text r
+    (text : List ℕ) → Storable text → (room n : ℕ) → parsing text room ≡ Ok n → (r : Rule) → Reads text r
     → (I : Interpretation) → FitInputs (built text) I → (value_at (built text) I (pred (terms (built text)))).num ≡ bit (rule_holds r I)

@@ -1,10 +1,9 @@
 -- By which numbers a text can be refused: Req 02, "Errors".
 -- Assumes nothing.
-use Rattle.std.specs.Prelude.{◌≡◌, Bool, true, false, ◌||◌, List, [], ◌∷◌, ◌++◌, ℕ, zero, suc, eqb, replicate}
+use Rattle.std.specs.Prelude.{Ok, Err, ◌≡◌, Bool, true, false, ◌||◌, List, [], ◌∷◌, ◌++◌, ℕ, zero, suc, eqb, replicate}
 use Rattle.smtlib.specs.Bytes.{◌⧺◌, bytes}
 use Rattle.table.specs.Refusals.{between}
-use Rattle.parser.specs.declared.Parsing.{Parsing}
-use Rattle.parser.specs.declared.Parsing.TheVariants.{Parsed, NotParsed}
+use Rattle.parser.specs.Parsing.{Parsing}
 use Rattle.parser.specs.Parsing.{not_parsed, parsing}
 
 -- Parse knows 31 to 35 and 21, and of the table's 2, 6, 7, 9 and 10
@@ -13,8 +12,8 @@ parse_numbers number = between 31 35 number || eqb number 2 || eqb number 6 || e
 
 -- the number of a refusal is one of these; of a table nothing is said
 abbrev pub NotParsedBy : (ℕ → Bool) → Parsing → Type 0
-NotParsedBy numbers (Parsed n) = Unit {0}
-NotParsedBy numbers (NotParsed r) = numbers r.number ≡ true
+NotParsedBy numbers (Ok n) = Unit {0}
+NotParsedBy numbers (Err r) = numbers r.number ≡ true
 
 -- None is given on other grounds.
 abbrev pub ParsingNumbers : Type 0

@@ -1,10 +1,9 @@
 -- Names do not matter: a rule whose names are others, one to one and with the same marks, is the same table.
 -- Assumes nothing.
-use Rattle.std.specs.Prelude.{◌≡◌, Bool, true, ◌&&◌, List, map, ℕ, eqb, length}
+use Rattle.std.specs.Prelude.{Ok, ◌≡◌, Bool, true, ◌&&◌, List, map, ℕ, eqb, length}
 use Rattle.ops.specs.Meaning.{bit}
 use Rattle.smtlib.specs.Bytes.{is_in}
 use Rattle.table.specs.Folds.{every}
-use Rattle.parser.specs.declared.Parsing.TheVariants.{Parsed}
 use Rattle.parser.specs.Words.{marked}
 use Rattle.parser.specs.Parsing.{built, parsing, room_after}
 use Rattle.parser.specs.Grammar.{Tree, Trees, Declared, Rule, Reads}
@@ -45,7 +44,7 @@ RenamesComputed = (f : List ℕ → List ℕ) (ws : List (List ℕ)) → renames
 -- two texts are answered alike, with one table
 pub record OneParsing (a b : List ℕ) : Type 0 where
   pub answer : (room : ℕ) → parsing a room ≡ parsing b room
-  pub table : (room n : ℕ) → parsing a room ≡ Parsed n → built a ≡ built b
+  pub table : (room n : ℕ) → parsing a room ≡ Ok n → built a ≡ built b
   pub left : (room : List ℕ) → room_after (parsing a (length room)) a room ≡ room_after (parsing b (length room)) b room
 
 -- The theorem. That the new names are names of the language is said by the second text's derivation; the names of operands are among the

@@ -1,5 +1,7 @@
 -- An expression is read without a fault just where the grammar has one that meets 32 to 34.
 -- Assumes nothing.
+use Rattle.parser.specs.declared.states.Fault.TheVariants as fault_kind
+use Rattle.std.specs.Prelude.{None}
 use mathlib.Core.Path.{◌≡◌, refl, sym, ap, ◌∙◌, subst}
 use mathlib.Core.Bool.{Bool, true, false, cond, ◌&&◌}
 use mathlib.Core.List.{List}
@@ -20,7 +22,8 @@ use Rattle.parser.specs.declared.states.Head.{Head}
 use Rattle.parser.specs.declared.states.Head.TheVariants.{Done, Constant, Call}
 use Rattle.parser.specs.Words.{token_at}
 use Rattle.parser.specs.Names.{index_of, declared}
-use Rattle.parser.specs.Expressions.{Work, Listing, faulty_at, added, number, operator_in, head_in, head_of, begin_list, joined_to, constant_term, closed_in, closed_state, closed_by, operands_by, operands_of, expression_of}
+use Rattle.parser.proofs.Faults.{some_number}
+use Rattle.parser.specs.Expressions.{too_few, too_deep, too_many, fault_in, Work, Listing, faulty_at, added, number, operator_in, head_in, head_of, begin_list, joined_to, constant_term, closed_in, closed_state, closed_by, operands_by, operands_of, expression_of}
 use Rattle.parser.specs.Grammar.{Tree, Trees, Stands, Named, Expression, Operands}
 use Rattle.parser.specs.Grammar.Tree.{literal, symbol, apply}
 use Rattle.parser.specs.Grammar.Trees.{nil, cons}
@@ -36,10 +39,6 @@ never e = let z : ◌≡◌ {A = ℕ} 0 1 = ap (λ (b : Bool). cond b 1 0) e in 
 
 some_fault : {k : ℕ} → (suc k ≡ 0) → ⊥
 some_fault e = omega arith
-
-either-fault : (b : Bool) (j k : ℕ) → cond {A = ℕ} b (suc j) (suc k) ≡ 0 → ⊥
-either-fault true j k e = omega arith
-either-fault false j k e = omega arith
 
 pub joined_state : (l : Listed) (s : State) → (joined_to l s).state ≡ s
 unfolding joined_to
@@ -80,7 +79,7 @@ module _ (text : List ℕ) (names : ℕ) where
   call_at levels s room op next e = rw e
 
   -- one step of a list: an operand without a fault, then the rest
-  pub operand_at : (levels left : ℕ) (l : Listed) (room : List ℕ) → (expression_of levels text names l.state room).state.fault ≡ 0
+  pub operand_at : (levels left : ℕ) (l : Listed) (room : List ℕ) → (fault_in (expression_of levels text names l.state room).state) ≡ 0
       → operands_read levels (suc left) l room
       ≡ operands_read levels left (joined_to l (expression_of levels text names l.state room).state) (expression_of levels text names l.state room).room
   unfolding operands_by
@@ -88,13 +87,13 @@ module _ (text : List ℕ) (names : ℕ) where
 
 -- A derivation is followed
 
-module _ (text : List ℕ) (names : ℕ) (s : State) (levels : ℕ) (clean : s.fault ≡ 0) where
+module _ (text : List ℕ) (names : ℕ) (s : State) (levels : ℕ) (clean : fault_in s ≡ 0) where
   pub head_constant : {from n v to : ℕ} → s.at ≡ from → Stands text from (Literal n v) to → head_of text names s levels ≡ Constant n v to
   unfolding head_of
   head_constant e w = rw (eq-eqb _ _ clean, e, w.here, w.after)
 
   pub head_name : {from to : ℕ} {w : List ℕ} → s.at ≡ from → Named text from w to → declared text names w ≡ true
-      → head_of text names s levels ≡ Done (record { at = to; count = s.count; root = number (index_of text names w); fault = 0 })
+      → head_of text names s levels ≡ Done (record { at = to; count = s.count; root = number (index_of text names w); fault = None })
   unfolding head_of
   head_name e w d = rw (eq-eqb _ _ clean, e, w.stands.here, w.bytes_are, d, w.stands.after)
 
@@ -102,40 +101,40 @@ module _ (text : List ℕ) (names : ℕ) (s : State) (levels : ℕ) (clean : s.f
   unfolding head_of
   head_call e w v = rw (eq-eqb _ _ clean, e, w.here, w.after, v.here, v.after, ne_eqb (suc levels) 0 (λ z. omega arith))
 
-pub closed_close : (text : List ℕ) (names levels : ℕ) (l : Listed) {c to : ℕ} → l.state.fault ≡ 0 → l.state.at ≡ c → Stands text c Close to
+pub closed_close : (text : List ℕ) (names levels : ℕ) (l : Listed) {c to : ℕ} → fault_in l.state ≡ 0 → l.state.at ≡ c → Stands text c Close to
     → closed_state text names levels l ≡ added l.state to
 unfolding closed_state
 closed_close text names levels l clean e w = rw (eq-eqb _ _ clean, e, w.here, w.after)
 
 -- what is read, with no fault up to a place
 pub record Read (text : List ℕ) (names levels : ℕ) (s : State) (room : List ℕ) (to : ℕ) : Type 0 where
-  pub clean : (expression_of levels text names s room).state.fault ≡ 0
+  pub clean : (fault_in (expression_of levels text names s room).state) ≡ 0
   pub place : (expression_of levels text names s room).state.at ≡ to
 
 record ReadAll (text : List ℕ) (names levels left : ℕ) (l : Listed) (room : List ℕ) (to : ℕ) : Type 0 where
-  clean : (operands_read text names levels left l room).listed.state.fault ≡ 0
+  clean : (fault_in (operands_read text names levels left l room).listed.state) ≡ 0
   place : (operands_read text names levels left l room).listed.state.at ≡ to
 
 mutual
   unfolding operands_by knows within count counted
 
-  pub follows : {text : List ℕ} {names : ℕ} {ws : List (List ℕ)} {from to : ℕ} {t : Tree} → Known text names ws → Expression text from t to → (levels : ℕ) (s : State) (room : List ℕ) → s.fault ≡ 0 → s.at ≡ from
+  pub follows : {text : List ℕ} {names : ℕ} {ws : List (List ℕ)} {from to : ℕ} {t : Tree} → Known text names ws → Expression text from t to → (levels : ℕ) (s : State) (room : List ℕ) → fault_in s ≡ 0 → s.at ≡ from
       → knows ws t ≡ true → within levels t ≡ true → counted t ≡ true → Read text names levels s room to
   follows {text} {names} k (constant {n = n} {v = v} {to = to} w) levels s room f e kn wi co =
       let d = constant_at text names levels s room n v to (head_constant text names s levels f e w) in
-      record { clean = ap (λ (x : Work). x.state.fault) d; place = ap (λ (x : Work). x.state.at) d }
+      record { clean = ap (λ (x : Work). (fault_in x.state)) d; place = ap (λ (x : Work). x.state.at) d }
   follows {text} {names} k (name {w = w} n) levels s room f e kn wi co =
       let d = done_at text names levels s room _ (head_name text names s levels f e n (declared_is k w ∙ kn)) in
-      record { clean = ap (λ (x : Work). x.state.fault) d; place = ap (λ (x : Work). x.state.at) d }
+      record { clean = ap (λ (x : Work). (fault_in x.state)) d; place = ap (λ (x : Work). x.state.at) d }
   follows k (list o p os c) zero s room f e kn wi co = absurd (never wi)
   follows {text} {names} k (list {op = op} {b = b} {ts = ts} o p os c) (suc levels) s room f e kn wi co =
       let d = call_at text names levels s room op b (head_call text names s levels f e o p) in
       let n = eqb-true (count ts) (operands_of op) (and_left (eqb (count ts) (operands_of op)) (all_counted ts) co) in
       let r = follow k os levels (operands_of op) n (begin_list s b) room f refl kn wi (and_right (eqb (count ts) (operands_of op)) (all_counted ts) co) in
       let z = closed_close text names levels (operands_read text names levels (operands_of op) (begin_list s b) room).listed r.clean r.place c in
-      record { clean = ap (λ (x : Work). x.state.fault) d ∙ ap (λ (x : State). x.fault) z; place = ap (λ (x : Work). x.state.at) d ∙ ap (λ (x : State). x.at) z }
+      record { clean = ap (λ (x : Work). (fault_in x.state)) d ∙ ap (λ (x : State). (fault_in x)) z; place = ap (λ (x : Work). x.state.at) d ∙ ap (λ (x : State). x.at) z }
 
-  follow : {text : List ℕ} {names : ℕ} {ws : List (List ℕ)} {from to : ℕ} {ts : Trees} → Known text names ws → Operands text from ts to → (levels left : ℕ) → count ts ≡ left → (l : Listed) (room : List ℕ) → l.state.fault ≡ 0 → l.state.at ≡ from
+  follow : {text : List ℕ} {names : ℕ} {ws : List (List ℕ)} {from to : ℕ} {ts : Trees} → Known text names ws → Operands text from ts to → (levels left : ℕ) → count ts ≡ left → (l : Listed) (room : List ℕ) → fault_in l.state ≡ 0 → l.state.at ≡ from
       → knows_all ws ts ≡ true → all_within levels ts ≡ true → all_counted ts ≡ true → ReadAll text names levels left l room to
   follow k none levels zero n l room f e kn wi co = record { clean = f; place = e }
   follow k none levels (suc left) n l room f e kn wi co = absurd (omega arith)
@@ -143,10 +142,10 @@ mutual
   follow {text} {names} {ws} k (more {t = t} {ts = ts} x xs) levels (suc left) n l room f e kn wi co =
       let h = follows k x levels l.state room f e (and_left (knows ws t) (knows_all ws ts) kn) (and_left (within levels t) (all_within levels ts) wi) (and_left (counted t) (all_counted ts) co) in
       let v = expression_of levels text names l.state room in
-      let r = follow k xs levels left (omega arith) (joined_to l v.state) v.room (ap (λ (s : State). s.fault) (joined_state l v.state) ∙ h.clean) (ap (λ (s : State). s.at) (joined_state l v.state) ∙ h.place)
+      let r = follow k xs levels left (omega arith) (joined_to l v.state) v.room (ap (λ (s : State). (fault_in s)) (joined_state l v.state) ∙ h.clean) (ap (λ (s : State). s.at) (joined_state l v.state) ∙ h.place)
       (and_right (knows ws t) (knows_all ws ts) kn) (and_right (within levels t) (all_within levels ts) wi) (and_right (counted t) (all_counted ts) co) in
       let d = operand_at text names levels left l room h.clean in
-      record { clean = ap (λ (u : Listing). u.listed.state.fault) d ∙ r.clean; place = ap (λ (u : Listing). u.listed.state.at) d ∙ r.place }
+      record { clean = ap (λ (u : Listing). (fault_in u.listed.state)) d ∙ r.clean; place = ap (λ (u : Listing). u.listed.state.at) d ∙ r.place }
 
 -- Where there is no fault there is a derivation
 
@@ -154,7 +153,7 @@ mutual
 data Begins (text : List ℕ) (names : ℕ) (s : State) : ℕ → Head → Type 0 where
   constant_here : {levels n v to : ℕ} → Stands text s.at (Literal n v) to → Begins text names s levels (Constant n v to)
   named_here : {levels to : ℕ} {w : List ℕ} {v : State} → Named text s.at w to → declared text names w ≡ true → v.at ≡ to → Begins text names s levels (Done v)
-  faulty_here : {levels : ℕ} {v : State} → (v.fault ≡ 0 → ⊥) → Begins text names s levels (Done v)
+  faulty_here : {levels : ℕ} {v : State} → (fault_in v ≡ 0 → ⊥) → Begins text names s levels (Done v)
   list_here : {levels op a b : ℕ} → Stands text s.at Open a → Stands text a (Operator op) b → Begins text names s (suc levels) (Call op b)
 
 module _ (text : List ℕ) (names : ℕ) (s : State) where
@@ -174,13 +173,13 @@ module _ (text : List ℕ) (names : ℕ) (s : State) where
   begins_open (suc levels) t o =
       rw (ne_eqb (suc levels) 0 some_fault) (begins_operator levels t.next (token_at text t.next) (token_at text t.next).word o refl refl)
 
-  begins_name : (levels : ℕ) {w : List ℕ} {to : ℕ} (b : Bool) (v : State) → Named text s.at w to → declared text names w ≡ b → v.at ≡ to → (place : ℕ) → Begins text names s levels (Done (cond b v (faulty_at s 32 place)))
+  begins_name : (levels : ℕ) {w : List ℕ} {to : ℕ} (b : Bool) (v : State) → Named text s.at w to → declared text names w ≡ b → v.at ≡ to → (place : ℕ) → Begins text names s levels (Done (cond b v (faulty_at s fault_kind.Undeclared place)))
   begins_name levels true v n d e place = named_here n d e
   begins_name levels false v n d e place = faulty_here some_fault
 
   begins_in : (levels : ℕ) (w : Word) → (token_at text s.at).word ≡ w → Begins text names s levels (head_in text names s levels (token_at text s.at) (token_at text (token_at text s.at).next) w)
   begins_in levels Open e = begins_open levels (token_at text s.at) (record { here = e; after = refl })
-  begins_in levels Close e = faulty_here (either-fault (ltb levels 64) 33 30)
+  begins_in levels Close e = faulty_here (some_number (too_few levels))
   begins_in levels (Keyword k) e = faulty_here some_fault
   begins_in levels (Operator n) e = faulty_here some_fault
   begins_in levels (Literal n v) e = constant_here (record { here = e; after = refl })
@@ -188,58 +187,58 @@ module _ (text : List ℕ) (names : ℕ) (s : State) where
   begins_in levels (Name k) e =
       let t = token_at text s.at in
       let w = part text t.from t.next in
-      begins_name levels (declared text names w) _ (record { tag = k; stands = record { here = e; after = refl }; bytes_are = refl }) refl refl t.from
+      begins_name levels (declared text names w) _ (record { sort = k; stands = record { here = e; after = refl }; bytes_are = refl }) refl refl t.from
   begins_in levels Other e = faulty_here some_fault
   begins_in levels End e = faulty_here some_fault
 
-  begins_by : (levels : ℕ) (b : Bool) → eqb s.fault 0 ≡ b → Begins text names s levels (cond b (head_in text names s levels (token_at text s.at) (token_at text (token_at text s.at).next) (token_at text s.at).word) (Done s))
+  begins_by : (levels : ℕ) (b : Bool) → eqb (fault_in s) 0 ≡ b → Begins text names s levels (cond b (head_in text names s levels (token_at text s.at) (token_at text (token_at text s.at).next) (token_at text s.at).word) (Done s))
   begins_by levels true e = begins_in levels (token_at text s.at).word refl
   begins_by levels false e = faulty_here (eqb-false _ _ e)
 
   begins : (levels : ℕ) → Begins text names s levels (head_of text names s levels)
   unfolding head_of
-  begins levels = begins_by levels (eqb s.fault 0) refl
+  begins levels = begins_by levels (eqb (fault_in s) 0) refl
 
 -- a list that is closed without a fault
 record Closes (text : List ℕ) (l : Listed) (v : State) : Type 0 where
-  clean : l.state.fault ≡ 0
+  clean : fault_in l.state ≡ 0
   stands : Stands text l.state.at Close v.at
 
 module _ (text : List ℕ) (names levels : ℕ) (l : Listed) where
-  closes_in : (w : Word) → l.state.fault ≡ 0 → (token_at text l.state.at).word ≡ w → (closed_in text names l.state levels (token_at text l.state.at) w).fault ≡ 0
+  closes_in : (w : Word) → fault_in l.state ≡ 0 → (token_at text l.state.at).word ≡ w → (fault_in (closed_in text names l.state levels (token_at text l.state.at) w)) ≡ 0
       → Closes text l (closed_in text names l.state levels (token_at text l.state.at) w)
-  closes_in Open f e z = absurd (either-fault (eqb levels 0) 32 33 z)
+  closes_in Open f e z = absurd (some_number (too_deep levels) z)
   closes_in Close f e z = record { clean = f; stands = record { here = e; after = refl } }
   closes_in (Keyword k) f e z = absurd (some_fault z)
   closes_in (Operator n) f e z = absurd (some_fault z)
   closes_in (Literal n v) f e z = absurd (some_fault z)
   closes_in (Width n) f e z = absurd (some_fault z)
-  closes_in (Name k) f e z = absurd (either-fault (declared text names (part text (token_at text l.state.at).from (token_at text l.state.at).next)) 33 31 z)
+  closes_in (Name k) f e z = absurd (some_number (too_many text names (token_at text l.state.at)) z)
   closes_in Other f e z = absurd (some_fault z)
   closes_in End f e z = absurd (some_fault z)
 
-  closes_by : (b : Bool) → eqb l.state.fault 0 ≡ b
-      → (v : State) → v ≡ cond b (closed_in text names l.state levels (token_at text l.state.at) (token_at text l.state.at).word) l.state → v.fault ≡ 0 → Closes text l v
-  closes_by true e v z f = rw z (closes_in (token_at text l.state.at).word (eqb-true _ _ e) refl (ap (λ (x : State). x.fault) (sym z) ∙ f))
-  closes_by false e v z f = absurd (eqb-false _ _ e (ap (λ (x : State). x.fault) (sym z) ∙ f))
+  closes_by : (b : Bool) → eqb (fault_in l.state) 0 ≡ b
+      → (v : State) → v ≡ cond b (closed_in text names l.state levels (token_at text l.state.at) (token_at text l.state.at).word) l.state → fault_in v ≡ 0 → Closes text l v
+  closes_by true e v z f = rw z (closes_in (token_at text l.state.at).word (eqb-true _ _ e) refl (ap (λ (x : State). (fault_in x)) (sym z) ∙ f))
+  closes_by false e v z f = absurd (eqb-false _ _ e (ap (λ (x : State). (fault_in x)) (sym z) ∙ f))
 
-  closes : (closed_state text names levels l).fault ≡ 0 → Closes text l (closed_state text names levels l)
+  closes : (fault_in (closed_state text names levels l)) ≡ 0 → Closes text l (closed_state text names levels l)
   unfolding closed_state
-  closes f = closes_by (eqb l.state.fault 0) refl _ refl f
+  closes f = closes_by (eqb (fault_in l.state) 0) refl _ refl f
 
 -- a list without a fault begins with an operand without one
 module _ (text : List ℕ) (names levels : ℕ) where
-  operand_clean : (left : ℕ) (l : Listed) (room : List ℕ) → (operands_read text names levels (suc left) l room).listed.state.fault ≡ 0 → (expression_of levels text names l.state room).state.fault ≡ 0
+  operand_clean : (left : ℕ) (l : Listed) (room : List ℕ) → (fault_in (operands_read text names levels (suc left) l room).listed.state) ≡ 0 → (fault_in (expression_of levels text names l.state room).state) ≡ 0
   unfolding operands_by
-  operand_clean left l room f = go (eqb v.state.fault 0) refl f
+  operand_clean left l room f = go (eqb (fault_in v.state) 0) refl f
     where
       v : Work
       v = expression_of levels text names l.state room
 
-      go : (b : Bool) → eqb v.state.fault 0 ≡ b
-          → (cond {A = Listing} b (operands_read text names levels left (joined_to l v.state) v.room) (record { listed = joined_to l v.state; room = v.room })).listed.state.fault ≡ 0 → v.state.fault ≡ 0
+      go : (b : Bool) → eqb (fault_in v.state) 0 ≡ b
+          → (fault_in (cond {A = Listing} b (operands_read text names levels left (joined_to l v.state) v.room) (record { listed = joined_to l v.state; room = v.room })).listed.state) ≡ 0 → fault_in v.state ≡ 0
       go true e g = eqb-true _ _ e
-      go false e g = ap (λ (s : State). s.fault) (sym (joined_state l v.state)) ∙ g
+      go false e g = ap (λ (s : State). (fault_in s)) (sym (joined_state l v.state)) ∙ g
 
 -- an expression that meets 32 to 34, from a place to another
 pub record Derived (text : List ℕ) (ws : List (List ℕ)) (levels from to : ℕ) : Type 0 where
@@ -259,10 +258,10 @@ record DerivedAll (text : List ℕ) (ws : List (List ℕ)) (levels left from to 
 
 module _ (text : List ℕ) (names : ℕ) (ws : List (List ℕ)) (k : Known text names ws) where
   unfoldable pub Reading : ℕ → Type 0
-  Reading levels = (s : State) (room : List ℕ) → (expression_of levels text names s room).state.fault ≡ 0 → Derived text ws levels s.at (expression_of levels text names s room).state.at
+  Reading levels = (s : State) (room : List ℕ) → (fault_in (expression_of levels text names s room).state) ≡ 0 → Derived text ws levels s.at (expression_of levels text names s room).state.at
 
   -- a list's operands, from what is known of expressions at its level
-  derives_list : (levels left : ℕ) → Reading levels → (l : Listed) (room : List ℕ) → (operands_read text names levels left l room).listed.state.fault ≡ 0
+  derives_list : (levels left : ℕ) → Reading levels → (l : Listed) (room : List ℕ) → (fault_in (operands_read text names levels left l room).listed.state) ≡ 0
       → DerivedAll text ws levels left l.state.at (operands_read text names levels left l room).listed.state.at
   unfolding operands_by Reading count knows within counted
   derives_list levels zero below l room f = record { trees = nil; reads = none; many = refl; known = refl; deep = refl; full = refl }
@@ -272,7 +271,7 @@ module _ (text : List ℕ) (names : ℕ) (ws : List (List ℕ)) (k : Known text 
       let clean = operand_clean text names levels left l room f in
       let d = operand_at text names levels left l room clean in
       let h = below l.state room clean in
-      let r = derives_list levels left below j v.room (ap (λ (u : Listing). u.listed.state.fault) (sym d) ∙ f) in
+      let r = derives_list levels left below j v.room (ap (λ (u : Listing). (fault_in u.listed.state)) (sym d) ∙ f) in
       subst (λ (u : Listing). DerivedAll text ws levels (suc left) l.state.at u.listed.state.at) (sym d)
       (record {
         trees = cons h.tree r.trees;
@@ -283,7 +282,7 @@ module _ (text : List ℕ) (names : ℕ) (ws : List (List ℕ)) (k : Known text 
         full = both h.full r.full;
       })
 
-  module _ (levels : ℕ) (s : State) (room : List ℕ) (f : (expression_of levels text names s room).state.fault ≡ 0) where
+  module _ (levels : ℕ) (s : State) (room : List ℕ) (f : (fault_in (expression_of levels text names s room).state) ≡ 0) where
     derives_constant : (n v to : ℕ) → head_of text names s levels ≡ Constant n v to → Stands text s.at (Literal n v) to → Derived text ws levels s.at (expression_of levels text names s room).state.at
     unfolding knows within counted
     derives_constant n v to e w =
@@ -295,16 +294,16 @@ module _ (text : List ℕ) (names : ℕ) (ws : List (List ℕ)) (k : Known text 
     derives_name v e {w} {to} n d p =
         rw (done_at text names levels s room v e, p) (record { tree = symbol w; reads = name n; known = sym (declared_is k w) ∙ d; deep = refl; full = refl })
 
-    no-fault : (v : State) → head_of text names s levels ≡ Done v → (v.fault ≡ 0 → ⊥) → ⊥
-    no-fault v e n = n (ap (λ (x : Work). x.state.fault) (sym (done_at text names levels s room v e)) ∙ f)
+    no-fault : (v : State) → head_of text names s levels ≡ Done v → (fault_in v ≡ 0 → ⊥) → ⊥
+    no-fault v e n = n (ap (λ (x : Work). (fault_in x.state)) (sym (done_at text names levels s room v e)) ∙ f)
 
-  derives_zero : (s : State) (room : List ℕ) (h : Head) → head_of text names s 0 ≡ h → Begins text names s 0 h → (expression_of 0 text names s room).state.fault ≡ 0
+  derives_zero : (s : State) (room : List ℕ) (h : Head) → head_of text names s 0 ≡ h → Begins text names s 0 h → (fault_in (expression_of 0 text names s room).state) ≡ 0
       → Derived text ws 0 s.at (expression_of 0 text names s room).state.at
   derives_zero s room h e (constant_here {n = n} {v = v} {to = to} w) f = derives_constant 0 s room f n v to e w
   derives_zero s room h e (named_here {v = v} w d p) f = derives_name 0 s room f v e w d p
   derives_zero s room h e (faulty_here {v = v} n) f = absurd (no-fault 0 s room f v e n)
 
-  derives_suc : (levels : ℕ) → Reading levels → (s : State) (room : List ℕ) (h : Head) → head_of text names s (suc levels) ≡ h → Begins text names s (suc levels) h → (expression_of (suc levels) text names s room).state.fault ≡ 0
+  derives_suc : (levels : ℕ) → Reading levels → (s : State) (room : List ℕ) (h : Head) → head_of text names s (suc levels) ≡ h → Begins text names s (suc levels) h → (fault_in (expression_of (suc levels) text names s room).state) ≡ 0
       → Derived text ws (suc levels) s.at (expression_of (suc levels) text names s room).state.at
   unfolding knows within counted
   derives_suc levels below s room h e (constant_here {n = n} {v = v} {to = to} w) f = derives_constant (suc levels) s room f n v to e w
@@ -312,7 +311,7 @@ module _ (text : List ℕ) (names : ℕ) (ws : List (List ℕ)) (k : Known text 
   derives_suc levels below s room h e (faulty_here {v = v} n) f = absurd (no-fault (suc levels) s room f v e n)
   derives_suc levels below s room h e (list_here {op = op} {b = b} o p) f =
       let d = call_at text names levels s room op b e in
-      let c = closes text names levels (operands_read text names levels (operands_of op) (begin_list s b) room).listed (ap (λ (x : Work). x.state.fault) (sym d) ∙ f) in
+      let c = closes text names levels (operands_read text names levels (operands_of op) (begin_list s b) room).listed (ap (λ (x : Work). (fault_in x.state)) (sym d) ∙ f) in
       let r = derives_list levels (operands_of op) below (begin_list s b) room c.clean in
       subst (λ (i : ℕ). Derived text ws (suc levels) s.at i) (ap (λ (x : Work). x.state.at) (sym d))
       (record { tree = apply op r.trees; reads = list o p r.reads c.stands; known = r.known; deep = r.deep; full = both (eq-eqb _ _ r.many) r.full })

@@ -1,15 +1,17 @@
 -- The parenthesis that closes, byte by byte.
 -- Assumes nothing.
-use mathlib.Core.Path.{◌≡◌, refl, ap}
-use mathlib.Core.Bool.{true, false, ◌&&◌}
+use Rattle.std.proofs.lemmas.List.{take_all}
+use Rattle.std.proofs.Math.Nat.{min-eq_left, min-eq_right}
+use mathlib.Core.Path.{◌≡◌, refl, sym, ap, ◌∙◌}
+use mathlib.Core.Bool.{Bool, true, false, ◌&&◌}
 use mathlib.Core.List.{List}
-use Prim.Native.Nat.{ℕ, ◌+◌, ◌-◌, ◌<◌, ◌≤◌}
+use Prim.Native.Nat.{ℕ, ◌+◌, ◌-◌, ◌<◌, ◌≤◌, min}
 use native.Mathlib.Numerals.{add-one}
 use native.Mathlib.Omega.{arith}
-use lib.Dec.{eqb}
-use lib.ListN.{length, drop, get_or, drop_of_length-le}
+use lib.Dec.{eqb, leb}
+use lib.ListN.{length, take, drop, get_or, drop_of_length-le, length-drop}
 use lib.Seq.{drop-cons}
-use borrow.Author.Tests.{eqb-false}
+use borrow.Author.Tests.{eqb-false, leb-true, leb-false}
 use Rattle.parser.specs.Names.{depth_after, closing}
 use Rattle.parser.proofs.Choices.{by_test}
 
@@ -48,3 +50,19 @@ module _ (text : List ℕ) (at depth i : ℕ) (h : Closing text at depth i) wher
   pub never : length text ≤ i → i ≡ at + closing 1 (drop at text)
   unfolding closing
   never b = let l = ap (closing depth) (drop_of_length-le text b) in omega (arith, l, h.so_far)
+
+-- the search of what follows a place, as the slice from there
+rest_is : (text : List ℕ) (at m : ℕ) → m ≡ min at (length text) → take (length text - m) (drop m text) ≡ drop at text
+rest_is text at m e = go (leb at (length text)) refl
+  where
+    go : (t : Bool) → leb at (length text) ≡ t → take (length text - m) (drop m text) ≡ drop at text
+    go true h =
+        let same : m ≡ at = e ∙ min-eq_left (leb-true at (length text) h) in
+        rw same (take_all (length text - at) (drop at text) (omega (arith, length-drop at text)))
+    go false h =
+        let last : m ≡ length text = e ∙ min-eq_right (omega (arith, leb-false at (length text) h)) in
+        let none : length text - m ≡ 0 = omega arith in
+        rw none (sym (drop_of_length-le text (omega (arith, leb-false at (length text) h))))
+
+pub from_rest : (text : List ℕ) (at m : ℕ) → m ≡ min at (length text) → {k : ℕ} → k ≡ 0 + closing 1 (drop 0 (take (length text - m) (drop m text))) → at + k ≡ at + closing 1 (drop at text)
+from_rest text at m e f = let g = ap (closing 1) (rest_is text at m e) in omega (arith, f, g)

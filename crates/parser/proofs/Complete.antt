@@ -16,11 +16,12 @@ use Rattle.table.specs.declared.words.Term.{Term}
 use Rattle.table.specs.Code.Writing.{placed}
 use Rattle.parser.specs.declared.words.Word.{Word}
 use Rattle.parser.specs.declared.words.Word.TheVariants.{Open, Close, Keyword, End}
+use Rattle.parser.specs.declared.words.Keyword.TheVariants.{DeclareConst, Assert, CheckSat}
 use Rattle.parser.specs.declared.states.State.{State}
 use Rattle.parser.specs.declared.states.Listed.{Listed}
 use Rattle.parser.specs.declared.states.Progress.{Progress}
 use Rattle.parser.specs.Words.{marked, token_at}
-use Rattle.parser.specs.Expressions.{Work, Listing, more_of, number, begin_list, joined_to, operands_by, operands_of, expression_of}
+use Rattle.parser.specs.Expressions.{fault_in, Work, Listing, more_of, number, begin_list, joined_to, operands_by, operands_of, expression_of}
 use Rattle.parser.specs.Rules.{Step, moved_to, is_name, variable_term, and_term, joined_rule, ended_rule, command_of, commands_of, start, rule_of}
 use Rattle.parser.specs.Grammar.{Tree, Trees, Declared, Rule, Stands, Named, Sorting, Expression, Operands, Declarations, Asserts, Reads}
 use Rattle.parser.specs.Grammar.Tree.{literal, symbol, apply}
@@ -68,7 +69,7 @@ counts_one : {n : ℕ} (k l : ℕ) → n ≡ number k → suc k ≡ l → more_o
 counts_one k l e f = ap more_of e ∙ number_more k ∙ ap number f
 
 record Counts (v : State) (to k : ℕ) : Type 0 where
-  clean : v.fault ≡ 0
+  clean : fault_in v ≡ 0
   place : v.at ≡ to
   many : v.count ≡ number k
 
@@ -77,7 +78,7 @@ module _ (text : List ℕ) (names : ℕ) (ws : List (List ℕ)) (known : Known t
     unfolding operands_by knows within count counted size
 
     counts : {from to : ℕ} {t : Tree} → Expression text from t to → (levels : ℕ) (s : State) (room : List ℕ) (k : ℕ)
-        → s.fault ≡ 0 → s.at ≡ from → s.count ≡ number k
+        → fault_in s ≡ 0 → s.at ≡ from → s.count ≡ number k
         → knows ws t ≡ true → within levels t ≡ true → counted t ≡ true → (expression_of levels text names s room).state.count ≡ number (k + size t)
     counts (constant {n = n} {v = v} {to = to} w) levels s room k f e m kn wi co =
         ap (λ (x : Work). x.state.count) (constant_at text names levels s room n v to (head_constant text names s levels f e w))
@@ -96,7 +97,7 @@ module _ (text : List ℕ) (names : ℕ) (ws : List (List ℕ)) (known : Known t
         ∙ counts_one (k + sizes ts) (k + suc (sizes ts)) r.many (omega arith)
 
     counts_all : {from to : ℕ} {ts : Trees} → Operands text from ts to → (levels left : ℕ) → count ts ≡ left → (l : Listed) (room : List ℕ) (k : ℕ)
-        → l.state.fault ≡ 0 → l.state.at ≡ from → l.state.count ≡ number k
+        → fault_in l.state ≡ 0 → l.state.at ≡ from → l.state.count ≡ number k
         → knows_all ws ts ≡ true → all_within levels ts ≡ true → all_counted ts ≡ true
         → Counts (operands_read text names levels left l room).listed.state to (k + sizes ts)
     counts_all no_Operand levels zero n l room k f e m kn wi co = record { clean = f; place = e; many = counts_same k (k + 0) m (omega arith) }
@@ -109,7 +110,7 @@ module _ (text : List ℕ) (names : ℕ) (ws : List (List ℕ)) (known : Known t
         let h = follows known x levels l.state room f e kn' wi' co' in
         let v = expression_of levels text names l.state room in
         let j = joined_state l v.state in
-        let f' = ap (λ (s : State). s.fault) j ∙ h.clean in
+        let f' = ap (λ (s : State). (fault_in s)) j ∙ h.clean in
         let e' = ap (λ (s : State). s.at) j ∙ h.place in
         let m' = ap (λ (s : State). s.count) j ∙ counts x levels l.state room k f e m kn' wi' co' in
         let r = counts_all xs levels left (omega arith) (joined_to l v.state) v.room (k + size t) f' e' m' (and_right (knows ws t) (knows_all ws ts) kn)
@@ -119,7 +120,7 @@ module _ (text : List ℕ) (names : ℕ) (ws : List (List ℕ)) (known : Known t
 
 -- the declarations that were read, up to a place, and the asserts: how many, the rule so far, whether it is a bare name; and the terms so far
 record Ready (text : List ℕ) (ds : List Declared) (at n rule : ℕ) (bare : Bool) (xs : List Term) (v : Step) : Type 0 where
-  clean : v.progress.state.fault ≡ 0
+  clean : fault_in v.progress.state ≡ 0
   place : v.progress.state.at ≡ at
   names_are : v.progress.names ≡ length ds
   going_on : v.progress.ended ≡ false
@@ -160,7 +161,7 @@ record Led (text : List ℕ) (ds : List Declared) (to n rule : ℕ) (bare : Bool
 
 module _ (text : List ℕ) (small : Storable text) (all : List Declared) (apart : distinct (names_of all) ≡ true) where
   one_declared : {ds : List Declared} {from a b c d e : ℕ} {w : List ℕ} {q : Sort} {v : Step} {xs : List Term} → Ready text ds from 0 0 false xs v → length xs ≡ length ds
-      → Stands text from Open a → Stands text a (Keyword 0) b → Named text b w c → Sorting text c q d → Stands text d Close e
+      → Stands text from Open a → Stands text a (Keyword DeclareConst) b → Named text b w c → Sorting text c q d → Stands text d Close e
       → Declarations text 0 ds from → is_in (names_of ds) w ≡ false → length ds < 4611686018427387904
       → Ready text (ds ++ (record { name = w; sort = q } ∷ [])) e 0 0 false (xs ++ (variable_term q.m q.n (length ds) (marked w) ∷ [])) (command_of text v.progress v.room)
   one_declared {ds} {w = w} {q = q} {v = v} {xs = xs} r same o k n s z before new few =
@@ -227,7 +228,7 @@ module _ (text : List ℕ) (ds : List Declared) {declared_to : ℕ} (before : De
   -- an expression and its closing parenthesis
   record Asserted (p : Progress) (room : List ℕ) (xs : List Term) (t : Tree) (b d : ℕ) (g : Work) : Type 0 where
     is : command_of text p room ≡ joined_rule p (is_name (token_at text b).word) g
-    clean : g.state.fault ≡ 0
+    clean : fault_in g.state ≡ 0
     place : g.state.at ≡ d
     rooted : length (xs ++ tree_terms ds (length xs) t) ≤ 512 → g.state.root ≡ root ds (length xs) t
     many : g.state.count ≡ number (length (xs ++ tree_terms ds (length xs) t))
@@ -237,7 +238,7 @@ module _ (text : List ℕ) (ds : List Declared) {declared_to : ℕ} (before : De
   after p room b d = record { state = moved_to (expression_of 64 text p.names (moved_to p.state b) room).state d; room = (expression_of 64 text p.names (moved_to p.state b) room).room }
 
   asserted-there : {from a b c d m rule : ℕ} {bare : Bool} {t : Tree} {v : Step} {xs : List Term} → Ready text ds from m rule bare xs v → Based ds xs
-      → Stands text from Open a → Stands text a (Keyword 1) b → Expression text b t c → Stands text c Close d → knows (names_of ds) t ≡ true → within 64 t ≡ true → counted t ≡ true
+      → Stands text from Open a → Stands text a (Keyword Assert) b → Expression text b t c → Stands text c Close d → knows (names_of ds) t ≡ true → within 64 t ≡ true → counted t ≡ true
       → Asserted v.progress v.room xs t b d (after v.progress v.room b d)
   asserted-there {b = b} {c = c} {d = d} {t = t} {v = v} {xs = xs} r based o k x z kn wi co =
       let p = v.progress in
@@ -328,7 +329,7 @@ module _ (text : List ℕ) (ds : List Declared) {declared_to : ℕ} (before : De
 -- The end
 
 record Over (xs : List Term) (v : Step) : Type 0 where
-  clean : v.progress.state.fault ≡ 0
+  clean : fault_in v.progress.state ≡ 0
   over : v.progress.ended ≡ true
   many : v.progress.state.count ≡ number (length xs)
   holds : length xs ≤ 512 → Holds zeros xs v.progress.state.count v.room
@@ -356,7 +357,7 @@ ends_bare {rule = rule} {xs = xs} {v = v} r to =
     })
 
 -- check-sat is the last command
-ended_now : {text : List ℕ} {ds : List Declared} {from a b c n rule : ℕ} {bare : Bool} {xs ys : List Term} → Stands text from Open a → Stands text a (Keyword 2) b → Stands text b Close c → (token_at text c).word ≡ End
+ended_now : {text : List ℕ} {ds : List Declared} {from a b c n rule : ℕ} {bare : Bool} {xs ys : List Term} → Stands text from Open a → Stands text a (Keyword CheckSat) b → Stands text b Close c → (token_at text c).word ≡ End
     → (left : ℕ) (v : Step) → Ready text ds from (suc n) rule bare xs v → length text < left + from → Over ys (ended_rule v.progress (moved_to v.progress.state (token_at text c).next) v.room)
     → Over ys (commands_of left text v)
 ended_now o k z end zero v r fuel u = absurd (omega (arith, open_onward o, onward k, onward z, close_inside z))
@@ -396,7 +397,7 @@ bare_name (list o p os c) = rw o.here
 
 -- The whole
 
-module _ (text : List ℕ) (ds : List Declared) {from a b c : ℕ} (opened : Stands text from Open a) (checked : Stands text a (Keyword 2) b) (closed : Stands text b Close c) (ended : (token_at text c).word ≡ End)
+module _ (text : List ℕ) (ds : List Declared) {from a b c : ℕ} (opened : Stands text from Open a) (checked : Stands text a (Keyword CheckSat) b) (closed : Stands text b Close c) (ended : (token_at text c).word ≡ End)
     (left : ℕ) (v : Step) (fuel : length text < left + from) where
   -- a sole assert
   ends-alone : (vs : List Term) (t : Tree) (rule : ℕ) → Ready text ds from 1 rule (bare_tree t) ((vs ++ tree_terms ds (length vs) t) ++ []) v → rule ≡ root ds (length vs) t
@@ -429,7 +430,7 @@ module _ (text : List ℕ) (ds : List Declared) {from a b c : ℕ} (opened : Sta
 
 all-asserted : {text : List ℕ} {ds : List Declared} {ts : List Tree} {declared_to from a b c : ℕ} → Declarations text 0 ds declared_to → Asserts text declared_to ts from → 0 < length ts
     → every_tree (knows (names_of ds)) ts ≡ true → every_tree (within 64) ts ≡ true → every_tree counted ts ≡ true
-    → Stands text from Open a → Stands text a (Keyword 2) b → Stands text b Close c → (token_at text c).word ≡ End
+    → Stands text from Open a → Stands text a (Keyword CheckSat) b → Stands text b Close c → (token_at text c).word ≡ End
     → (left : ℕ) (v : Step) (vs : List Term) → Based ds vs → Ready text ds declared_to 0 0 false vs v → length text < left + declared_to → Over (vs ++ asserted_terms ds (length vs) ts) (commands_of left text v)
 unfolding every_tree
 all-asserted before unasserted some kn wi co opened checked closed ended left v vs based r fuel = absurd (omega arith)

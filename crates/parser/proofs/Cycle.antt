@@ -14,7 +14,7 @@ use Rattle.table.specs.Code.Writing.{placed}
 use Rattle.parser.specs.declared.states.State.{State}
 use Rattle.parser.specs.declared.states.Listed.{Listed}
 use Rattle.parser.specs.declared.states.Head.TheVariants.{Done, Constant, Call}
-use Rattle.parser.specs.Expressions.{added, head_of, begin_list, joined_to, term_of, constant_term, closed_state, closed_by, operands_by, operands_of, expression_of}
+use Rattle.parser.specs.Expressions.{fault_in, added, head_of, begin_list, joined_to, term_of, constant_term, closed_state, closed_by, operands_by, operands_of, expression_of}
 use Rattle.parser.proofs.Moving.{deeper, joined_state, expression_moves}
 
 -- an expression that is done at its first word, a constant, and an operator with its list
@@ -69,7 +69,7 @@ module _ (levels : ℕ) (text : List ℕ) (names left : ℕ) (l : Listed) (room 
 
 one_left : (levels : ℕ) (text : List ℕ) (names left : ℕ) (l : Listed) (room : List ℕ) → (left ≡ 0 → ⊥)
     → operands_by (expression_of levels text names) left l room
-    ≡ cond (eqb (expression_of levels text names l.state room).state.fault 0)
+    ≡ cond (eqb (fault_in (expression_of levels text names l.state room).state) 0)
     (operands_by (expression_of levels text names) (left - 1) (joined_to l (expression_of levels text names l.state room).state) (expression_of levels text names l.state room).room)
     (record { listed = joined_to l (expression_of levels text names l.state room).state; room = (expression_of levels text names l.state room).room })
 unfolding operands_by
@@ -77,15 +77,15 @@ one_left levels text names zero l room n = absurd (n refl)
 one_left levels text names (suc left) l room n = rw (sub-one (suc left))
 
 module _ (levels : ℕ) (text : List ℕ) (names left : ℕ) (l : Listed) (room : List ℕ) (n : left ≡ 0 → ⊥) (v : State) (room₁ : List ℕ) (ev : Read levels text names l.state room v room₁) (j : Listed) (ej : j ≡ joined_to l v) where
-  pub stopped : (v.fault ≡ 0 → ⊥) → ReadAll levels text names left l room j room₁
+  pub stopped : (fault_in v ≡ 0 → ⊥) → ReadAll levels text names left l room j room₁
   stopped f =
-      let g = ne_eqb (expression_of levels text names l.state room).state.fault 0 (λ z. f (ap (λ (s : State). s.fault) ev.0 ∙ z)) in
+      let g = ne_eqb (fault_in (expression_of levels text names l.state room).state) 0 (λ z. f (ap (λ (s : State). (fault_in s)) ev.0 ∙ z)) in
       rw (one_left levels text names left l room n, g) (rw (ej, ev.0, ev.1) (refl, refl))
 
-  pub one_more_lem : v.fault ≡ 0
+  pub one_more_lem : fault_in v ≡ 0
       → (k : Listed) (room₂ : List ℕ) → ReadAll levels text names (left - 1) j room₁ k room₂ → ReadAll levels text names left l room k room₂
   one_more_lem f k room₂ ek =
-      let g = eq-eqb (expression_of levels text names l.state room).state.fault 0 (sym (ap (λ (s : State). s.fault) ev.0) ∙ f) in
+      let g = eq-eqb (fault_in (expression_of levels text names l.state room).state) 0 (sym (ap (λ (s : State). (fault_in s)) ev.0) ∙ f) in
       rw (one_left levels text names left l room n, g) (rw (ek.0, ek.1, ej, ev.0, ev.1) (refl, refl))
 
 -- What falls: the levels of parentheses left, and the bytes left
@@ -108,9 +108,9 @@ operand_below m = omega arith
 bytes_fall : (k n a b : ℕ) → a < b → a < n → k + 2 * (n - b) + 1 < k + 2 * (n - a) + 1
 bytes_fall k n a b h i = omega arith
 
-pub rest_below : (levels : ℕ) (text : List ℕ) (names : ℕ) (l : Listed) (room : List ℕ) (v : State) → v ≡ (expression_of levels text names l.state room).state → v.fault ≡ 0
+pub rest_below : (levels : ℕ) (text : List ℕ) (names : ℕ) (l : Listed) (room : List ℕ) (v : State) → v ≡ (expression_of levels text names l.state room).state → fault_in v ≡ 0
     → (j : Listed) → j ≡ joined_to l v → measure text levels j.state.at + 1 < measure text levels l.state.at + 1
 rest_below levels text names l room v ev f j ej =
-    let o = expression_moves levels text names l.state room (sym (ap (λ (s : State). s.fault) ev) ∙ f) in
+    let o = expression_moves levels text names l.state room (sym (ap (λ (s : State). (fault_in s)) ev) ∙ f) in
     let e : j.state.at ≡ (expression_of levels text names l.state room).state.at = ap (λ (k : Listed). k.state.at) ej ∙ ap (λ (s : State). s.at) (joined_state l v) ∙ ap (λ (s : State). s.at) ev in
     rw e (bytes_fall (levels * (2 * length text + 4)) (length text) l.state.at (expression_of levels text names l.state room).state.at o.further o.inside)

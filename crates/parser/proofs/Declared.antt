@@ -1,9 +1,10 @@
 -- The names of declarations, one after the other.
 -- Assumes nothing.
-use mathlib.Core.Path.{◌≡◌, refl, ap, ◌∙◌}
-use mathlib.Core.Bool.{true, false, cond}
+use Rattle.std.proofs.Math.Nat.{min-eq_left, min-eq_right, min-le_right}
+use mathlib.Core.Path.{◌≡◌, refl, sym, ap, ◌∙◌}
+use mathlib.Core.Bool.{Bool, true, false, cond}
 use mathlib.Core.List.{List, []}
-use Prim.Native.Nat.{ℕ, zero, suc, ◌+◌, ◌-◌, ◌<◌, ◌≤◌}
+use Prim.Native.Nat.{ℕ, zero, suc, ◌+◌, ◌-◌, ◌<◌, ◌≤◌, min}
 use native.Mathlib.Numerals.{sub-one}
 use native.Mathlib.Omega.{arith}
 use lib.Dec.{ltb}
@@ -13,7 +14,6 @@ use borrow.Author.Tests.{ltb-true, ltb-false}
 use Rattle.smtlib.specs.Bytes.{part, same_bytes}
 use Rattle.parser.specs.Words.{inside, past}
 use Rattle.parser.specs.Names.{name_from, name_to, declaration_end, index_from, index_of}
-use Rattle.parser.proofs.Choices.{by_test}
 
 module _ (text w : List ℕ) where
   -- past the text's end there are no bytes, whatever the place
@@ -28,13 +28,15 @@ module _ (text w : List ℕ) where
       rw (nothing (name_from text at) (name_to text at) (omega arith), nothing (name_from text n) (name_to text n) (omega arith), past_end left (declaration_end text at) (omega arith), past_end left (declaration_end text n) (omega arith))
 
   -- so a place may be brought into the text
-  brought : (left e at : ℕ) → at ≡ cond (ltb e (length text)) e (length text) → index_from left text e w ≡ index_from left text at w
-  brought left e at is =
-      rw is (by_test (λ (a : ℕ). index_from left text e w ≡ index_from left text a w) (ltb e (length text)) (λ f. refl) (λ f. past_end left e (ltb-false e (length text) f)))
+  brought : (left e at : ℕ) → at ≡ min e (length text) → index_from left text e w ≡ index_from left text at w
+  brought left e at is = go (ltb e (length text)) refl
+    where
+      go : (t : Bool) → ltb e (length text) ≡ t → index_from left text e w ≡ index_from left text at w
+      go true f = ap (λ (a : ℕ). index_from left text a w) (sym (is ∙ min-eq_left (omega (arith, ltb-true e (length text) f))))
+      go false f = past_end left e (ltb-false e (length text) f) ∙ ap (λ (a : ℕ). index_from left text a w) (sym (is ∙ min-eq_right (ltb-false e (length text) f)))
 
-  within : (e at : ℕ) → at ≡ cond (ltb e (length text)) e (length text) → at ≤ length text
-  within e at is =
-      rw is (by_test (λ (a : ℕ). a ≤ length text) (ltb e (length text)) (λ f. omega (arith, ltb-true e (length text) f)) (λ f. omega arith))
+  within : (e at : ℕ) → at ≡ min e (length text) → at ≤ length text
+  within e at is = rw is (min-le_right e (length text))
 
   next : (left at : ℕ) → 0 < left → index_from left text at w ≡ cond (same_bytes (part text (name_from text at) (name_to text at)) w) 0 (suc (index_from (left - 1) text (declaration_end text at) w))
   unfolding index_from
@@ -58,7 +60,7 @@ module _ (text : List ℕ) (names : ℕ) (w : List ℕ) (at i : ℕ) (h : Search
         omega (arith, n, h.so_far)
 
     pub passed : i < names → same_bytes (part text start end) w ≡ false
-        → (e : ℕ) → e ≡ declaration_end text at → (to : ℕ) → to ≡ cond (ltb e (length text)) e (length text) → Searching text names w to (i + 1)
+        → (e : ℕ) → e ≡ declaration_end text at → (to : ℕ) → to ≡ min e (length text) → Searching text names w to (i + 1)
     passed b n e is to brings =
         let f : same_bytes (part text (name_from text at) (name_to text at)) w ≡ false = rw (last, first) at n in
         let k : names - i - 1 ≡ names - (i + 1) = omega arith in
@@ -66,6 +68,6 @@ module _ (text : List ℕ) (names : ℕ) (w : List ℕ) (at i : ℕ) (h : Search
         let m = brought text w (names - (i + 1)) (declaration_end text at) to (rw is at brings) in
         record { so_far = omega (arith, g, m, h.so_far); inside = within text w e to brings }
 
-  pub none : names ≤ i → i ≡ index_of text names w
+  pub none : names ≤ i → i ≤ names → names ≡ index_of text names w
   unfolding index_from
-  none b = let z : names - i ≡ 0 = omega arith in let r = rw z at h.so_far in omega (arith, r)
+  none b c = let z : names - i ≡ 0 = omega arith in let r = rw z at h.so_far in omega (arith, r, b, c)

@@ -1,5 +1,7 @@
 -- What a text answers, and what it leaves in the room.
 -- Assumes nothing.
+use Rattle.std.specs.Prelude.{Ok, Err}
+use Rattle.parser.specs.Expressions.{fault_in}
 use mathlib.Core.Path.{◌≡◌, refl, ap, ◌∙◌}
 use mathlib.Core.Bool.{Bool, true, false, cond}
 use mathlib.Core.List.{List, ◌++◌}
@@ -9,12 +11,10 @@ use lib.Dec.{eqb, ltb}
 use lib.ListN.{length, take, drop, replicate}
 use lib.Seq.{length-take-le}
 use borrow.Author.Tests.{ltb-false}
-use Rattle.table.specs.declared.Acceptance.{Acceptance}
-use Rattle.table.specs.declared.Acceptance.TheVariants.{Accepted, Refused}
+use Rattle.table.specs.Answers.{Acceptance}
 use Rattle.table.specs.Terms.{words}
 use Rattle.table.specs.Admission.{and_then, admission}
-use Rattle.parser.specs.declared.Parsing.{Parsing}
-use Rattle.parser.specs.declared.Parsing.TheVariants.{Parsed, NotParsed}
+use Rattle.parser.specs.Parsing.{Parsing}
 use Rattle.parser.specs.declared.states.State.{State}
 use Rattle.parser.specs.declared.states.Progress.{Progress}
 use Rattle.parser.specs.Rules.{commands_of, start, rule_of}
@@ -23,12 +23,12 @@ use Rattle.parser.proofs.Commands.{step_of, Is}
 
 -- the answer of a state and a table
 abbrev pub answer_of : State → List ℕ → ℕ → Parsing
-answer_of s table room = cond (eqb s.fault 0) (tabled (take (s.count * words) table) s.count room) (not_parsed s.fault s.at)
+answer_of s table room = cond (eqb (fault_in s) 0) (tabled (take (s.count * words) table) s.count room) (not_parsed (fault_in s) s.at)
 
 -- the same, with the four things that decide it
 decided : State → ℕ → Bool → Bool → Acceptance → Bool → Parsing
 decided s room fine many a short =
-    cond fine (cond many (not_parsed 2 0) (and_then NotParsed a (cond short (not_parsed 21 s.count) (Parsed (s.count * words))))) (not_parsed s.fault s.at)
+    cond fine (cond many (not_parsed 2 0) (and_then Err a (cond short (not_parsed 21 s.count) (Ok (s.count * words))))) (not_parsed (fault_in s) s.at)
 
 -- what is written is in the table and fits the room
 pub record Fits (room : ℕ) (r : Parsing) : Type 0 where
@@ -39,13 +39,13 @@ fits_decided : (s : State) (room : ℕ) (fine many : Bool) (a : Acceptance) (sho
 unfolding decided
 fits_decided s room false many a short e f = record { few = omega arith; enough = omega arith }
 fits_decided s room true true a short e f = record { few = omega arith; enough = omega arith }
-fits_decided s room true false (Refused r) short e f = record { few = omega arith; enough = omega arith }
-fits_decided s room true false Accepted true e f = record { few = omega arith; enough = omega arith }
-fits_decided s room true false Accepted false e f = let few : s.count ≤ 512 = ltb-false _ _ e in record { few = omega arith; enough = ltb-false _ _ f }
+fits_decided s room true false (Err r) short e f = record { few = omega arith; enough = omega arith }
+fits_decided s room true false (Ok _) true e f = record { few = omega arith; enough = omega arith }
+fits_decided s room true false (Ok _) false e f = let few : s.count ≤ 512 = ltb-false _ _ e in record { few = omega arith; enough = ltb-false _ _ f }
 
 pub fits : (s : State) (table : List ℕ) (room : ℕ) (r : Parsing) → r ≡ answer_of s table room → Fits room r
 unfolding decided
-fits s table room r e = rw e (fits_decided s room (eqb s.fault 0) (ltb 512 s.count) (admission (take (s.count * words) table)) (ltb room (s.count * words)) refl refl)
+fits s table room r e = rw e (fits_decided s room (eqb (fault_in s) 0) (ltb 512 s.count) (admission (take (s.count * words) table)) (ltb room (s.count * words)) refl refl)
 
 -- the room's front is what the table's front was, and nothing where it is refused
 filled_decided : (text room : List ℕ) (fine many : Bool) (a : Acceptance) (short : Bool) → (r : Parsing) → r ≡ decided (rule_of text).progress.state (length room) fine many a short
@@ -53,9 +53,9 @@ filled_decided : (text room : List ℕ) (fine many : Bool) (a : Acceptance) (sho
 unfolding decided
 filled_decided text room false many a short r e = rw e
 filled_decided text room true true a short r e = rw e
-filled_decided text room true false (Refused q) short r e = rw e
-filled_decided text room true false Accepted true r e = rw e
-filled_decided text room true false Accepted false r e = rw e
+filled_decided text room true false (Err q) short r e = rw e
+filled_decided text room true false (Ok _) true r e = rw e
+filled_decided text room true false (Ok _) false r e = rw e
 
 module _ (text room : List ℕ) (p : Progress) (table : List ℕ) (is : Is (commands_of (length text + 1) text (step_of start (replicate 3072 0))) p table) (r : Parsing) (e : r ≡ answer_of p.state table (length room)) where
   pub parse_is : r ≡ parsing text (length room)
@@ -78,4 +78,4 @@ module _ (text room : List ℕ) (p : Progress) (table : List ℕ) (is : Is (comm
     filled after c =
         c ∙ ap (λ (k : ℕ). take n table ++ drop k room) front ∙ ap (λ (k : ℕ). take k table ++ drop k room) g
         ∙ ap (λ (l : List ℕ). take (given_by r) l ++ drop (given_by r) room) is.1
-        ∙ filled_decided text room (eqb (rule_of text).progress.state.fault 0) (ltb 512 (rule_of text).progress.state.count) (admission (built text)) (ltb (length room) ((rule_of text).progress.state.count * words)) r parse_is
+        ∙ filled_decided text room (eqb (fault_in (rule_of text).progress.state) 0) (ltb 512 (rule_of text).progress.state.count) (admission (built text)) (ltb (length room) ((rule_of text).progress.state.count * words)) r parse_is

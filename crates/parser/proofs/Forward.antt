@@ -15,7 +15,7 @@ use Rattle.smtlib.specs.Symbols.{operator_of}
 use Rattle.parser.specs.declared.words.Word.{Word}
 use Rattle.parser.specs.declared.words.Word.TheVariants.{Open, Close, Keyword, Operator, Literal, Width, Name, Other, End}
 use Rattle.parser.specs.declared.words.Token.{Token}
-use Rattle.parser.specs.Words.{white, inside, keywords, binary, width, is_name, tag_of, plain_of, word_of, ahead, past, word_from, token_at, Moves, WordsMove, EndAtEnd}
+use Rattle.parser.specs.Words.{white, inside, keywords, keyword_at, binary, width, is_name, sort_named, plain_of, word_of, ahead, past, word_from, token_at, Moves, WordsMove, EndAtEnd}
 use Rattle.parser.proofs.Ahead.{not-past_end}
 
 -- What stops a search, and what does not
@@ -63,13 +63,13 @@ either false e f = f
 word_is_no_end : (w : List ℕ) → NoEnd (word_of w)
 unfolding word_of plain_of is_end
 word_is_no_end w =
-    either (is_in keywords w) {x = Keyword (place_in keywords w)} (record { is = refl })
+    either (is_in keywords w) {x = Keyword (keyword_at (place_in keywords w))} (record { is = refl })
     (either (ltb 0 (operator_of w)) {x = Operator (operator_of w)} (record { is = refl })
     (either (same_bytes w (bytes "true")) {x = Literal 0 1} (record { is = refl })
     (either (same_bytes w (bytes "false")) {x = Literal 0 0} (record { is = refl })
     (either (binary w) {x = Literal (length w - 2) (value_of 2 0 (drop 2 w))} (record { is = refl })
     (either (width w) {x = Width (value_of 10 0 w)} (record { is = refl })
-    (either (is_name w) {x = Name (tag_of w)} {y = Other} (record { is = refl }) (record { is = refl })))))))
+    (either (is_name w) {x = Name (sort_named w)} {y = Other} (record { is = refl }) (record { is = refl })))))))
 
 -- A word that begins at a place of the text
 

@@ -1,9 +1,11 @@
 pub mod Ahead
 pub mod Forward
-pub mod EveryByte
+pub mod Lists
 pub mod Values
 pub mod WordKinds
 pub mod Choices
+pub mod Faults
+pub mod Codes
 pub mod Closing
 pub mod Declared
 pub mod Moving

@@ -1,5 +1,6 @@
 -- An expression that is read without a fault moves the place forward in the text.
 -- Assumes nothing.
+use Rattle.parser.specs.declared.states.Fault.TheVariants as fault_kind
 use mathlib.Core.Path.{◌≡◌, refl, sym, ap, ◌∙◌}
 use mathlib.Core.Bool.{Bool, true, false, cond}
 use mathlib.Core.List.{List, [], ◌∷◌}
@@ -20,12 +21,9 @@ use Rattle.parser.specs.declared.states.Head.{Head}
 use Rattle.parser.specs.declared.states.Head.TheVariants.{Done, Constant, Call}
 use Rattle.parser.specs.Words.{white, inside, ahead, past, word_from, token_at}
 use Rattle.parser.specs.Names.{declared}
-use Rattle.parser.specs.Expressions.{Work, Listing, faulty_at, named, operator_in, head_in, head_of, begin_list, joined_to, closed_in, closed_state, closed_by, operands_by, operands_of, begun, expression_of}
+use Rattle.parser.proofs.Faults.{some_number}
+use Rattle.parser.specs.Expressions.{too_few, too_deep, too_many, fault_in, Work, Listing, faulty_at, named, operator_in, head_in, head_of, begin_list, joined_to, closed_in, closed_state, closed_by, operands_by, operands_of, begun, expression_of}
 use Rattle.parser.proofs.Choices.{by_test}
-
--- neither of two faults is none
-faults : (b : Bool) {x y : ℕ} → 0 < x → 0 < y → cond b x y ≡ 0 → ⊥
-faults b {x} {y} p q = by_test (λ (n : ℕ). n ≡ 0 → ⊥) b (λ e f. omega (arith, f, p)) (λ e f. omega (arith, f, q))
 
 -- Words
 
@@ -91,7 +89,7 @@ word_moves text at w e z = token_on text at (λ f. let k : is_end w ≡ 1 = ap i
 
 -- without a fault further on, and a list only where a level is left
 Moves : List ℕ → State → ℕ → Head → Type 0
-Moves text s levels (Done v) = v.fault ≡ 0 → Onward text s.at v.at
+Moves text s levels (Done v) = fault_in v ≡ 0 → Onward text s.at v.at
 Moves text s levels (Constant n v next) = Onward text s.at next
 Moves text s levels (Call op next) = (0 < levels) × Onward text s.at next
 
@@ -111,20 +109,20 @@ module _ (text : List ℕ) (names : ℕ) (s : State) (levels : ℕ) where
     operator_moves d Other e = λ f. absurd (omega (arith, f))
     operator_moves d End e = λ f. absurd (omega (arith, f))
 
-    open_moves : Moves text s levels (cond (eqb levels 0) (Done (faulty_at s 33 t.from)) (operator_in s (token_at text t.next) (token_at text t.next).word))
+    open_moves : Moves text s levels (cond (eqb levels 0) (Done (faulty_at s fault_kind.TooDeep t.from)) (operator_in s (token_at text t.next) (token_at text t.next).word))
     unfolding Moves
     open_moves =
         by_test (Moves text s levels) (eqb levels 0) (λ e f. absurd (omega (arith, f)))
         (λ e. operator_moves (pos_of_ne-zero (eqb-false levels 0 e)) (token_at text t.next).word refl)
 
-    name_moves : (named text names s t).fault ≡ 0 → Onward text s.at (named text names s t).at
-    name_moves = by_test (λ (v : State). v.fault ≡ 0 → Onward text s.at v.at) (declared text names (part text t.from t.next)) (λ e f. o) (λ e f. absurd (omega (arith, f)))
+    name_moves : (fault_in (named text names s t)) ≡ 0 → Onward text s.at (named text names s t).at
+    name_moves = by_test (λ (v : State). fault_in v ≡ 0 → Onward text s.at v.at) (declared text names (part text t.from t.next)) (λ e f. o) (λ e f. absurd (omega (arith, f)))
 
   in_moves : (w : Word) → (token_at text s.at).word ≡ w
       → Moves text s levels (head_in text names s levels (token_at text s.at) (token_at text (token_at text s.at).next) w)
   unfolding Moves is_end
   in_moves Open e = open_moves (token_at text s.at) (word_moves text s.at Open e refl)
-  in_moves Close e = λ f. absurd (faults (ltb levels 64) (omega arith) (omega arith) f)
+  in_moves Close e = λ f. absurd (some_number (too_few levels) f)
   in_moves (Keyword k) e = λ f. absurd (omega (arith, f))
   in_moves (Operator op) e = λ f. absurd (omega (arith, f))
   in_moves (Literal n v) e = word_moves text s.at (Literal n v) e refl
@@ -135,7 +133,7 @@ module _ (text : List ℕ) (names : ℕ) (s : State) (levels : ℕ) where
 
   head_moves : Moves text s levels (head_of text names s levels)
   unfolding head_of Moves
-  head_moves = by_test (Moves text s levels) (eqb s.fault 0) (λ e. in_moves (token_at text s.at).word refl) (λ e f. absurd (eqb-false s.fault 0 e f))
+  head_moves = by_test (Moves text s levels) (eqb (fault_in s) 0) (λ e. in_moves (token_at text s.at).word refl) (λ e f. absurd (eqb-false (fault_in s) 0 e f))
 
 -- a list begins only where there is a level left
 pub deeper : (text : List ℕ) (names : ℕ) (s : State) (levels : ℕ) {op next : ℕ} → head_of text names s levels ≡ Call op next → 0 < levels
@@ -150,42 +148,42 @@ joined_state l s = by_test (λ (k : Listed). k.state ≡ s) (eqb l.n 0) (λ e. r
 
 -- what ends a list without a fault is its closing parenthesis
 closing_in : (text : List ℕ) (names : ℕ) (s : State) (levels : ℕ) (w : Word) → (token_at text s.at).word ≡ w
-    → (closed_in text names s levels (token_at text s.at) w).fault ≡ 0 → s.at < (closed_in text names s levels (token_at text s.at) w).at
+    → (fault_in (closed_in text names s levels (token_at text s.at) w)) ≡ 0 → s.at < (closed_in text names s levels (token_at text s.at) w).at
 unfolding is_end
-closing_in text names s levels Open e f = absurd (faults (eqb levels 0) (omega arith) (omega arith) f)
+closing_in text names s levels Open e f = absurd (some_number (too_deep levels) f)
 closing_in text names s levels Close e f = (word_moves text s.at Close e refl).further
 closing_in text names s levels (Keyword k) e f = absurd (omega (arith, f))
 closing_in text names s levels (Operator op) e f = absurd (omega (arith, f))
 closing_in text names s levels (Literal n v) e f = absurd (omega (arith, f))
 closing_in text names s levels (Width k) e f = absurd (omega (arith, f))
-closing_in text names s levels (Name k) e f = absurd (faults (declared text names (part text (token_at text s.at).from (token_at text s.at).next)) (omega arith) (omega arith) f)
+closing_in text names s levels (Name k) e f = absurd (some_number (too_many text names (token_at text s.at)) f)
 closing_in text names s levels Other e f = absurd (omega (arith, f))
 closing_in text names s levels End e f = absurd (omega (arith, f))
 
-closed_moves : (text : List ℕ) (names levels : ℕ) (l : Listed) → (closed_state text names levels l).fault ≡ 0
-    → (l.state.fault ≡ 0) × (l.state.at < (closed_state text names levels l).at)
+closed_moves : (text : List ℕ) (names levels : ℕ) (l : Listed) → (fault_in (closed_state text names levels l)) ≡ 0
+    → (fault_in l.state ≡ 0) × (l.state.at < (closed_state text names levels l).at)
 unfolding closed_state
 closed_moves text names levels l =
     let s = l.state in
-    by_test (λ (v : State). v.fault ≡ 0 → (s.fault ≡ 0) × (s.at < v.at)) (eqb s.fault 0)
-    (λ e f. (eqb-true s.fault 0 e, closing_in text names s levels (token_at text s.at).word refl f))
-    (λ e f. absurd (eqb-false s.fault 0 e f))
+    by_test (λ (v : State). fault_in v ≡ 0 → (fault_in s ≡ 0) × (s.at < v.at)) (eqb (fault_in s) 0)
+    (λ e f. (eqb-true (fault_in s) 0 e, closing_in text names s levels (token_at text s.at).word refl f))
+    (λ e f. absurd (eqb-false (fault_in s) 0 e f))
 
 -- a reader of one operand that moves the place, and a list's operands
 abbrev pub Mover : List ℕ → (State → List ℕ → Work) → Type 0
-Mover text one = (s : State) (room : List ℕ) → (one s room).state.fault ≡ 0 → Onward text s.at (one s room).state.at
+Mover text one = (s : State) (room : List ℕ) → (fault_in (one s room).state) ≡ 0 → Onward text s.at (one s room).state.at
 
 operands_move : (text : List ℕ) (one : State → List ℕ → Work) → Mover text one → (left : ℕ) (l : Listed) (room : List ℕ)
-    → (operands_by one left l room).listed.state.fault ≡ 0 → l.state.at ≤ (operands_by one left l room).listed.state.at
+    → (fault_in (operands_by one left l room).listed.state) ≡ 0 → l.state.at ≤ (operands_by one left l room).listed.state.at
 unfolding operands_by
 operands_move text one m zero l room f = omega arith
 operands_move text one m (suc left) l room f =
     let v = one l.state room in
     let ih = operands_move text one m left (joined_to l v.state) v.room in
     let j = joined_state l v.state in
-    by_test (λ (k : Listing). k.listed.state.fault ≡ 0 → l.state.at ≤ k.listed.state.at) (eqb v.state.fault 0)
-    (λ e g. omega (arith, (m l.state room (eqb-true v.state.fault 0 e)).further, ap (λ (s : State). s.at) j, ih g))
-    (λ e g. absurd (eqb-false v.state.fault 0 e (sym (ap (λ (s : State). s.fault) j) ∙ g)))
+    by_test (λ (k : Listing). fault_in k.listed.state ≡ 0 → l.state.at ≤ k.listed.state.at) (eqb (fault_in v.state) 0)
+    (λ e g. omega (arith, (m l.state room (eqb-true (fault_in v.state) 0 e)).further, ap (λ (s : State). s.at) j, ih g))
+    (λ e g. absurd (eqb-false (fault_in v.state) 0 e (sym (ap (λ (s : State). (fault_in s)) j) ∙ g)))
     f
 
 -- Expressions
@@ -194,7 +192,7 @@ pub expression_moves : (levels : ℕ) (text : List ℕ) (names : ℕ) → Mover 
 unfolding expression_of Moves
 expression_moves zero text names s room = go (head_of text names s zero) (head_moves text names s zero)
   where
-    go : (h : Head) → Moves text s zero h → (begun (λ op next. record { state = s; room = room }) s room h).state.fault ≡ 0
+    go : (h : Head) → Moves text s zero h → (fault_in (begun (λ op next. record { state = s; room = room }) s room h).state) ≡ 0
         → Onward text s.at (begun (λ op next. record { state = s; room = room }) s room h).state.at
     go (Done v) m f = m f
     go (Constant n v next) m f = m
@@ -202,7 +200,7 @@ expression_moves zero text names s room = go (head_of text names s zero) (head_m
 expression_moves (suc levels) text names s room = go (head_of text names s (suc levels)) (head_moves text names s (suc levels)) (expression_moves levels text names)
   where
     go : (h : Head) → Moves text s (suc levels) h → Mover text (expression_of levels text names)
-        → (begun (λ op next. closed_by text names levels op (operands_by (expression_of levels text names) (operands_of op) (begin_list s next) room)) s room h).state.fault ≡ 0
+        → (fault_in (begun (λ op next. closed_by text names levels op (operands_by (expression_of levels text names) (operands_of op) (begin_list s next) room)) s room h).state) ≡ 0
         → Onward text s.at (begun (λ op next. closed_by text names levels op (operands_by (expression_of levels text names) (operands_of op) (begin_list s next) room)) s room h).state.at
     go (Done v) m ih f = m f
     go (Constant n v next) m ih f = m

@@ -1,5 +1,6 @@
 -- The scan of the declarations at a text's front finds each name and each end.
 -- Assumes nothing.
+use Rattle.std.specs.Prelude.{Option}
 use mathlib.Core.Path.{◌≡◌, refl, sym, ap, ◌∙◌}
 use mathlib.Core.Bool.{Bool, true, false, cond}
 use mathlib.Core.List.{List, [], ◌∷◌}
@@ -12,8 +13,11 @@ use lib.Seq.{drop-cons, drop-drop}
 use borrow.Author.Tests.{eqb-true, ne_eqb}
 use Rattle.smtlib.specs.Bytes.{part, place_in}
 use Rattle.table.specs.declared.words.Sort.{Sort}
+use Rattle.parser.specs.declared.words.Keyword.{Keyword as OwnWord}
+use Rattle.parser.specs.declared.words.SortName.{SortName}
 use Rattle.parser.specs.declared.words.Word.{Word}
 use Rattle.parser.specs.declared.words.Word.TheVariants.{Open, Close, Keyword, Width, Name}
+use Rattle.parser.specs.declared.words.Keyword.TheVariants.{DeclareConst}
 use Rattle.parser.specs.Words.{white, inside, ahead, past, token_at}
 use Rattle.parser.specs.Names.{name_from, name_to, closing, declaration_end, index_from}
 use Rattle.parser.specs.Grammar.{Declared, Stands, Named, Vector, Sorting, Declarations}
@@ -97,10 +101,10 @@ reach_end {text} {from} s = close_end text from (closed text from s.here) ∙ s.
 
 -- Sorts balance
 
-keyword_run : {k : ℕ} → Run (Keyword k)
+keyword_run : {k : OwnWord} → Run (Keyword k)
 keyword_run = record { low = omega arith; high = omega arith }
 
-name-run : {k : ℕ} → Run (Name k)
+name-run : {k : Option SortName} → Run (Name k)
 name-run = record { low = omega arith; high = omega arith }
 
 width-run : {n : ℕ} → Run (Width n)
@@ -120,7 +124,7 @@ reach_sort depth (array o a m n c) =
 -- A declaration's name and end
 
 module _ {text : List ℕ} {from a b c d e : ℕ} {w : List ℕ} {s : Sort}
-    (o : Stands text from Open a) (k : Stands text a (Keyword 0) b) (n : Named text b w c) (q : Sorting text c s d) (z : Stands text d Close e) where
+    (o : Stands text from Open a) (k : Stands text a (Keyword DeclareConst) b) (n : Named text b w c) (q : Sorting text c s d) (z : Stands text d Close e) where
   name_begins : name_from text from ≡ past white text b
   name_begins =
       let p = opened text from o.here in

@@ -1,5 +1,6 @@
 -- A text that is read without a fault is one of the language.
 -- Assumes nothing.
+use Rattle.parser.specs.declared.states.Fault.TheVariants as fault_kind
 use mathlib.Core.Path.{◌≡◌, refl, sym, ap, ◌∙◌, subst}
 use mathlib.Core.Bool.{Bool, true, false, cond, not, ◌&&◌, ◌||◌}
 use mathlib.Core.List.{List, [], ◌∷◌, ◌++◌}
@@ -13,13 +14,14 @@ use Rattle.smtlib.proofs.Cuts.{and_left, and_right}
 use Rattle.table.specs.declared.words.Sort.{Sort}
 use Rattle.table.specs.Code.Writing.{placed}
 use Rattle.parser.specs.declared.words.Word.TheVariants.{Open, Close, Keyword, End}
+use Rattle.parser.specs.declared.words.Keyword.TheVariants.{DeclareConst, Assert, CheckSat}
 use Rattle.parser.specs.declared.words.Token.{Token}
 use Rattle.parser.specs.declared.states.State.{State}
 use Rattle.parser.specs.declared.states.Sorted.{Sorted}
 use Rattle.parser.specs.declared.states.Progress.{Progress}
 use Rattle.parser.specs.Words.{marked, token_at}
 use Rattle.parser.specs.Names.{index_from}
-use Rattle.parser.specs.Expressions.{Work, faulty_at, added, number, expression_of}
+use Rattle.parser.specs.Expressions.{fault_in, Work, faulty_at, added, number, expression_of}
 use Rattle.parser.specs.Rules.{Step, code_of, moved_to, expected, sort_of, new_name, one_more, with_state, variable_term, declaration_of, and_term, joined_rule, assert_of, ended_rule, check_of, command_by, command_of, halted, commands_of, start, rule_of, is_name}
 use Rattle.parser.specs.Grammar.{Tree, Declared, Stands, Declarations, Asserts}
 use Rattle.parser.specs.Grammar.Declarations.{none as undeclared, more as declared}
@@ -61,7 +63,7 @@ data Stage (text : List ℕ) (p v : Progress) : Type 0 where
 
 -- what a step without a fault leads to
 abbrev Leads : List ℕ → Progress → Step → Type 0
-Leads text p v = v.progress.state.fault ≡ 0 → Stage text p v.progress
+Leads text p v = fault_in v.progress.state ≡ 0 → Stage text p v.progress
 
 by_test : (P : Step → Type 0) (b : Bool) (x y : Step) → (b ≡ true → P x) → (b ≡ false → P y) → P (cond b x y)
 by_test P true x y f g = f refl
@@ -73,16 +75,16 @@ names-known {text} {names} {to} {ds} d e = record { index = λ w. ap (λ (n : �
 -- Declarations
 
 module _ (text : List ℕ) (small : Storable text) (p : Progress) (on : p.ended ≡ false) (r : Reached text p) where
-  declares_by : (s : State) {a : ℕ} → Stands text p.state.at Open a → Stands text a (Keyword 0) s.at → p.asserts ≡ 0
-      → (e : State) → e ≡ expected text (sort_of text (new_name text p.names s)).state 2 → e.fault ≡ 0
+  declares_by : (s : State) {a : ℕ} → Stands text p.state.at Open a → Stands text a (Keyword DeclareConst) s.at → p.asserts ≡ 0
+      → (e : State) → e ≡ expected text (sort_of text (new_name text p.names s)).state 2 → fault_in e ≡ 0
       → (v : Progress) → v.state.at ≡ e.at → v.names ≡ one_more p.names → v.asserts ≡ 0 → v.ended ≡ false → Going text p v
   unfolding every_tree
   declares_by s o k none e is f v at names still ended =
       let n = new_name text p.names s in
       let q = sort_of text n in
-      let sort : Sort = record { m = q.m; n = q.n } in
+      let sort : Sort = record { m = q.sort.m; n = q.sort.n } in
       let w = bytes_at text s.at in
-      let x = went text q.state 1 (ap (λ (y : State). y.fault) (sym is) ∙ f) in
+      let x = went text q.state 1 (ap (λ (y : State). (fault_in y)) (sym is) ∙ f) in
       let y = sort_read text n x.clean in
       let m = new_name_lem text p.names s y.clean in
       let shut : Stands text q.state.at Close v.state.at = rw (at, is) x.stands in
@@ -115,10 +117,10 @@ module _ (text : List ℕ) (small : Storable text) (p : Progress) (on : p.ended 
         going_on = ended;
       }
 
-  declares : (s : State) {a : ℕ} → Stands text p.state.at Open a → Stands text a (Keyword 0) s.at → p.asserts ≡ 0 → (room : List ℕ) → Leads text p (declaration_of text p s room)
+  declares : (s : State) {a : ℕ} → Stands text p.state.at Open a → Stands text a (Keyword DeclareConst) s.at → p.asserts ≡ 0 → (room : List ℕ) → Leads text p (declaration_of text p s room)
   unfolding declaration_of
   declares s o k none room =
-      by_test (Leads text p) (eqb e.fault 0) read (record { progress = with_state p e; room = room })
+      by_test (Leads text p) (eqb (fault_in e) 0) read (record { progress = with_state p e; room = room })
       (λ f c. going (declares_by s o k none e refl (eqb-true _ _ f) read.progress refl refl none on))
       (λ f c. absurd (eqb-false _ _ f c))
     where
@@ -132,17 +134,17 @@ module _ (text : List ℕ) (small : Storable text) (p : Progress) (on : p.ended 
       read =
           record {
             progress = record { state = added e e.at; names = one_more p.names; asserts = p.asserts; rule = p.rule; bare = p.bare; ended = p.ended };
-            room = placed room e.count (variable_term q.m q.n (number p.names) (marked (bytes_at text s.at)));
+            room = placed room e.count (variable_term q.sort.m q.sort.n (number p.names) (marked (bytes_at text s.at)));
           }
 
   -- Asserts
 
-  asserts_by : (s : State) {a : ℕ} → Stands text p.state.at Open a → Stands text a (Keyword 1) s.at → (room : List ℕ)
-      → (u : State) → u ≡ expected text (expression_of 64 text p.names s room).state 2 → u.fault ≡ 0
+  asserts_by : (s : State) {a : ℕ} → Stands text p.state.at Open a → Stands text a (Keyword Assert) s.at → (room : List ℕ)
+      → (u : State) → u ≡ expected text (expression_of 64 text p.names s room).state 2 → fault_in u ≡ 0
       → (v : Progress) → v.state.at ≡ u.at → v.names ≡ p.names → (v.asserts ≡ 0 → ⊥) → v.ended ≡ false → Going text p v
   unfolding Reading
   asserts_by s o k room u is f v at names some ended =
-      let x = went text (expression_of 64 text p.names s room).state 1 (ap (λ (y : State). y.fault) (sym is) ∙ f) in
+      let x = went text (expression_of 64 text p.names s room).state 1 (ap (λ (y : State). (fault_in y)) (sym is) ∙ f) in
       let d = derives text p.names (names_of r.ds) (names-known r.declarations r.names_are) 64 s room x.clean in
       let shut : Stands text (expression_of 64 text p.names s room).state.at Close v.state.at = rw (at, is) x.stands in
       let moves : p.state.at < v.state.at = omega (arith, open_onward o, onward k, expression_onward d.reads, onward shut) in
@@ -167,10 +169,10 @@ module _ (text : List ℕ) (small : Storable text) (p : Progress) (on : p.ended 
         going_on = ended;
       }
 
-  asserts : (s : State) {a : ℕ} → Stands text p.state.at Open a → Stands text a (Keyword 1) s.at → (room : List ℕ) → Leads text p (assert_of text p s room)
+  asserts : (s : State) {a : ℕ} → Stands text p.state.at Open a → Stands text a (Keyword Assert) s.at → (room : List ℕ) → Leads text p (assert_of text p s room)
   unfolding assert_of joined_rule
   asserts s o k room =
-      by_test (Leads text p) (eqb u.fault 0) (cond (eqb p.asserts 0) first next) (record { progress = with_state p u; room = g.room })
+      by_test (Leads text p) (eqb (fault_in u) 0) (cond (eqb p.asserts 0) first next) (record { progress = with_state p u; room = g.room })
       (λ f. by_test (Leads text p) (eqb p.asserts 0) first next
       (λ n c. going (asserts_by s o k room u refl (eqb-true _ _ f) first.progress refl refl (λ i. omega arith) refl))
       (λ n c. going (asserts_by s o k room u refl (eqb-true _ _ f) next.progress refl refl (λ i. omega arith) refl)))
@@ -194,17 +196,17 @@ module _ (text : List ℕ) (small : Storable text) (p : Progress) (on : p.ended 
 
   -- The end
 
-  checks_by : {a : ℕ} → Stands text p.state.at Open a → Stands text a (Keyword 2) (token_at text a).next → (b : Bool) → eqb p.asserts 0 ≡ b
-      → (s : State) → s ≡ cond b (faulty_at p.state 35 (token_at text a).from) (moved_to p.state (token_at text a).next)
-      → (expected text (expected text s 2) 10).fault ≡ 0 → Accepted text
+  checks_by : {a : ℕ} → Stands text p.state.at Open a → Stands text a (Keyword CheckSat) (token_at text a).next → (b : Bool) → eqb p.asserts 0 ≡ b
+      → (s : State) → s ≡ cond b (faulty_at p.state fault_kind.Unasserted (token_at text a).from) (moved_to p.state (token_at text a).next)
+      → (fault_in (expected text (expected text s 2) 10)) ≡ 0 → Accepted text
   checks_by {a} o k b e s is f =
       let z = went text (expected text s 2) 9 f in
       let y = went text s 1 z.clean in
       go b e is y.clean y.stands z.stands.here
     where
-      go : (b : Bool) → eqb p.asserts 0 ≡ b → s ≡ cond b (faulty_at p.state 35 (token_at text a).from) (moved_to p.state (token_at text a).next) → s.fault ≡ 0
+      go : (b : Bool) → eqb p.asserts 0 ≡ b → s ≡ cond b (faulty_at p.state fault_kind.Unasserted (token_at text a).from) (moved_to p.state (token_at text a).next) → fault_in s ≡ 0
           → {to : ℕ} → Stands text s.at Close to → (token_at text to).word ≡ End → Accepted text
-      go true e is c y z = absurd (let n : 35 ≡ 0 = ap (λ (x : State). x.fault) (sym is) ∙ c in omega arith)
+      go true e is c y z = absurd (let n : 35 ≡ 0 = ap (λ (x : State). (fault_in x)) (sym is) ∙ c in omega arith)
       go false e is c {to} y z =
           record {
             rule = record { declarations = r.ds; asserts = r.ts };
@@ -224,16 +226,16 @@ module _ (text : List ℕ) (small : Storable text) (p : Progress) (on : p.ended 
             met = both (both (both (both r.apart r.known) r.deep) r.full) (lt-ltb _ _ (r.some_yet (eqb-false _ _ e)));
           }
 
-  checks : {a : ℕ} → Stands text p.state.at Open a → Stands text a (Keyword 2) (token_at text a).next → (room : List ℕ) → Leads text p (check_of text p (token_at text a) room)
+  checks : {a : ℕ} → Stands text p.state.at Open a → Stands text a (Keyword CheckSat) (token_at text a).next → (room : List ℕ) → Leads text p (check_of text p (token_at text a) room)
   unfolding check_of ended_rule
   checks {a} o k room =
-      by_test (Leads text p) (eqb u.fault 0) (cond (eqb p.asserts 1 && p.bare) joined plain) (record { progress = with_state p u; room = room })
+      by_test (Leads text p) (eqb (fault_in u) 0) (cond (eqb p.asserts 1 && p.bare) joined plain) (record { progress = with_state p u; room = room })
       (λ f. let all = checks_by o k (eqb p.asserts 0) refl s refl (eqb-true _ _ f) in
       by_test (Leads text p) (eqb p.asserts 1 && p.bare) joined plain (λ n c. over all) (λ n c. over all))
       (λ f c. absurd (eqb-false _ _ f c))
     where
       s : State
-      s = cond (eqb p.asserts 0) (faulty_at p.state 35 (token_at text a).from) (moved_to p.state (token_at text a).next)
+      s = cond (eqb p.asserts 0) (faulty_at p.state fault_kind.Unasserted (token_at text a).from) (moved_to p.state (token_at text a).next)
 
       u : State
       u = expected text (expected text s 2) 10
@@ -269,12 +271,12 @@ module _ (text : List ℕ) (small : Storable text) (p : Progress) (on : p.ended 
       code = code_of t.word
 
       otherwise : Step
-      otherwise = record { progress = with_state p (faulty_at p.state 31 t.from); room = room }
+      otherwise = record { progress = with_state p (faulty_at p.state fault_kind.Unexpected t.from); room = room }
 
   command : (room : List ℕ) → Leads text p (command_of text p room)
   unfolding command_of
   command room =
-      by_test (Leads text p) (eqb (code_of t.word) 1) (command_by text p (token_at text t.next) room) (record { progress = with_state p (faulty_at p.state 31 t.from); room = room })
+      by_test (Leads text p) (eqb (code_of t.word) 1) (command_by text p (token_at text t.next) room) (record { progress = with_state p (faulty_at p.state fault_kind.Unexpected t.from); room = room })
       (λ e. command_by_lem (record { here = coded text p.state.at 0 (eqb-true _ _ e); after = refl }) room)
       (λ e c. absurd (omega arith))
     where
@@ -288,32 +290,32 @@ unfolding commands_of
 stays zero text v h = refl
 stays (suc left) text v h = rw h
 
-pub goes : (left : ℕ) (text : List ℕ) (v : Step) → v.progress.ended ≡ false → v.progress.state.fault ≡ 0 → commands_of (suc left) text v ≡ commands_of left text (command_of text v.progress v.room)
+pub goes : (left : ℕ) (text : List ℕ) (v : Step) → v.progress.ended ≡ false → fault_in v.progress.state ≡ 0 → commands_of (suc left) text v ≡ commands_of left text (command_of text v.progress v.room)
 unfolding commands_of
 goes left text v e f = rw (e, eq-eqb _ _ f)
 
 module _ (text : List ℕ) (small : Storable text) where
-  accepts : (left : ℕ) (v : Step) → Reached text v.progress → v.progress.ended ≡ false → v.progress.state.fault ≡ 0 → length text < left + v.progress.state.at
-      → (commands_of left text v).progress.state.fault ≡ 0 → Accepted text
+  accepts : (left : ℕ) (v : Step) → Reached text v.progress → v.progress.ended ≡ false → fault_in v.progress.state ≡ 0 → length text < left + v.progress.state.at
+      → (fault_in (commands_of left text v).progress.state) ≡ 0 → Accepted text
   accepts zero v r on f fuel c = absurd (omega (arith, r.inside))
-  accepts (suc left) v r on f fuel c = go (eqb w.progress.state.fault 0) refl (ap (λ (x : Step). x.progress.state.fault) (sym (goes left text v on f)) ∙ c) (accepts left w)
+  accepts (suc left) v r on f fuel c = go (eqb (fault_in w.progress.state) 0) refl (ap (λ (x : Step). (fault_in x.progress.state)) (sym (goes left text v on f)) ∙ c) (accepts left w)
     where
       w : Step
       w = command_of text v.progress v.room
 
-      stage : Stage text v.progress w.progress → w.progress.state.fault ≡ 0
-          → (Reached text w.progress → w.progress.ended ≡ false → w.progress.state.fault ≡ 0 → length text < left + w.progress.state.at → (commands_of left text w).progress.state.fault ≡ 0 → Accepted text)
-          → (commands_of left text w).progress.state.fault ≡ 0 → Accepted text
+      stage : Stage text v.progress w.progress → fault_in w.progress.state ≡ 0
+          → (Reached text w.progress → w.progress.ended ≡ false → fault_in w.progress.state ≡ 0 → length text < left + w.progress.state.at → (fault_in (commands_of left text w).progress.state) ≡ 0 → Accepted text)
+          → (fault_in (commands_of left text w).progress.state) ≡ 0 → Accepted text
       stage (going g) e next h = next g.reached g.going_on e (omega (arith, g.further)) h
       stage (over a) e next h = a
 
-      go : (b : Bool) → eqb w.progress.state.fault 0 ≡ b → (commands_of left text w).progress.state.fault ≡ 0
-          → (Reached text w.progress → w.progress.ended ≡ false → w.progress.state.fault ≡ 0 → length text < left + w.progress.state.at → (commands_of left text w).progress.state.fault ≡ 0 → Accepted text)
+      go : (b : Bool) → eqb (fault_in w.progress.state) 0 ≡ b → (fault_in (commands_of left text w).progress.state) ≡ 0
+          → (Reached text w.progress → w.progress.ended ≡ false → fault_in w.progress.state ≡ 0 → length text < left + w.progress.state.at → (fault_in (commands_of left text w).progress.state) ≡ 0 → Accepted text)
           → Accepted text
       go true e h next = stage (command text small v.progress on r v.room (eqb-true _ _ e)) (eqb-true _ _ e) next h
-      go false e h next = absurd (eqb-false _ _ e (ap (λ (x : Step). x.progress.state.fault) (sym (stays left text w (faulty w.progress.ended e))) ∙ h))
+      go false e h next = absurd (eqb-false _ _ e (ap (λ (x : Step). (fault_in x.progress.state)) (sym (stays left text w (faulty w.progress.ended e))) ∙ h))
         where
-          faulty : (b : Bool) → eqb w.progress.state.fault 0 ≡ false → b || not (eqb w.progress.state.fault 0) ≡ true
+          faulty : (b : Bool) → eqb (fault_in w.progress.state) 0 ≡ false → b || not (eqb (fault_in w.progress.state) 0) ≡ true
           faulty true i = refl
           faulty false i = rw i
 

@@ -3,12 +3,12 @@
 use mathlib.Core.Path.{◌≡◌, refl, sym, ap, ◌∙◌}
 use mathlib.Core.Bool.{Bool, true, false, cond, not, ◌&&◌}
 use mathlib.Core.List.{List, [], ◌∷◌}
-use Prim.Native.Nat.{ℕ, suc, ◌+◌, ◌-◌, ◌<◌, ◌≤◌}
+use Prim.Native.Nat.{ℕ, ◌+◌, ◌-◌, ◌<◌, ◌≤◌}
 use native.Mathlib.Omega.{arith}
 use lib.Dec.{eqb, ltb, leb}
 use lib.ListN.{length, get_or}
 use borrow.Author.Tests.{ltb-true, leb-true, eqb-true, eqb-false, not-true}
-use Rattle.smtlib.specs.Bytes.{bytes, part, same_bytes, place_in, is_in}
+use Rattle.smtlib.specs.Bytes.{bytes, part, same_bytes, is_in}
 use Rattle.smtlib.specs.Numerals.{value_of}
 use Rattle.smtlib.specs.Symbols.{operator_of}
 use Rattle.smtlib.proofs.Cuts.{and_left, and_right}
@@ -16,7 +16,7 @@ use Rattle.table.specs.Folds.{every}
 use Rattle.parser.specs.declared.words.Word.{Word}
 use Rattle.parser.specs.declared.words.Word.TheVariants.{Open, Close, Keyword, Operator, Literal, Width, Name, Other, End}
 use Rattle.parser.specs.declared.words.Token.{Token}
-use Rattle.parser.specs.Words.{white, inside, between, digit, past, keywords, sort_words, is_name, binary, width, tag_of, plain_of, word_of, word_from, token_at}
+use Rattle.parser.specs.Words.{white, inside, between, digit, past, keywords, is_name, binary, width, plain_of, word_of, word_from, token_at}
 use Rattle.parser.specs.Grammar.{Stands}
 use Rattle.parser.proofs.Ahead.{not_before}
 use Rattle.parser.proofs.Values.{not_larger}
@@ -48,18 +48,7 @@ word-run w =
     (either (same_bytes w (bytes "false")) (record { low = omega arith; high = omega arith })
     (plain-run w))))
 
--- the numbers that words carry: keywords and sorts' words 0 to 3, widths at least 1
-abbrev pub tag : Word → ℕ
-tag Open = 0
-tag Close = 0
-tag (Keyword k) = k
-tag (Operator op) = 0
-tag (Literal n v) = 0
-tag (Width w) = 0
-tag (Name k) = k
-tag Other = 0
-tag End = 0
-
+-- what a word lacks to be a width of 1 or more
 abbrev lacking : Word → ℕ
 lacking Open = 0
 lacking Close = 0
@@ -72,19 +61,11 @@ lacking Other = 0
 lacking End = 0
 
 pub record Limited (w : Word) : Type 0 where
-  pub tagged : tag w ≤ 3
   pub wide : lacking w ≡ 0
 
 limited_if : (b : Bool) {x y : Word} → (b ≡ true → Limited x) → Limited y → Limited (cond b x y)
 limited_if true p q = p refl
 limited_if false p q = q
-
-tag_small : (w : List ℕ) → tag_of w ≤ 3
-tag_small w = go (is_in sort_words w) refl
-  where
-    go : (b : Bool) → is_in sort_words w ≡ b → cond b (suc (place_in sort_words w)) 0 ≤ 3
-    go true e = omega (arith, ltb-true (place_in sort_words w) 3 e)
-    go false e = omega arith
 
 wide_enough : (w : List ℕ) → width w ≡ true → 1 ≤ value_of 10 0 w
 unfolding every
@@ -106,18 +87,18 @@ wide_enough w e =
 plain_limited : (w : List ℕ) → Limited (plain_of w)
 unfolding plain_of
 plain_limited w =
-    limited_if (binary w) (λ e. record { tagged = omega arith; wide = refl })
-    (limited_if (width w) (λ e. record { tagged = omega arith; wide = omega (arith, wide_enough w e) })
-    (limited_if (is_name w) (λ e. record { tagged = tag_small w; wide = refl })
-    (record { tagged = omega arith; wide = refl })))
+    limited_if (binary w) (λ e. record { wide = refl })
+    (limited_if (width w) (λ e. record { wide = omega (arith, wide_enough w e) })
+    (limited_if (is_name w) (λ e. record { wide = refl })
+    (record { wide = refl })))
 
 word_limited : (w : List ℕ) → Limited (word_of w)
 unfolding word_of
 word_limited w =
-    limited_if (is_in keywords w) (λ e. record { tagged = omega (arith, ltb-true (place_in keywords w) 4 e); wide = refl })
-    (limited_if (ltb 0 (operator_of w)) (λ e. record { tagged = omega arith; wide = refl })
-    (limited_if (same_bytes w (bytes "true")) (λ e. record { tagged = omega arith; wide = refl })
-    (limited_if (same_bytes w (bytes "false")) (λ e. record { tagged = omega arith; wide = refl })
+    limited_if (is_in keywords w) (λ e. record { wide = refl })
+    (limited_if (ltb 0 (operator_of w)) (λ e. record { wide = refl })
+    (limited_if (same_bytes w (bytes "true")) (λ e. record { wide = refl })
+    (limited_if (same_bytes w (bytes "false")) (λ e. record { wide = refl })
     (plain_limited w))))
 
 limited_from : (text : List ℕ) (from : ℕ) → Limited (word_from text from).word
@@ -125,8 +106,8 @@ unfolding word_from
 limited_from text from = go (eqb (get_or text from 0) 40) (eqb (get_or text from 0) 41)
   where
     go : (b c : Bool) → Limited (cond {A = Token} b (record { word = Open; from = from; next = from + 1 }) (cond c (record { word = Close; from = from; next = from + 1 }) (record { word = word_of (part text from (past inside text from)); from = from; next = past inside text from }))).word
-    go true c = record { tagged = omega arith; wide = refl }
-    go false true = record { tagged = omega arith; wide = refl }
+    go true c = record { wide = refl }
+    go false true = record { wide = refl }
     go false false = word_limited (part text from (past inside text from))
 
 pub limited : (text : List ℕ) (at : ℕ) → Limited (token_at text at).word
@@ -135,7 +116,7 @@ limited text at = go (ltb (past white text at) (length text))
   where
     go : (b : Bool) → Limited (cond b (word_from text (past white text at)) (record { word = End; from = past white text at; next = past white text at })).word
     go true = limited_from text (past white text at)
-    go false = record { tagged = omega arith; wide = refl }
+    go false = record { wide = refl }
 
 pub no_zero : {text : List ℕ} {from n to : ℕ} → Stands text from (Width n) to → 1 ≤ n
 no_zero {text} {from} {n} s = let e : lacking (Width n) ≡ 0 = ap lacking (sym s.here) ∙ (limited text from).wide in omega arith

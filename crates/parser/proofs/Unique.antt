@@ -6,9 +6,10 @@ use Prim.Native.Nat.{ℕ, suc}
 use native.Mathlib.Omega.{arith}
 use Rattle.smtlib.specs.Bytes.{part}
 use Rattle.table.specs.declared.words.Sort.{Sort}
+use Rattle.parser.specs.declared.words.Keyword.{Keyword as OwnWord}
 use Rattle.parser.specs.declared.words.Word.{Word}
 use Rattle.parser.specs.declared.words.Word.TheVariants.{Open, Close, Keyword, Operator, Literal, Width, Name, Other, End}
-use Rattle.parser.specs.Words.{token_at}
+use Rattle.parser.specs.Words.{keyword_number, name_number, token_at}
 use Rattle.parser.specs.Grammar.{Tree, Trees, Declared, Rule, Stands, Named, Vector, Sorting, Expression, Operands, Declarations, Asserts, OneReading}
 use Rattle.parser.specs.Grammar.Tree.{literal, symbol, apply}
 use Rattle.parser.specs.Grammar.Trees.{cons}
@@ -35,11 +36,11 @@ kind End = 8
 abbrev pub carried : Word → ℕ
 carried Open = 0
 carried Close = 0
-carried (Keyword k) = k
+carried (Keyword k) = keyword_number k
 carried (Operator op) = op
 carried (Literal n v) = n
 carried (Width w) = w
-carried (Name k) = k
+carried (Name k) = name_number k
 carried Other = 0
 carried End = 0
 
@@ -142,13 +143,13 @@ mutual
 -- Declarations and asserts: the word after the parenthesis that follows tells where they end
 
 pub record Second (text : List ℕ) (from k : ℕ) : Type 0 where
-  pub is : (token_at text (token_at text from).next).word ≡ Keyword k
+  pub is : carried (token_at text (token_at text from).next).word ≡ k
 
-pub second_is : {text : List ℕ} {from a k to : ℕ} {w : Word} → Stands text from w a → Stands text a (Keyword k) to → Second text from k
-second_is {text} s r = record { is = ap (λ (x : ℕ). (token_at text x).word) s.after ∙ r.here }
+pub second_is : {text : List ℕ} {from a to : ℕ} {w : Word} {k : OwnWord} → Stands text from w a → Stands text a (Keyword k) to → Second text from (keyword_number k)
+second_is {text} s r = record { is = ap (λ (x : ℕ). carried (token_at text x).word) s.after ∙ ap carried r.here }
 
 second_apart : {text : List ℕ} {from from' j k : ℕ} → from ≡ from' → Second text from j → Second text from' k → j ≡ k
-second_apart {text} e s s' = ap carried (sym s.is ∙ ap (λ (x : ℕ). (token_at text (token_at text x).next).word) e ∙ s'.is)
+second_apart {text} e s s' = sym s.is ∙ ap (λ (x : ℕ). carried (token_at text (token_at text x).next).word) e ∙ s'.is
 
 head_cons : {A : Type 0} {x y : A} {xs ys : List A} → x ≡ y → xs ≡ ys → x ∷ xs ≡ y ∷ ys
 head_cons {A} {x} {y} {xs} {ys} e f = ap (λ (z : A). z ∷ xs) e ∙ ap (λ (zs : List A). y ∷ zs) f

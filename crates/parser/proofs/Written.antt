@@ -22,7 +22,7 @@ use Rattle.table.specs.Ranks.{rank_of, fields_of, operand_count}
 use Rattle.table.specs.Code.Writing.{placed}
 use Rattle.parser.specs.declared.states.State.{State}
 use Rattle.parser.specs.declared.states.Listed.{Listed}
-use Rattle.parser.specs.Expressions.{Work, Listing, more_of, number, begin_list, joined_to, sort_by, term_of, constant_term, operands_by, operands_of, expression_of}
+use Rattle.parser.specs.Expressions.{fault_in, Work, Listing, more_of, number, begin_list, joined_to, sort_by, term_of, constant_term, operands_by, operands_of, expression_of}
 use Rattle.parser.specs.Grammar.{Tree, Trees, Declared, Expression, Operands}
 use Rattle.parser.specs.Grammar.Tree.{literal, symbol, apply}
 use Rattle.parser.specs.Grammar.Trees.{nil, cons}
@@ -252,13 +252,13 @@ module _ (base : List ℕ) (long : length base ≡ 3072) (ds : List Declared) wh
 -- What is read, with the terms so far
 
 pub record Wrote (base : List ℕ) (ds : List Declared) (xs : List Term) (t : Tree) (to : ℕ) (v : Work) : Type 0 where
-  pub clean : v.state.fault ≡ 0
+  pub clean : fault_in v.state ≡ 0
   pub place : v.state.at ≡ to
   pub rooted : v.state.root ≡ root ds (length xs) t
   pub holds : Holds base (xs ++ tree_terms ds (length xs) t) v.state.count v.room
 
 record WroteAll (base : List ℕ) (ds : List Declared) (xs : List Term) (rs : List ℕ) (ts : Trees) (to : ℕ) (v : Listing) : Type 0 where
-  clean : v.listed.state.fault ≡ 0
+  clean : fault_in v.listed.state ≡ 0
   place : v.listed.state.at ≡ to
   held : Held v.listed (rs ++ roots ds (length xs) ts)
   holds : Holds base (xs ++ trees_terms ds (length xs) ts) v.listed.state.count v.room
@@ -270,7 +270,7 @@ module _ (base : List ℕ) (long : length base ≡ 3072) (ds : List Declared) (t
   mutual
     unfolding operands_by knows within count counted size root roots tree_terms
 
-    pub writes : {from to : ℕ} {t : Tree} → Expression text from t to → (levels : ℕ) (s : State) (room : List ℕ) (xs : List Term) → s.fault ≡ 0 → s.at ≡ from → Holds base xs s.count room → Based ds xs
+    pub writes : {from to : ℕ} {t : Tree} → Expression text from t to → (levels : ℕ) (s : State) (room : List ℕ) (xs : List Term) → fault_in s ≡ 0 → s.at ≡ from → Holds base xs s.count room → Based ds xs
         → knows (names_of ds) t ≡ true → within levels t ≡ true → counted t ≡ true → length xs + size t ≤ 512 → Wrote base ds xs t to (expression_of levels text names s room)
     writes (constant {n = n} {v = v} {to = to} w) levels s room xs f e h b kn wi co bound =
         rw (constant_at text names levels s room n v to (head_constant text names s levels f e w))
@@ -296,7 +296,7 @@ module _ (base : List ℕ) (long : length base ≡ 3072) (ds : List Declared) (t
         rw (call_at text names levels s room op at (head_call text names s levels f e o p), z, is)
         (record { clean = refl; place = refl; rooted = r.holds.counts ∙ n; holds = more_held })
 
-    write_all : {from to : ℕ} {ts : Trees} → Operands text from ts to → (levels left : ℕ) → count ts ≡ left → (l : Listed) (room : List ℕ) (xs : List Term) (rs : List ℕ) → l.state.fault ≡ 0 → l.state.at ≡ from → Held l rs
+    write_all : {from to : ℕ} {ts : Trees} → Operands text from ts to → (levels left : ℕ) → count ts ≡ left → (l : Listed) (room : List ℕ) (xs : List Term) (rs : List ℕ) → fault_in l.state ≡ 0 → l.state.at ≡ from → Held l rs
         → Holds base xs l.state.count room → Based ds xs → knows_all (names_of ds) ts ≡ true → all_within levels ts ≡ true → all_counted ts ≡ true → length rs + left ≤ 3 → length xs + sizes ts ≤ 512
         → WroteAll base ds xs rs ts to (operands_read text names levels left l room)
     write_all none levels zero n l room xs rs f e held h b kn wi co few bound = record { clean = f; place = e; held = rw append-nil held; holds = holds-none h }
@@ -311,7 +311,7 @@ module _ (base : List ℕ) (long : length base ≡ 3072) (ds : List Declared) (t
         let grown : length ys ≡ length xs + size t = next-length ds xs t in
         let one : Held (joined_to l v.state) (rs ++ (root ds (length xs) t ∷ [])) = rw w.rooted at (held_more l rs v.state (omega arith) held) in
         let h' : Holds base ys (joined_to l v.state).state.count v.room = rw (ap (λ (s : State). s.count) j) w.holds in
-        let r = write_all rest levels left (omega arith) (joined_to l v.state) v.room ys (rs ++ (root ds (length xs) t ∷ [])) (ap (λ (s : State). s.fault) j ∙ w.clean) (ap (λ (s : State). s.at) j ∙ w.place) one h'
+        let r = write_all rest levels left (omega arith) (joined_to l v.state) v.room ys (rs ++ (root ds (length xs) t ∷ [])) (ap (λ (s : State). (fault_in s)) j ∙ w.clean) (ap (λ (s : State). s.at) j ∙ w.place) one h'
         (based_more ds xs (tree_terms ds (length xs) t) b) (and_right (knows ws t) (knows_all ws ts) kn) (and_right (within levels t) (all_within levels ts) wi) (and_right (counted t) (all_counted ts) co)
         (omega (arith, length-append rs (root ds (length xs) t ∷ []))) (omega arith) in
         let u = operands_read text names levels left (joined_to l v.state) v.room in

@@ -1,6 +1,6 @@
 -- How an expression is read, word by word from the left, into a table of terms: Req 02. After a fault nothing more is read.
 -- Assumes nothing.
-use Rattle.std.specs.Prelude.{cond, List, ℕ, zero, suc, ◌+◌, eqb, ltb}
+use Rattle.std.specs.Prelude.{Option, Some, None, cond, List, ℕ, zero, suc, ◌+◌, eqb, ltb}
 use Rattle.ops.specs.Numbers.{op_of}
 use Rattle.smtlib.specs.Bytes.{part}
 use Rattle.table.specs.declared.ranks.Rank.{Rank}
@@ -13,6 +13,8 @@ use Rattle.table.specs.Code.Writing.{placed}
 use Rattle.parser.specs.declared.words.Word.{Word}
 use Rattle.parser.specs.declared.words.Word.TheVariants as word
 use Rattle.parser.specs.declared.words.Token.{Token}
+use Rattle.parser.specs.declared.states.Fault.{Fault}
+use Rattle.parser.specs.declared.states.Fault.TheVariants as fault_kind
 use Rattle.parser.specs.declared.states.State.{State}
 use Rattle.parser.specs.declared.states.Listed.{Listed}
 use Rattle.parser.specs.declared.states.Head.{Head}
@@ -29,8 +31,24 @@ pub record Listing : Type 0 where
   pub listed : Listed
   pub room : List ℕ
 
-abbrev pub faulty_at : State → ℕ → ℕ → State
-faulty_at s fault place = record { at = place; count = s.count; root = s.root; fault = fault }
+-- what refuses a word, by its number
+abbrev pub fault_number : Fault → ℕ
+fault_number fault_kind.Unexpected = 31
+fault_number fault_kind.Undeclared = 32
+fault_number fault_kind.TooDeep = 33
+fault_number fault_kind.Miscounted = 34
+fault_number fault_kind.Unasserted = 35
+
+-- 0 for nothing
+abbrev pub numbered : Option Fault → ℕ
+numbered None = 0
+numbered (Some fault) = fault_number fault
+
+abbrev pub fault_in : State → ℕ
+fault_in s = numbered s.fault
+
+abbrev pub faulty_at : State → Fault → ℕ → State
+faulty_at s fault place = record { at = place; count = s.count; root = s.root; fault = Some fault }
 
 -- one term more: 513 stays
 abbrev pub more_of : ℕ → ℕ
@@ -38,7 +56,7 @@ more_of count = cond (ltb count 513) (count + 1) count
 
 -- a term of its own was added
 abbrev pub added : State → ℕ → State
-added s at = record { at = at; count = more_of s.count; root = s.count; fault = 0 }
+added s at = record { at = at; count = more_of s.count; root = s.count; fault = None }
 
 -- no term has a number over 513
 abbrev pub number : ℕ → ℕ
@@ -48,40 +66,40 @@ number i = cond (ltb i 513) i 513
 abbrev pub named : List ℕ → ℕ → State → Token → State
 named text names s t =
     let i = index_of text names (part text t.from t.next) in
-    cond (ltb i names) (record { at = t.next; count = s.count; root = number i; fault = 0 }) (faulty_at s 32 t.from)
+    cond (ltb i names) (record { at = t.next; count = s.count; root = number i; fault = None }) (faulty_at s fault_kind.Undeclared t.from)
 
 -- after a parenthesis only an operator is expected
 abbrev pub operator_in : State → Token → Word → Head
-operator_in s t word.Open = Done (faulty_at s 31 t.from)
-operator_in s t word.Close = Done (faulty_at s 31 t.from)
-operator_in s t (word.Keyword k) = Done (faulty_at s 31 t.from)
+operator_in s t word.Open = Done (faulty_at s fault_kind.Unexpected t.from)
+operator_in s t word.Close = Done (faulty_at s fault_kind.Unexpected t.from)
+operator_in s t (word.Keyword k) = Done (faulty_at s fault_kind.Unexpected t.from)
 operator_in s t (word.Operator op) = Call op t.next
-operator_in s t (word.Literal n v) = Done (faulty_at s 31 t.from)
-operator_in s t (word.Width w) = Done (faulty_at s 31 t.from)
-operator_in s t (word.Name k) = Done (faulty_at s 31 t.from)
-operator_in s t word.Other = Done (faulty_at s 31 t.from)
-operator_in s t word.End = Done (faulty_at s 31 t.from)
+operator_in s t (word.Literal n v) = Done (faulty_at s fault_kind.Unexpected t.from)
+operator_in s t (word.Width w) = Done (faulty_at s fault_kind.Unexpected t.from)
+operator_in s t (word.Name k) = Done (faulty_at s fault_kind.Unexpected t.from)
+operator_in s t word.Other = Done (faulty_at s fault_kind.Unexpected t.from)
+operator_in s t word.End = Done (faulty_at s fault_kind.Unexpected t.from)
 
 -- a closing parenthesis in an operand's place: inside a list there are too few operands
-abbrev pub too_few : ℕ → ℕ
-too_few levels = cond (ltb levels 64) 34 31
+abbrev pub too_few : ℕ → Fault
+too_few levels = cond (ltb levels 64) fault_kind.Miscounted fault_kind.Unexpected
 
 -- how an expression begins, by its first word and, after a parenthesis, its second; levels parentheses more may be open
 abbrev pub head_in : List ℕ → ℕ → State → ℕ → Token → Token → Word → Head
-head_in text names s levels t second word.Open = cond (eqb levels 0) (Done (faulty_at s 33 t.from)) (operator_in s second second.word)
+head_in text names s levels t second word.Open = cond (eqb levels 0) (Done (faulty_at s fault_kind.TooDeep t.from)) (operator_in s second second.word)
 head_in text names s levels t second word.Close = Done (faulty_at s (too_few levels) t.from)
-head_in text names s levels t second (word.Keyword k) = Done (faulty_at s 31 t.from)
-head_in text names s levels t second (word.Operator op) = Done (faulty_at s 31 t.from)
+head_in text names s levels t second (word.Keyword k) = Done (faulty_at s fault_kind.Unexpected t.from)
+head_in text names s levels t second (word.Operator op) = Done (faulty_at s fault_kind.Unexpected t.from)
 head_in text names s levels t second (word.Literal n v) = Constant n v t.next
-head_in text names s levels t second (word.Width w) = Done (faulty_at s 31 t.from)
+head_in text names s levels t second (word.Width w) = Done (faulty_at s fault_kind.Unexpected t.from)
 head_in text names s levels t second (word.Name k) = Done (named text names s t)
-head_in text names s levels t second word.Other = Done (faulty_at s 31 t.from)
-head_in text names s levels t second word.End = Done (faulty_at s 31 t.from)
+head_in text names s levels t second word.Other = Done (faulty_at s fault_kind.Unexpected t.from)
+head_in text names s levels t second word.End = Done (faulty_at s fault_kind.Unexpected t.from)
 
 unfoldable pub head_of : List ℕ → ℕ → State → ℕ → Head
 head_of text names s levels =
     let t = token_at text s.at in
-    cond (eqb s.fault 0) (head_in text names s levels t (token_at text t.next) t.word) (Done s)
+    cond (eqb (fault_in s) 0) (head_in text names s levels t (token_at text t.next) t.word) (Done s)
 
 -- operands: none yet; one more
 abbrev pub begin_list : State → ℕ → Listed
@@ -122,28 +140,28 @@ abbrev pub constant_term : ℕ → ℕ → Term
 constant_term n v = record { op = 0; sort = record { m = 0; n = n }; p = v; q = 0; r = 0 }
 
 -- the fault of a parenthesis, and of a name, that begins an operand too many
-abbrev pub too_deep : ℕ → ℕ
-too_deep levels = cond (eqb levels 0) 33 34
+abbrev pub too_deep : ℕ → Fault
+too_deep levels = cond (eqb levels 0) fault_kind.TooDeep fault_kind.Miscounted
 
-abbrev pub too_many : List ℕ → ℕ → Token → ℕ
-too_many text names t = cond (declared text names (part text t.from t.next)) 34 32
+abbrev pub too_many : List ℕ → ℕ → Token → Fault
+too_many text names t = cond (declared text names (part text t.from t.next)) fault_kind.Miscounted fault_kind.Undeclared
 
 -- what follows a list's operands: its end; else an operand too many, by its first word
 abbrev pub closed_in : List ℕ → ℕ → State → ℕ → Token → Word → State
 closed_in text names s levels t word.Open = faulty_at s (too_deep levels) t.from
 closed_in text names s levels t word.Close = added s t.next
-closed_in text names s levels t (word.Keyword k) = faulty_at s 31 t.from
-closed_in text names s levels t (word.Operator op) = faulty_at s 31 t.from
-closed_in text names s levels t (word.Literal n v) = faulty_at s 34 t.from
-closed_in text names s levels t (word.Width w) = faulty_at s 31 t.from
+closed_in text names s levels t (word.Keyword k) = faulty_at s fault_kind.Unexpected t.from
+closed_in text names s levels t (word.Operator op) = faulty_at s fault_kind.Unexpected t.from
+closed_in text names s levels t (word.Literal n v) = faulty_at s fault_kind.Miscounted t.from
+closed_in text names s levels t (word.Width w) = faulty_at s fault_kind.Unexpected t.from
 closed_in text names s levels t (word.Name k) = faulty_at s (too_many text names t) t.from
-closed_in text names s levels t word.Other = faulty_at s 31 t.from
-closed_in text names s levels t word.End = faulty_at s 31 t.from
+closed_in text names s levels t word.Other = faulty_at s fault_kind.Unexpected t.from
+closed_in text names s levels t word.End = faulty_at s fault_kind.Unexpected t.from
 
 unfoldable pub closed_state : List ℕ → ℕ → ℕ → Listed → State
 closed_state text names levels l =
     let t = token_at text l.state.at in
-    cond (eqb l.state.fault 0) (closed_in text names l.state levels t t.word) l.state
+    cond (eqb (fault_in l.state) 0) (closed_in text names l.state levels t t.word) l.state
 
 -- the term of a list is written after those of its operands, whatever follows
 abbrev pub closed_by : List ℕ → ℕ → ℕ → ℕ → Listing → Work
@@ -159,7 +177,7 @@ operands_by one zero l room = record { listed = l; room = room }
 operands_by one (suc left) l room =
     let v = one l.state room in
     let rest = operands_by one left (joined_to l v.state) v.room in
-    cond (eqb v.state.fault 0) rest (record { listed = joined_to l v.state; room = v.room })
+    cond (eqb (fault_in v.state) 0) rest (record { listed = joined_to l v.state; room = v.room })
 
 -- how many operands an operator has
 abbrev pub operands_of : ℕ → ℕ

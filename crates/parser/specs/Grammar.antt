@@ -7,11 +7,14 @@
 --     expression  = constant | name | "(" operator { expression } ")"
 -- Any count of operands, any depth, any names: what is asked besides is in Trees.
 -- Assumes nothing.
-use Rattle.std.specs.Prelude.{◌≡◌, List, [], ◌∷◌, ℕ}
+use Rattle.std.specs.Prelude.{Option, Some, ◌≡◌, List, [], ◌∷◌, ℕ}
 use Rattle.smtlib.specs.Bytes.{part}
 use Rattle.table.specs.declared.words.Sort.{Sort}
 use Rattle.parser.specs.declared.words.Word.{Word}
 use Rattle.parser.specs.declared.words.Word.TheVariants.{Open, Close, Keyword, Operator, Literal, Width, Name, End}
+use Rattle.parser.specs.declared.words.Keyword.TheVariants.{DeclareConst, Assert, CheckSat, Underscore}
+use Rattle.parser.specs.declared.words.SortName.{SortName}
+use Rattle.parser.specs.declared.words.SortName.TheVariants as sort_name
 use Rattle.parser.specs.Words.{token_at}
 
 -- what is spelt: expressions
@@ -41,22 +44,22 @@ pub record Stands (text : List ℕ) (from : ℕ) (w : Word) (to : ℕ) : Type 0 
 
 -- a name, by its bytes
 pub record Named (text : List ℕ) (from : ℕ) (w : List ℕ) (to : ℕ) : Type 0 where
-  pub tag : ℕ
-  pub stands : Stands text from (Name tag) to
+  pub sort : Option SortName
+  pub stands : Stands text from (Name sort) to
   pub bytes_are : part text (token_at text from).from (token_at text from).next ≡ w
 
 -- Sorts
 
 pub data Vector (text : List ℕ) : ℕ → ℕ → ℕ → Type 0 where
   vector : {from a b c d n to : ℕ}
-      → Stands text from Open a → Stands text a (Keyword 3) b → Stands text b (Name 2) c → Stands text c (Width n) d → Stands text d Close to
+      → Stands text from Open a → Stands text a (Keyword Underscore) b → Stands text b (Name (Some sort_name.BitVec)) c → Stands text c (Width n) d → Stands text d Close to
       → Vector text from n to
 
 pub data Sorting (text : List ℕ) : ℕ → Sort → ℕ → Type 0 where
-  bool : {from to : ℕ} → Stands text from (Name 1) to → Sorting text from (record { m = 0; n = 0 }) to
+  bool : {from to : ℕ} → Stands text from (Name (Some sort_name.Bool)) to → Sorting text from (record { m = 0; n = 0 }) to
   vector : {from n to : ℕ} → Vector text from n to → Sorting text from (record { m = 0; n = n }) to
   array : {from a b c d m n to : ℕ}
-      → Stands text from Open a → Stands text a (Name 3) b → Vector text b m c → Vector text c n d → Stands text d Close to
+      → Stands text from Open a → Stands text a (Name (Some sort_name.Array)) b → Vector text b m c → Vector text c n d → Stands text d Close to
       → Sorting text from (record { m = m; n = n }) to
 
 -- Expressions
@@ -78,13 +81,13 @@ mutual
 pub data Declarations (text : List ℕ) : ℕ → List Declared → ℕ → Type 0 where
   none : {from : ℕ} → Declarations text from [] from
   more : {from a b c d e to : ℕ} {w : List ℕ} {s : Sort} {ds : List Declared}
-      → Stands text from Open a → Stands text a (Keyword 0) b → Named text b w c → Sorting text c s d → Stands text d Close e
+      → Stands text from Open a → Stands text a (Keyword DeclareConst) b → Named text b w c → Sorting text c s d → Stands text d Close e
       → Declarations text e ds to → Declarations text from (record { name = w; sort = s } ∷ ds) to
 
 pub data Asserts (text : List ℕ) : ℕ → List Tree → ℕ → Type 0 where
   none : {from : ℕ} → Asserts text from [] from
   more : {from a b c d to : ℕ} {t : Tree} {ts : List Tree}
-      → Stands text from Open a → Stands text a (Keyword 1) b → Expression text b t c → Stands text c Close d → Asserts text d ts to
+      → Stands text from Open a → Stands text a (Keyword Assert) b → Expression text b t c → Stands text c Close d → Asserts text d ts to
       → Asserts text from (t ∷ ts) to
 
 -- a whole text
@@ -97,7 +100,7 @@ pub record Reads (text : List ℕ) (r : Rule) : Type 0 where
   pub declarations : Declarations text 0 r.declarations declared_to
   pub asserts : Asserts text declared_to r.asserts asserted_to
   pub opened : Stands text asserted_to Open opened_to
-  pub checked : Stands text opened_to (Keyword 2) checked_to
+  pub checked : Stands text opened_to (Keyword CheckSat) checked_to
   pub closed : Stands text checked_to Close closed_to
   pub ended : (token_at text closed_to).word ≡ End
 

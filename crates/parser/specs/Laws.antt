@@ -1,5 +1,6 @@
 -- What is proved of parsing, as named statements. The proofs are in proofs/.
 -- Assumes nothing.
+use Rattle.parser.specs.Expressions.{fault_in}
 use Rattle.std.specs.Prelude.{◌≡◌, true, List, [], ◌∷◌, ℕ, ◌≤◌, ◌<◌, length}
 use Rattle.table.specs.declared.words.Term.{Term}
 use Rattle.parser.specs.Rules.{rule_of}
@@ -24,11 +25,11 @@ Storable text = length text ≤ 4611686018427387904
 
 -- A text that is read without a fault is one of the language.
 abbrev pub Sound : Type 0
-Sound = (text : List ℕ) → Storable text → (rule_of text).progress.state.fault ≡ 0 → Accepted text
+Sound = (text : List ℕ) → Storable text → (fault_in (rule_of text).progress.state) ≡ 0 → Accepted text
 
 -- Every text of the language is read without a fault, and its table is that of its tree; beyond 512 terms the count stays 513.
 pub record Tabled (text : List ℕ) (r : Rule) : Type 0 where
-  pub clean : (rule_of text).progress.state.fault ≡ 0
+  pub clean : (fault_in (rule_of text).progress.state) ≡ 0
   pub counted : length (rule_terms r) ≤ 512 → (rule_of text).progress.state.count ≡ length (rule_terms r)
   pub over : 512 < length (rule_terms r) → (rule_of text).progress.state.count ≡ 513
   pub table : length (rule_terms r) ≤ 512 → built text ≡ numbers_of (rule_terms r)

@@ -1,5 +1,7 @@
 -- How a rule is read: declarations, asserts and check-sat, word by word from the left: Req 02. After a fault nothing more is read.
 -- Assumes nothing.
+use Rattle.parser.specs.declared.states.Fault.TheVariants as fault_kind
+use Rattle.std.specs.Prelude.{None}
 use Rattle.std.specs.Prelude.{Bool, true, false, cond, not, ◌&&◌, ◌||◌, List, ℕ, zero, suc, ◌+◌, eqb, ltb, length, replicate}
 use Rattle.ops.specs.Meaning.{bit}
 use Rattle.smtlib.specs.Bytes.{part}
@@ -11,9 +13,9 @@ use Rattle.parser.specs.declared.words.Token.{Token}
 use Rattle.parser.specs.declared.states.State.{State}
 use Rattle.parser.specs.declared.states.Sorted.{Sorted}
 use Rattle.parser.specs.declared.states.Progress.{Progress}
-use Rattle.parser.specs.Words.{marked, token_at}
+use Rattle.parser.specs.Words.{keyword_number, name_number, marked, token_at}
 use Rattle.parser.specs.Names.{declared}
-use Rattle.parser.specs.Expressions.{Work, faulty_at, added, number, expression_of}
+use Rattle.parser.specs.Expressions.{fault_in, Work, faulty_at, added, number, expression_of}
 
 -- Words that are asked for by themselves
 
@@ -21,11 +23,11 @@ use Rattle.parser.specs.Expressions.{Work, faulty_at, added, number, expression_
 abbrev pub code_of : Word → ℕ
 code_of Open = 1
 code_of Close = 2
-code_of (Keyword k) = 3 + k
+code_of (Keyword k) = 3 + keyword_number k
 code_of (Operator op) = 0
 code_of (Literal n v) = 0
 code_of (Width w) = 0
-code_of (Name k) = cond (eqb k 0) 0 (6 + k)
+code_of (Name k) = cond (eqb (name_number k) 0) 0 (6 + name_number k)
 code_of Other = 0
 code_of End = 10
 
@@ -36,7 +38,7 @@ moved_to s at = record { at = at; count = s.count; root = s.root; fault = s.faul
 unfoldable pub expected : List ℕ → State → ℕ → State
 expected text s code =
     let t = token_at text s.at in
-    cond (eqb s.fault 0) (cond (eqb (code_of t.word) code) (moved_to s t.next) (faulty_at s 31 t.from)) s
+    cond (eqb (fault_in s) 0) (cond (eqb (code_of t.word) code) (moved_to s t.next) (faulty_at s fault_kind.Unexpected t.from)) s
 
 -- Sorts
 
@@ -53,28 +55,28 @@ width_in Other = 0
 width_in End = 0
 
 abbrev pub sorted_as : State → ℕ → ℕ → Sorted
-sorted_as s m n = record { state = s; m = m; n = n }
+sorted_as s m n = record { state = s; sort = record { m = m; n = n } }
 
 -- a width, 1 to 32
 unfoldable pub width_of : List ℕ → State → Sorted
 width_of text s =
     let t = token_at text s.at in
-    cond (eqb s.fault 0)
-    (cond (eqb (width_in t.word) 0) (sorted_as (faulty_at s 31 t.from) 0 0) (sorted_as (moved_to s t.next) 0 (width_in t.word)))
+    cond (eqb (fault_in s) 0)
+    (cond (eqb (width_in t.word) 0) (sorted_as (faulty_at s fault_kind.Unexpected t.from) 0 0) (sorted_as (moved_to s t.next) 0 (width_in t.word)))
     (sorted_as s 0 0)
 
 -- ( _ BitVec width )
 unfoldable pub vector_of : List ℕ → State → Sorted
 vector_of text s =
     let w = width_of text (expected text (expected text (expected text s 1) 6) 8) in
-    sorted_as (expected text w.state 2) 0 w.n
+    sorted_as (expected text w.state 2) 0 w.sort.n
 
 -- ( Array vector vector )
 unfoldable pub array_of : List ℕ → State → Sorted
 array_of text s =
     let m = vector_of text (expected text (expected text s 1) 9) in
     let n = vector_of text m.state in
-    sorted_as (expected text n.state 2) m.n n.n
+    sorted_as (expected text n.state 2) m.sort.n n.sort.n
 
 -- Bool, a vector or an array: by the first word, and after a parenthesis by the second
 unfoldable pub sort_of : List ℕ → State → Sorted
@@ -101,10 +103,10 @@ is_name End = false
 unfoldable pub new_name : List ℕ → ℕ → State → State
 new_name text names s =
     let t = token_at text s.at in
-    cond (eqb s.fault 0)
+    cond (eqb (fault_in s) 0)
     (cond (is_name t.word)
-    (cond (declared text names (part text t.from t.next)) (faulty_at s 32 t.from) (moved_to s t.next))
-    (faulty_at s 31 t.from))
+    (cond (declared text names (part text t.from t.next)) (faulty_at s fault_kind.Undeclared t.from) (moved_to s t.next))
+    (faulty_at s fault_kind.Unexpected t.from))
     s
 
 -- the variable of a declaration: its sort, its slot, its mark
@@ -126,12 +128,12 @@ with_state p s = record { state = s; names = p.names; asserts = p.asserts; rule 
 unfoldable pub declaration_of : List ℕ → Progress → State → List ℕ → Step
 declaration_of text p s room =
     let t = token_at text s.at in
-    let sort = sort_of text (new_name text p.names s) in
-    let e = expected text sort.state 2 in
-    cond (eqb e.fault 0)
+    let v = sort_of text (new_name text p.names s) in
+    let e = expected text v.state 2 in
+    cond (eqb (fault_in e) 0)
     (record {
       progress = record { state = added e e.at; names = one_more p.names; asserts = p.asserts; rule = p.rule; bare = p.bare; ended = p.ended };
-      room = placed room e.count (variable_term sort.m sort.n (number p.names) (marked (part text t.from t.next)));
+      room = placed room e.count (variable_term v.sort.m v.sort.n (number p.names) (marked (part text t.from t.next)));
     })
     (record { progress = with_state p e; room = room })
 
@@ -144,7 +146,7 @@ and_term p q = record { op = 3; sort = record { m = 0; n = 0 }; p = p; q = q; r 
 unfoldable pub joined_rule : Progress → Bool → Work → Step
 joined_rule p bare v =
     let s = v.state in
-    cond (eqb s.fault 0)
+    cond (eqb (fault_in s) 0)
     (cond (eqb p.asserts 0)
     (record { progress = record { state = s; names = p.names; asserts = 1; rule = s.root; bare = bare; ended = false }; room = v.room })
     (record {
@@ -164,7 +166,7 @@ assert_of text p s room =
 -- a sole assert of a bare name is joined with itself
 unfoldable pub ended_rule : Progress → State → List ℕ → Step
 ended_rule p s room =
-    cond (eqb s.fault 0)
+    cond (eqb (fault_in s) 0)
     (cond (eqb p.asserts 1 && p.bare)
     (record {
       progress = record { state = added s s.at; names = p.names; asserts = p.asserts; rule = s.count; bare = p.bare; ended = true };
@@ -176,7 +178,7 @@ ended_rule p s room =
 -- check-sat, the word t: 35 where there was no assert; then the closing parenthesis and the end
 unfoldable pub check_of : List ℕ → Progress → Token → List ℕ → Step
 check_of text p t room =
-    let s = cond (eqb p.asserts 0) (faulty_at p.state 35 t.from) (moved_to p.state t.next) in
+    let s = cond (eqb p.asserts 0) (faulty_at p.state fault_kind.Unasserted t.from) (moved_to p.state t.next) in
     ended_rule p (expected text (expected text s 2) 10) room
 
 -- Commands
@@ -188,16 +190,16 @@ command_by text p t room =
     cond (eqb code 3 && eqb p.asserts 0) (declaration_of text p (moved_to p.state t.next) room)
     (cond (eqb code 4) (assert_of text p (moved_to p.state t.next) room)
     (cond (eqb code 5) (check_of text p t room)
-    (record { progress = with_state p (faulty_at p.state 31 t.from); room = room })))
+    (record { progress = with_state p (faulty_at p.state fault_kind.Unexpected t.from); room = room })))
 
 unfoldable pub command_of : List ℕ → Progress → List ℕ → Step
 command_of text p room =
     let t = token_at text p.state.at in
     cond (eqb (code_of t.word) 1) (command_by text p (token_at text t.next) room)
-    (record { progress = with_state p (faulty_at p.state 31 t.from); room = room })
+    (record { progress = with_state p (faulty_at p.state fault_kind.Unexpected t.from); room = room })
 
 abbrev pub halted : Progress → Bool
-halted p = p.ended || not (eqb p.state.fault 0)
+halted p = p.ended || not (eqb (fault_in p.state) 0)
 
 -- one command after the other: there are no more than there are bytes
 unfoldable pub commands_of : ℕ → List ℕ → Step → Step
@@ -207,7 +209,7 @@ commands_of (suc left) text v =
     cond (halted v.progress) v next
 
 abbrev pub start : Progress
-start = record { state = record { at = 0; count = 0; root = 0; fault = 0 }; names = 0; asserts = 0; rule = 0; bare = false; ended = false }
+start = record { state = record { at = 0; count = 0; root = 0; fault = None }; names = 0; asserts = 0; rule = 0; bare = false; ended = false }
 
 -- a whole text, read into a table of 512 terms
 unfoldable pub rule_of : List ℕ → Step

@@ -2,11 +2,15 @@
 -- parentheses". What each word is: a parenthesis, one of the language's own words, an operator, a constant, a width, a
 -- name, or none of these.
 -- Assumes nothing.
-use Rattle.std.specs.Prelude.{◌≡◌, Bool, false, cond, not, ◌&&◌, ◌||◌, List, [], ◌∷◌, ℕ, suc, ◌+◌, ◌-◌, ◌≤◌, ◌<◌, eqb, ltb, leb, length, take, drop, get_or}
+use Rattle.std.specs.Prelude.{◌≡◌, Bool, false, cond, not, ◌&&◌, ◌||◌, List, [], ◌∷◌, ℕ, zero, suc, ◌+◌, ◌-◌, ◌≤◌, ◌<◌, eqb, ltb, leb, length, take, drop, get_or, Option, Some, None}
 use Rattle.smtlib.specs.Bytes.{bytes, part, same_bytes, place_in, is_in}
 use Rattle.smtlib.specs.Numerals.{value_of}
 use Rattle.smtlib.specs.Symbols.{operator_of}
 use Rattle.table.specs.Folds.{every}
+use Rattle.parser.specs.declared.words.Keyword.{Keyword as OwnWord}
+use Rattle.parser.specs.declared.words.Keyword.TheVariants.{DeclareConst, Assert, CheckSat, Underscore}
+use Rattle.parser.specs.declared.words.SortName.{SortName}
+use Rattle.parser.specs.declared.words.SortName.TheVariants as sort_name
 use Rattle.parser.specs.declared.words.Word.{Word}
 use Rattle.parser.specs.declared.words.Word.TheVariants.{Open, Close, Keyword, Operator, Literal, Width, Name}
 use Rattle.parser.specs.declared.words.Word.TheVariants.{Other, End}
@@ -47,6 +51,19 @@ symbolic b = letter b || digit b || among (bytes "~!@$%^&*_-+=<>.?/") b
 abbrev pub keywords : List (List ℕ)
 keywords = bytes "declare-const" ∷ bytes "assert" ∷ bytes "check-sat" ∷ bytes "_" ∷ []
 
+-- each by its place among them
+abbrev pub keyword_at : ℕ → OwnWord
+keyword_at zero = DeclareConst
+keyword_at (suc zero) = Assert
+keyword_at (suc (suc zero)) = CheckSat
+keyword_at (suc (suc (suc n))) = Underscore
+
+abbrev pub keyword_number : OwnWord → ℕ
+keyword_number DeclareConst = 0
+keyword_number Assert = 1
+keyword_number CheckSat = 2
+keyword_number Underscore = 3
+
 -- SMT-LIB's other reserved words
 abbrev pub reserved : List (List ℕ)
 reserved =
@@ -86,12 +103,36 @@ binary w =
 abbrev pub width : List ℕ → Bool
 width w = every digit w && between 1 2 (length w) && not (eqb (get_or w 0 0) 48) && leb (value_of 10 0 w) 32
 
--- the names that are also sorts' words: 1, 2, 3; other names 0
+abbrev pub keyword_of : List ℕ → Option OwnWord
+keyword_of w = cond (is_in keywords w) (Some (keyword_at (place_in keywords w))) None
+
+-- its value
+abbrev pub decimal_width : List ℕ → Option ℕ
+decimal_width w = cond (width w) (Some (value_of 10 0 w)) None
+
+-- the names that are also sorts' words
 abbrev pub sort_words : List (List ℕ)
 sort_words = bytes "Bool" ∷ bytes "BitVec" ∷ bytes "Array" ∷ []
 
-abbrev pub tag_of : List ℕ → ℕ
-tag_of w = cond (is_in sort_words w) (suc (place_in sort_words w)) 0
+-- each by its place among them
+abbrev pub sort_name_at : ℕ → SortName
+sort_name_at zero = sort_name.Bool
+sort_name_at (suc zero) = sort_name.BitVec
+sort_name_at (suc (suc n)) = sort_name.Array
+
+-- 1, 2, 3; other names 0
+abbrev pub name_number : Option SortName → ℕ
+name_number None = 0
+name_number (Some sort_name.Bool) = 1
+name_number (Some sort_name.BitVec) = 2
+name_number (Some sort_name.Array) = 3
+
+abbrev pub name_at : ℕ → Option SortName
+name_at zero = None
+name_at (suc k) = Some (sort_name_at k)
+
+abbrev pub sort_named : List ℕ → Option SortName
+sort_named w = cond (is_in sort_words w) (Some (sort_name_at (place_in sort_words w))) None
 
 -- a name that is marked: x, then digits, at least one
 unfoldable pub marked : List ℕ → Bool
@@ -103,13 +144,13 @@ unfoldable pub plain_of : List ℕ → Word
 plain_of w =
     cond (binary w) (Literal (length w - 2) (value_of 2 0 (drop 2 w)))
     (cond (width w) (Width (value_of 10 0 w))
-    (cond (is_name w) (Name (tag_of w))
+    (cond (is_name w) (Name (sort_named w))
     Other))
 
 -- what a run of bytes is
 unfoldable pub word_of : List ℕ → Word
 word_of w =
-    cond (is_in keywords w) (Keyword (place_in keywords w))
+    cond (is_in keywords w) (Keyword (keyword_at (place_in keywords w)))
     (cond (ltb 0 (operator_of w)) (Operator (operator_of w))
     (cond (same_bytes w (bytes "true")) (Literal 0 1)
     (cond (same_bytes w (bytes "false")) (Literal 0 0)

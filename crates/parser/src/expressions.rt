@@ -7,19 +7,18 @@ ghost use Rattle.parser.specs.Expressions.{head_of, begin_list, joined_to, sort_
 ghost use Rattle.parser.specs.Expressions.{too_many, closed_in, closed_state, operands_of, operands_by, expression_of};
 
 use crate::names::index_of;
-use crate::reader;
-use crate::states::{Head, Listed, State};
+use crate::reader::words_at;
+use crate::states::{Fault, Head, Listed, State};
 use crate::words::{Token, Word, Words};
 use table::{Fields, Rank, Sort, Term};
 
-pub fn faulty(s: State, fault: u32, place: usize) -> State
+pub fn faulty(s: State, fault: Fault, place: usize) -> State
     ensures { result ≡ faulty_at s fault place }
 {
     State {
         at: place,
-        count: s.count,
-        root: s.root,
-        fault,
+        fault: Some(fault),
+        ..s
     }
 }
 
@@ -45,7 +44,7 @@ pub fn added(s: State, at: usize) -> State
         at,
         count: more(s.count),
         root: s.count,
-        fault: 0,
+        fault: None,
     }
 }
 
@@ -57,37 +56,33 @@ fn named(text: &[u8], names: usize, s: State, t: Token) -> State
     if i < names {
         return State {
             at: t.next,
-            count: s.count,
             root: number(i),
-            fault: 0,
+            fault: None,
+            ..s
         };
     }
-    faulty(s, 32, t.from)
+    faulty(s, Fault::Undeclared, t.from)
 }
 
 // The operator of a list, by the word that stands there.
 fn operator_in(s: State, t: Token) -> Head
     ensures { result ≡ operator_in s t t.word }
 {
-    let word = t.word;
-    match word {
-        Word::Open => Head::Done(faulty(s, 31, t.from)),
-        Word::Close => Head::Done(faulty(s, 31, t.from)),
-        Word::Keyword(_) => Head::Done(faulty(s, 31, t.from)),
+    match t.word {
         Word::Operator(op) => Head::Call(op, t.next),
-        Word::Literal(_, _) => Head::Done(faulty(s, 31, t.from)),
-        Word::Width(_) => Head::Done(faulty(s, 31, t.from)),
-        Word::Name(_) => Head::Done(faulty(s, 31, t.from)),
-        Word::Other => Head::Done(faulty(s, 31, t.from)),
-        Word::End => Head::Done(faulty(s, 31, t.from)),
+        _ => Head::Done(faulty(s, Fault::Unexpected, t.from)),
     }
 }
 
 // The fault of a closing parenthesis in an operand's place: inside a list there are too few operands.
-fn too_few(levels: u32) -> u32
+fn too_few(levels: u32) -> Fault
     ensures { result ≡ too_few levels }
 {
-    if levels < 64 { 34 } else { 31 }
+    if levels < 64 {
+        Fault::Miscounted
+    } else {
+        Fault::Unexpected
+    }
 }
 
 // How an expression begins, by its first word and, after a parenthesis, its second.
@@ -95,23 +90,17 @@ fn head_in(text: &[u8], names: usize, s: State, levels: u32, w: Words) -> Head
     ensures { result ≡ head_in text.now names s levels w.first w.second w.first.word }
 {
     let t = w.first;
-    let second = w.second;
-    let word = t.word;
-    match word {
+    match t.word {
         Word::Open => {
             if levels == 0 {
-                return Head::Done(faulty(s, 33, t.from));
+                return Head::Done(faulty(s, Fault::TooDeep, t.from));
             }
-            operator_in(s, second)
+            operator_in(s, w.second)
         }
         Word::Close => Head::Done(faulty(s, too_few(levels), t.from)),
-        Word::Keyword(_) => Head::Done(faulty(s, 31, t.from)),
-        Word::Operator(_) => Head::Done(faulty(s, 31, t.from)),
         Word::Literal(n, v) => Head::Constant(n, v, t.next),
-        Word::Width(_) => Head::Done(faulty(s, 31, t.from)),
         Word::Name(_) => Head::Done(named(text, names, s, t)),
-        Word::Other => Head::Done(faulty(s, 31, t.from)),
-        Word::End => Head::Done(faulty(s, 31, t.from)),
+        _ => Head::Done(faulty(s, Fault::Unexpected, t.from)),
     }
 }
 
@@ -119,22 +108,17 @@ fn head_in(text: &[u8], names: usize, s: State, levels: u32, w: Words) -> Head
 fn head_at(text: &[u8], names: usize, s: State, levels: u32) -> Head
     ensures { result ≡ head_of text.now names s levels }
 {
-    if s.fault != 0 {
+    if s.fault.is_some() {
         return Head::Done(s);
     }
-    head_in(text, names, s, levels, reader::words_at(text, s.at))
+    head_in(text, names, s, levels, words_at(text, s.at))
 }
 
 fn begin_list(s: State, at: usize) -> Listed
     ensures { result ≡ begin_list s at }
 {
     Listed {
-        state: State {
-            at,
-            count: s.count,
-            root: s.root,
-            fault: s.fault,
-        },
+        state: State { at, ..s },
         n: 0,
         p: 0,
         q: 0,
@@ -176,8 +160,7 @@ fn operand_count(fields: Fields) -> u32
     ensures { result ≡ operand_count fields }
 {
     match fields {
-        Fields::Value => 0,
-        Fields::Slot => 0,
+        Fields::Value | Fields::Slot => 0,
         Fields::One => 1,
         Fields::Two => 2,
         Fields::Three => 3,
@@ -196,18 +179,15 @@ fn sort_by(rank: Rank, a: Sort, b: Sort) -> Sort
     ensures { result ≡ sort_by rank a b }
 {
     match rank {
-        Rank::Literal => Sort { m: 0, n: 0 },
-        Rank::Input => Sort { m: 0, n: 0 },
-        Rank::BoolUnary => Sort { m: 0, n: 0 },
-        Rank::BoolBinary => Sort { m: 0, n: 0 },
-        Rank::Equality => Sort { m: 0, n: 0 },
         Rank::Choice => b,
-        Rank::BvUnary => a,
-        Rank::BvBinary => a,
-        Rank::BvCompare => Sort { m: 0, n: 0 },
         Rank::Read => Sort { m: 0, n: a.n },
-        Rank::Write => a,
-        Rank::Other => a,
+        Rank::BvUnary | Rank::BvBinary | Rank::Write | Rank::Other => a,
+        Rank::Literal
+        | Rank::Input
+        | Rank::BoolUnary
+        | Rank::BoolBinary
+        | Rank::Equality
+        | Rank::BvCompare => Sort { m: 0, n: 0 },
     }
 }
 
@@ -251,18 +231,26 @@ fn write_constant(room: &mut [u32], s: State, n: u32, v: u32)
 }
 
 // The fault of a parenthesis that begins an operand too many.
-fn too_deep(levels: u32) -> u32
+fn too_deep(levels: u32) -> Fault
     ensures { result ≡ too_deep levels }
 {
-    if levels == 0 { 33 } else { 34 }
+    if levels == 0 {
+        Fault::TooDeep
+    } else {
+        Fault::Miscounted
+    }
 }
 
 // The fault of a name that is an operand too many.
-fn too_many(text: &[u8], names: usize, t: Token) -> u32
+fn too_many(text: &[u8], names: usize, t: Token) -> Fault
     ensures { result ≡ too_many text.now names t }
 {
     let i = index_of(text, names, t.from, t.next);
-    if i < names { 34 } else { 32 }
+    if i < names {
+        Fault::Miscounted
+    } else {
+        Fault::Undeclared
+    }
 }
 
 // The state after a list's operands, by the word that follows them.
@@ -270,17 +258,12 @@ fn closed_in(text: &[u8], names: usize, s: State, levels: u32, w: Words) -> Stat
     ensures { result ≡ closed_in text.now names s levels w.first w.first.word }
 {
     let t = w.first;
-    let word = t.word;
-    match word {
+    match t.word {
         Word::Open => faulty(s, too_deep(levels), t.from),
         Word::Close => added(s, t.next),
-        Word::Keyword(_) => faulty(s, 31, t.from),
-        Word::Operator(_) => faulty(s, 31, t.from),
-        Word::Literal(_, _) => faulty(s, 34, t.from),
-        Word::Width(_) => faulty(s, 31, t.from),
+        Word::Literal(_, _) => faulty(s, Fault::Miscounted, t.from),
         Word::Name(_) => faulty(s, too_many(text, names, t), t.from),
-        Word::Other => faulty(s, 31, t.from),
-        Word::End => faulty(s, 31, t.from),
+        _ => faulty(s, Fault::Unexpected, t.from),
     }
 }
 
@@ -288,10 +271,10 @@ fn closed(text: &[u8], names: usize, levels: u32, l: Listed) -> State
     ensures { result ≡ closed_state text.now names levels l }
 {
     let s = l.state;
-    if s.fault != 0 {
+    if s.fault.is_some() {
         return s;
     }
-    closed_in(text, names, s, levels, reader::words_at(text, s.at))
+    closed_in(text, names, s, levels, words_at(text, s.at))
 }
 
 // The expression at the state's place, with so many levels of parentheses left.
@@ -300,8 +283,7 @@ pub fn expression(text: &[u8], names: usize, s: State, levels: u32, room: &mut [
     ensures { (result ≡ (expression_of levels text.now names s room.old).state)
         × (room.new ≡ (expression_of levels text.now names s room.old).room) }
 {
-    let h = head_at(text, names, s, levels);
-    match h {
+    match head_at(text, names, s, levels) {
         Head::Done(v) => v,
         Head::Constant(n, v, next) => {
             write_constant(room, s, n, v);
@@ -341,7 +323,7 @@ pub fn operands(
     }
     let s = l.state;
     let e = expression(text, names, s, levels, room);
-    if e.fault != 0 {
+    if e.fault.is_some() {
         return joined(l, e);
     }
     operands(text, names, joined(l, e), levels, left - 1, room)

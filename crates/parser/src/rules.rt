@@ -2,6 +2,8 @@
 ghost use Rattle.std.specs.Prelude.{◌≡◌, ◌+◌, length};
 ghost use Rattle.smtlib.specs.Bytes.{part};
 ghost use Rattle.parser.specs.Words.{marked};
+ghost use Rattle.parser.specs.Expressions.{faulty_at};
+ghost use Rattle.parser.specs.declared.states.Fault.TheVariants as fault_kind;
 ghost use Rattle.parser.specs.Rules.{is_name, new_name, variable_term, one_more, with_state, declaration_of};
 ghost use Rattle.parser.specs.Rules.{and_term, joined_rule, assert_of, ended_rule, check_of, command_by, command_of};
 ghost use Rattle.parser.specs.Rules.{halted, commands_of, start};
@@ -9,26 +11,15 @@ ghost use Rattle.parser.specs.Rules.{halted, commands_of, start};
 use crate::expressions::{added, expression, faulty, number};
 use crate::names::index_of;
 use crate::reader::words_at;
-use crate::sorts::{chosen, code_of, expected, moved, sort};
-use crate::states::{Progress, State};
-use crate::words::{Token, Word, marked};
+use crate::sorts::{expected, moved, sort};
+use crate::states::{Fault, Progress, State};
+use crate::words::{Keyword, Token, Word, marked, part};
 use table::{Sort, Term, put};
 
 fn is_name(t: Token) -> bool
     ensures { result ≡ is_name t.word }
 {
-    let word = t.word;
-    match word {
-        Word::Open => false,
-        Word::Close => false,
-        Word::Keyword(_) => false,
-        Word::Operator(_) => false,
-        Word::Literal(_, _) => false,
-        Word::Width(_) => false,
-        Word::Name(_) => true,
-        Word::Other => false,
-        Word::End => false,
-    }
+    matches!(t.word, Word::Name(_))
 }
 
 // A new name: 31 where the word is none, 32 where it was declared before.
@@ -37,29 +28,33 @@ fn new_name(text: &[u8], names: usize, s: State) -> State
 {
     let t = words_at(text, s.at).first;
     let known = index_of(text, names, t.from, t.next) < names;
-    let new = chosen(known, faulty(s, 32, t.from), moved(s, t.next));
-    let next = chosen(is_name(t), new, faulty(s, 31, t.from));
-    chosen(s.fault == 0, next, s)
+    if s.fault.is_some() {
+        s
+    } else if !is_name(t) {
+        faulty(s, Fault::Unexpected, t.from)
+    } else if known {
+        faulty(s, Fault::Undeclared, t.from)
+    } else {
+        moved(s, t.next)
+    }
 }
 
 // The bytes from `from` to `to` are a marked name. Places past the text's end are its end.
 fn marked_at(text: &[u8], from: usize, to: usize) -> bool
     ensures { result ≡ marked (part text.now from to) }
 {
-    let end = smtlib::lower(to, text.len());
-    let start = smtlib::lower(from, end);
-    marked(&text[start..end])
+    marked(part(text, from, to))
 }
 
 // The variable of a declaration: its sort, its slot, its mark.
-fn variable(m: u32, n: u32, slot: u32, mark: bool) -> Term
-    ensures { result ≡ variable_term m n slot mark }
+fn variable(sort: Sort, slot: u32, mark: bool) -> Term
+    ensures { result ≡ variable_term sort.m sort.n slot mark }
 {
     Term {
         op: 1,
-        sort: Sort { m, n },
+        sort,
         p: slot,
-        q: ops::bit(mark),
+        q: u32::from(mark),
         r: 0,
     }
 }
@@ -90,14 +85,7 @@ fn one_more(names: usize) -> usize
 fn with_state(p: Progress, s: State) -> Progress
     ensures { result ≡ with_state p s }
 {
-    Progress {
-        state: s,
-        names: p.names,
-        asserts: p.asserts,
-        rule: p.rule,
-        bare: p.bare,
-        ended: p.ended,
-    }
+    Progress { state: s, ..p }
 }
 
 // A declaration from its name on: the name, the sort, the closing parenthesis; then its term.
@@ -107,22 +95,19 @@ fn declaration(text: &[u8], p: Progress, s: State, room: &mut [u32]) -> Progress
 {
     let t = words_at(text, s.at).first;
     let v = sort(text, new_name(text, p.names, s));
-    let e = expected(text, v.state, 2);
-    if e.fault != 0 {
+    let e = expected(text, v.state, Word::Close);
+    if e.fault.is_some() {
         return with_state(p, e);
     }
     put(
         room,
         e.count,
-        variable(v.m, v.n, number(p.names), marked_at(text, t.from, t.next)),
+        variable(v.sort, number(p.names), marked_at(text, t.from, t.next)),
     );
     Progress {
         state: added(e, e.at),
         names: one_more(p.names),
-        asserts: p.asserts,
-        rule: p.rule,
-        bare: p.bare,
-        ended: p.ended,
+        ..p
     }
 }
 
@@ -131,27 +116,27 @@ fn joined(p: Progress, bare: bool, s: State, room: &mut [u32]) -> Progress
     ensures { (result ≡ (joined_rule p bare (record { state = s; room = room.old })).progress)
         × (room.new ≡ (joined_rule p bare (record { state = s; room = room.old })).room) }
 {
-    if s.fault != 0 {
+    if s.fault.is_some() {
         return with_state(p, s);
     }
     if p.asserts == 0 {
         return Progress {
             state: s,
-            names: p.names,
             asserts: 1,
             rule: s.root,
             bare,
             ended: false,
+            ..p
         };
     }
     put(room, s.count, conjunction(p.rule, s.root));
     Progress {
         state: added(s, s.at),
-        names: p.names,
         asserts: 2,
         rule: s.count,
         bare: false,
         ended: false,
+        ..p
     }
 }
 
@@ -163,7 +148,7 @@ fn assertion(text: &[u8], p: Progress, s: State, room: &mut [u32]) -> Progress
     let t = words_at(text, s.at).first;
     let bare = is_name(t);
     let v = expression(text, p.names, s, 64, room);
-    joined(p, bare, expected(text, v, 2), room)
+    joined(p, bare, expected(text, v, Word::Close), room)
 }
 
 // A sole assert of a bare name is joined with itself.
@@ -171,27 +156,22 @@ fn ended(p: Progress, s: State, room: &mut [u32]) -> Progress
     ensures { (result ≡ (ended_rule p s room.old).progress)
         × (room.new ≡ (ended_rule p s room.old).room) }
 {
-    if s.fault != 0 {
+    if s.fault.is_some() {
         return with_state(p, s);
     }
     if (p.asserts == 1) & p.bare {
         put(room, s.count, conjunction(p.rule, p.rule));
         return Progress {
             state: added(s, s.at),
-            names: p.names,
-            asserts: p.asserts,
             rule: s.count,
-            bare: p.bare,
             ended: true,
+            ..p
         };
     }
     Progress {
         state: s,
-        names: p.names,
-        asserts: p.asserts,
-        rule: p.rule,
-        bare: p.bare,
         ended: true,
+        ..p
     }
 }
 
@@ -200,12 +180,23 @@ fn check(text: &[u8], p: Progress, t: Token, room: &mut [u32]) -> Progress
     ensures { (result ≡ (check_of text.now p t room.old).progress)
         × (room.new ≡ (check_of text.now p t room.old).room) }
 {
-    let s = chosen(
-        p.asserts == 0,
-        faulty(p.state, 35, t.from),
-        moved(p.state, t.next),
-    );
-    ended(p, expected(text, expected(text, s, 2), 10), room)
+    let s = if p.asserts == 0 {
+        faulty(p.state, Fault::Unasserted, t.from)
+    } else {
+        moved(p.state, t.next)
+    };
+    ended(
+        p,
+        expected(text, expected(text, s, Word::Close), Word::End),
+        room,
+    )
+}
+
+// Another word was expected than `t`.
+fn unexpected(p: Progress, t: Token) -> Progress
+    ensures { result ≡ with_state p (faulty_at p.state fault_kind.Unexpected t.from) }
+{
+    with_state(p, faulty(p.state, Fault::Unexpected, t.from))
 }
 
 // By the word after the parenthesis: declarations only before the first assert.
@@ -213,17 +204,21 @@ fn command_by(text: &[u8], p: Progress, t: Token, room: &mut [u32]) -> Progress
     ensures { (result ≡ (command_by text.now p t room.old).progress)
         × (room.new ≡ (command_by text.now p t room.old).room) }
 {
-    let code = code_of(t);
-    if (code == 3) & (p.asserts == 0) {
-        return declaration(text, p, moved(p.state, t.next), room);
+    let Word::Keyword(keyword) = t.word else {
+        return unexpected(p, t);
+    };
+    match keyword {
+        Keyword::DeclareConst => {
+            if p.asserts == 0 {
+                declaration(text, p, moved(p.state, t.next), room)
+            } else {
+                unexpected(p, t)
+            }
+        }
+        Keyword::Assert => assertion(text, p, moved(p.state, t.next), room),
+        Keyword::CheckSat => check(text, p, t, room),
+        Keyword::Underscore => unexpected(p, t),
     }
-    if code == 4 {
-        return assertion(text, p, moved(p.state, t.next), room);
-    }
-    if code == 5 {
-        return check(text, p, t, room);
-    }
-    with_state(p, faulty(p.state, 31, t.from))
 }
 
 fn command(text: &[u8], p: Progress, room: &mut [u32]) -> Progress
@@ -231,16 +226,16 @@ fn command(text: &[u8], p: Progress, room: &mut [u32]) -> Progress
         × (room.new ≡ (command_of text.now p room.old).room) }
 {
     let w = words_at(text, p.state.at);
-    if code_of(w.first) == 1 {
-        return command_by(text, p, w.second, room);
+    match w.first.word {
+        Word::Open => command_by(text, p, w.second, room),
+        _ => unexpected(p, w.first),
     }
-    with_state(p, faulty(p.state, 31, w.first.from))
 }
 
 fn halted(p: Progress) -> bool
     ensures { result ≡ halted p }
 {
-    p.ended | !(p.state.fault == 0)
+    p.ended | p.state.fault.is_some()
 }
 
 fn start() -> Progress
@@ -251,7 +246,7 @@ fn start() -> Progress
             at: 0,
             count: 0,
             root: 0,
-            fault: 0,
+            fault: None,
         },
         names: 0,
         asserts: 0,
@@ -269,13 +264,11 @@ pub fn rule(text: &[u8], room: &mut [u32]) -> Progress
         (record { progress = start; room = room.old })).room) }
 {
     let mut p = command(text, start(), room);
-    let mut i = 0;
-    while i < text.len() {
+    for _ in 0..text.len() {
         if halted(p) {
             return p;
         }
         p = command(text, p, room);
-        i += 1;
     }
     p
 }

@@ -1,16 +1,47 @@
 // How far a text is read.
+ghost use Rattle.std.specs.Prelude.{◌≡◌};
+ghost use Rattle.parser.specs.Expressions.{fault_number};
 
-// The place; the terms so far, 513 for more than 512; the number of the last expression's term; 0, or what refuses the
-// word at the place.
+use table::Sort;
+
+// What refuses a word: it is not expected; a name is declared twice, or not at all; too many parentheses are open; a
+// list has too few operands or too many; check-sat has no assert before it.
+#[derive(Clone, Copy, PartialEq, Eq)]
+pub enum Fault {
+    Unexpected,
+    Undeclared,
+    TooDeep,
+    Miscounted,
+    Unasserted,
+}
+
+impl Fault {
+    // Its number in a refusal.
+    pub fn number(self) -> u32
+        ensures { result ≡ fault_number self }
+    {
+        match self {
+            Fault::Unexpected => 31,
+            Fault::Undeclared => 32,
+            Fault::TooDeep => 33,
+            Fault::Miscounted => 34,
+            Fault::Unasserted => 35,
+        }
+    }
+}
+
+// The place; the terms so far, 513 for more than 512; the number of the last expression's term; what refuses the word
+// at the place. It is no Result: the contract of `rule` says place and counts of a text that is refused too.
 #[derive(Clone, Copy)]
 pub struct State {
     pub at: usize,
     pub count: u32,
     pub root: u32,
-    pub fault: u32,
+    pub fault: Option<Fault>,
 }
 
-// The operands of a list that were read, and how many.
+// The operands of a list that were read, and how many. They are named as in table's Term, which they become: an array
+// would be taken apart there.
 #[derive(Clone, Copy)]
 pub struct Listed {
     pub state: State,
@@ -40,10 +71,9 @@ pub struct Progress {
     pub ended: bool,
 }
 
-// A sort that was read: its widths.
+// A sort that was read.
 #[derive(Clone, Copy)]
 pub struct Sorted {
     pub state: State,
-    pub m: u32,
-    pub n: u32,
+    pub sort: Sort,
 }

@@ -1,23 +1,38 @@
 // The words of a text, and what each of them is.
-ghost use Rattle.std.specs.Prelude.{◌≡◌, ◌-◌, ◌≤◌, ◌<◌, length, drop, ◌&&◌, not};
-ghost use Rattle.smtlib.specs.Bytes.{bytes, part, same_bytes};
+ghost use Rattle.std.specs.Prelude.{◌≡◌, ◌-◌, ◌≤◌, ◌<◌, length, drop, ◌&&◌, not, false, true, MatchOption, ℕ, Bool, map};
+ghost use Rattle.smtlib.specs.Bytes.{part, is_in};
 ghost use Rattle.smtlib.specs.Numerals.{value_of};
 ghost use Rattle.table.specs.Folds.{every};
-ghost use Rattle.parser.specs.Words.{white, inside, between, among, symbolic, symbol, private, binary, width};
-ghost use Rattle.parser.specs.Words.{tag_of, is_name, marked, plain_of, word_of, past, word_from, token_at, words_of};
+ghost use Rattle.parser.specs.Words.{white, inside, digit, symbolic, symbol, private, binary, decimal_width};
+ghost use Rattle.parser.specs.Words.{keyword_of, sort_named, is_name, marked, plain_of, word_of, past, word_from, token_at};
+
+// The language's own words.
+#[derive(Clone, Copy, PartialEq, Eq)]
+pub enum Keyword {
+    DeclareConst,
+    Assert,
+    CheckSat,
+    Underscore,
+}
+
+// The names that are also sorts' words.
+#[derive(Clone, Copy, PartialEq, Eq)]
+pub enum SortName {
+    Bool,
+    BitVec,
+    Array,
+}
 
 #[derive(Clone, Copy)]
 pub enum Word {
     Open,
     Close,
-    // declare-const, assert, check-sat, _
-    Keyword(u32),
+    Keyword(Keyword),
     Operator(u32),
     // A constant's width, 0 for a Boolean, and its value.
     Literal(u32, u32),
     Width(u32),
-    // 1, 2, 3: Bool, BitVec, Array, which are names too; other names 0.
-    Name(u32),
+    Name(Option<SortName>),
     Other,
     End,
 }
@@ -37,186 +52,137 @@ pub struct Words {
     pub second: Token,
 }
 
-pub fn paired(first: Token, second: Token) -> Words
-    ensures { result ≡ words_of first second }
-{
-    Words { first, second }
-}
+const RESERVED: [&[u8]; 12] = [
+    b"!",
+    b"as",
+    b"BINARY",
+    b"DECIMAL",
+    b"exists",
+    b"HEXADECIMAL",
+    b"forall",
+    b"let",
+    b"match",
+    b"NUMERAL",
+    b"par",
+    b"STRING",
+];
 
-// Lists of words: the words in a row, and where each of them ends.
-const KEYWORDS: [u8; 29] = *b"declare-constassertcheck-sat_";
-
-const KEYWORD_ENDS: [usize; 4] = [13, 19, 28, 29];
-
-const SORTS: [u8; 15] = *b"BoolBitVecArray";
-
-const SORT_ENDS: [usize; 3] = [4, 10, 15];
-
-const RESERVED: [u8; 63] = *b"!asBINARYDECIMALexistsHEXADECIMALforallletmatchNUMERALparSTRING";
-
-const RESERVED_ENDS: [usize; 12] = [1, 3, 9, 16, 22, 33, 39, 42, 47, 54, 57, 63];
-
-const COMMANDS: [u8; 295] = *b"\
-    check-sat-assuming\
-    declare-datatype\
-    declare-datatypes\
-    declare-fun\
-    declare-sort\
-    define-fun\
-    define-fun-rec\
-    define-funs-rec\
-    define-sort\
-    echo\
-    exit\
-    get-assertions\
-    get-assignment\
-    get-info\
-    get-model\
-    get-option\
-    get-proof\
-    get-unsat-assumptions\
-    get-unsat-core\
-    get-value\
-    pop\
-    push\
-    reset\
-    reset-assertions\
-    set-info\
-    set-logic\
-    set-option";
-
-const COMMAND_ENDS: [usize; 27] = [
-    18, 34, 51, 62, 74, 84, 98, 113, 124, 128, 132, 146, 160, 168, 177, 187, 196, 217, 231, 240,
-    243, 247, 252, 268, 276, 285, 295,
+const COMMANDS: [&[u8]; 27] = [
+    b"check-sat-assuming",
+    b"declare-datatype",
+    b"declare-datatypes",
+    b"declare-fun",
+    b"declare-sort",
+    b"define-fun",
+    b"define-fun-rec",
+    b"define-funs-rec",
+    b"define-sort",
+    b"echo",
+    b"exit",
+    b"get-assertions",
+    b"get-assignment",
+    b"get-info",
+    b"get-model",
+    b"get-option",
+    b"get-proof",
+    b"get-unsat-assumptions",
+    b"get-unsat-core",
+    b"get-value",
+    b"pop",
+    b"push",
+    b"reset",
+    b"reset-assertions",
+    b"set-info",
+    b"set-logic",
+    b"set-option",
 ];
 
 pub fn white(b: u8) -> bool
     ensures { result ≡ white b }
 {
-    (b == 32) | (b == 9) | (b == 10) | (b == 13)
+    matches!(b, b' ' | b'\t' | b'\n' | b'\r')
 }
 
 // Neither white space nor a parenthesis.
 fn inside(b: u8) -> bool
     ensures { result ≡ inside b }
 {
-    !white(b) & !(b == 40) & !(b == 41)
-}
-
-fn between(low: u8, high: u8, b: u8) -> bool
-    ensures { result ≡ between low high b }
-{
-    (low <= b) & (b <= high)
-}
-
-// One of `~!@$%^&*_-+=<>.?/`.
-fn mark(b: u8) -> bool
-    ensures { result ≡ among (bytes "~!@$%^&*_-+=<>.?/") b }
-{
-    (b == b'~')
-        | (b == b'!')
-        | (b == b'@')
-        | (b == b'$')
-        | (b == b'%')
-        | (b == b'^')
-        | (b == b'&')
-        | (b == b'*')
-        | (b == b'_')
-        | (b == b'-')
-        | (b == b'+')
-        | (b == b'=')
-        | (b == b'<')
-        | (b == b'>')
-        | (b == b'.')
-        | (b == b'?')
-        | (b == b'/')
+    !white(b) & (b != b'(') & (b != b')')
 }
 
 // A byte of a simple symbol.
 fn symbolic(b: u8) -> bool
     ensures { result ≡ symbolic b }
 {
-    between(65, 90, b) | between(97, 122, b) | between(48, 57, b) | mark(b)
+    b.is_ascii_alphanumeric() | b"~!@$%^&*_-+=<>.?/".contains(&b)
 }
 
-// Every byte from `at` on is one from `low` to `high`.
-fn all_between(low: u8, high: u8, word: &[u8], at: usize) -> bool
-    ensures { result ≡ every (between low high) (drop at word.now) }
+fn all_digits(word: &[u8]) -> bool
+    ensures { result ≡ every digit word.now }
 {
-    let mut i = at;
-    while i < word.len() {
-        if !between(low, high, word[i]) {
-            return false;
-        }
-        i += 1;
-    }
-    true
+    word.iter().all(|b| b.is_ascii_digit())
 }
 
 pub fn all_symbolic(word: &[u8]) -> bool
     ensures { result ≡ every symbolic word.now }
 {
-    let mut i = 0;
-    while i < word.len() {
-        if !symbolic(word[i]) {
-            return false;
-        }
-        i += 1;
-    }
-    true
+    word.iter().all(|b| symbolic(*b))
 }
 
-fn digit_value(b: u8) -> u32
-    ensures { result ≡ b - 48 }
-{
-    if b < 48 {
-        return 0;
-    }
-    (b - 48) as u32
-}
-
-// The number that the digits from `at` on say.
-fn value_of(base: u32, word: &[u8], at: usize) -> u32
-    requires { (1 ≤ base) × (value_of base 0 (drop at word.now) < 4294967296) }
-    ensures { result ≡ value_of base 0 (drop at word.now) }
+// The number that digits say.
+fn value_of(base: u32, digits: &[u8]) -> u32
+    requires { (1 ≤ base) × (value_of base 0 digits.now < 4294967296) }
+    ensures { result ≡ value_of base 0 digits.now }
 {
     let mut v = 0;
-    let mut i = at;
-    while i < word.len() {
-        v = v * base + digit_value(word[i]);
-        i += 1;
+    for digit in digits {
+        v = v * base + u32::from(digit.saturating_sub(b'0'));
     }
     v
 }
 
-// `#b` and 1 to 32 binary digits.
-fn binary(word: &[u8]) -> bool
-    ensures { result ≡ binary word.now }
+// The digits after `#b`, 1 to 32 of them.
+fn binary_digits(word: &[u8]) -> Option<&[u8]>
+    ensures { MatchOption result (binary word.now ≡ false) (λ digits. (binary word.now ≡ true) × (digits.now ≡ drop 2 word.now)) }
 {
-    let n = word.len();
-    smtlib::same_part(word, 0, 2, b"#b") & ((3 <= n) & (n <= 34)) & all_between(48, 49, word, 2)
+    let digits = word.strip_prefix(b"#b")?;
+    let binary = digits.iter().all(|b| (b'0' <= *b) & (*b <= b'1'));
+    if binary & (1 <= digits.len()) & (digits.len() <= 32) {
+        Some(digits)
+    } else {
+        None
+    }
 }
 
 // 1 to 32 without leading zeros.
-fn width(word: &[u8]) -> bool
-    ensures { result ≡ width word.now }
+fn decimal_width(word: &[u8]) -> Option<u32>
+    ensures { result ≡ decimal_width word.now }
 {
-    let n = word.len();
-    if !(all_between(48, 57, word, 0) & ((1 <= n) & (n <= 2))) {
-        return false;
+    if word.is_empty() | (2 < word.len()) | !all_digits(word) {
+        return None;
     }
-    !(word[0] == 48) & (value_of(10, word, 0) <= 32)
+    let width = value_of(10, word);
+    if (word[0] != b'0') & (width <= 32) {
+        Some(width)
+    } else {
+        None
+    }
 }
 
 // A simple symbol, and its first byte is not one that reserves it.
 fn symbol(word: &[u8]) -> bool
     ensures { result ≡ (symbol word.now && not (private word.now)) }
 {
-    if word.len() == 0 {
-        return false;
+    match word.first() {
+        Some(b) => !b.is_ascii_digit() & all_symbolic(word) & (*b != b'@') & (*b != b'.'),
+        None => false,
     }
-    let b = word[0];
-    !between(48, 57, b) & all_symbolic(word) & !((b == 64) | (b == 46))
+}
+
+fn among(words: &[&[u8]], word: &[u8]) -> bool
+    ensures { result ≡ is_in (map (λ w. w.now) words.now) word.now }
+{
+    words.contains(&word)
 }
 
 fn is_name(word: &[u8]) -> bool
@@ -225,50 +191,69 @@ fn is_name(word: &[u8]) -> bool
     if !symbol(word) {
         return false;
     }
-    let reserved = smtlib::place_in(&RESERVED, &RESERVED_ENDS, word);
-    let command = smtlib::place_in(&COMMANDS, &COMMAND_ENDS, word);
-    !(reserved < 12) & !(command < 27)
+    !among(&RESERVED, word) & !among(&COMMANDS, word)
 }
 
-// Bool, BitVec, Array: 1, 2, 3; other names 0.
-fn tag_of(word: &[u8]) -> u32
-    ensures { result ≡ tag_of word.now }
+fn keyword_of(word: &[u8]) -> Option<Keyword>
+    ensures { result ≡ keyword_of word.now }
 {
-    let k = smtlib::place_in(&SORTS, &SORT_ENDS, word);
-    if k < 3 { (k as u32) + 1 } else { 0 }
+    if word == b"declare-const".as_slice() {
+        Some(Keyword::DeclareConst)
+    } else if word == b"assert".as_slice() {
+        Some(Keyword::Assert)
+    } else if word == b"check-sat".as_slice() {
+        Some(Keyword::CheckSat)
+    } else if word == b"_".as_slice() {
+        Some(Keyword::Underscore)
+    } else {
+        None
+    }
+}
+
+fn sort_named(word: &[u8]) -> Option<SortName>
+    ensures { result ≡ sort_named word.now }
+{
+    if word == b"Bool".as_slice() {
+        Some(SortName::Bool)
+    } else if word == b"BitVec".as_slice() {
+        Some(SortName::BitVec)
+    } else if word == b"Array".as_slice() {
+        Some(SortName::Array)
+    } else {
+        None
+    }
 }
 
 // A name that is marked: x, then digits, at least one.
 pub fn marked(word: &[u8]) -> bool
     ensures { result ≡ marked word.now }
 {
-    if word.len() < 2 {
-        return false;
+    match word.strip_prefix(b"x") {
+        Some(digits) => !digits.is_empty() & all_digits(digits),
+        None => false,
     }
-    (word[0] == b'x') & all_between(48, 57, word, 1)
 }
 
-// The bytes from `a` to `p` are those from `b` to `q`. Places past the text's end are its end.
-pub fn same_word(text: &[u8], a: usize, p: usize, b: usize, q: usize) -> bool
-    ensures { result ≡ same_bytes (part text.now a p) (part text.now b q) }
+// The bytes of a text from one place to another. Places past its end are its end.
+pub fn part(text: &[u8], from: usize, to: usize) -> &[u8]
+    ensures { result.now ≡ part text.now from to }
 {
-    let end = smtlib::lower(q, text.len());
-    let start = smtlib::lower(b, end);
-    smtlib::same_part(text, a, p, &text[start..end])
+    let end = to.min(text.len());
+    &text[from.min(end)..end]
 }
 
 // A constant in digits, a width, a name, or none of these.
 fn plain_word(word: &[u8]) -> Word
     ensures { result ≡ plain_of word.now }
 {
-    if binary(word) {
-        return Word::Literal((word.len() - 2) as u32, value_of(2, word, 2));
+    if let Some(digits) = binary_digits(word) {
+        return Word::Literal(digits.len() as u32, value_of(2, digits));
     }
-    if width(word) {
-        return Word::Width(value_of(10, word, 0));
+    if let Some(width) = decimal_width(word) {
+        return Word::Width(width);
     }
     if is_name(word) {
-        return Word::Name(tag_of(word));
+        return Word::Name(sort_named(word));
     }
     Word::Other
 }
@@ -277,49 +262,47 @@ fn plain_word(word: &[u8]) -> Word
 pub fn word_of(word: &[u8]) -> Word
     ensures { result ≡ word_of word.now }
 {
-    let k = smtlib::place_in(&KEYWORDS, &KEYWORD_ENDS, word);
-    if k < 4 {
-        return Word::Keyword(k as u32);
+    if let Some(keyword) = keyword_of(word) {
+        return Word::Keyword(keyword);
     }
     let op = smtlib::operator_of(word);
     if 0 < op {
         return Word::Operator(op);
     }
-    if smtlib::same_bytes(word, b"true") {
+    if word == b"true".as_slice() {
         return Word::Literal(0, 1);
     }
-    if smtlib::same_bytes(word, b"false") {
+    if word == b"false".as_slice() {
         return Word::Literal(0, 0);
     }
     plain_word(word)
+}
+
+// The first place from `at` on whose byte fails a test. By an index: `position` over the bytes from `at` on was tried, and
+// its proof stopped at a bound of the check.
+fn past<F: Fn(u8) -> bool>(test: F, text: &[u8], at: usize) -> usize
+    requires { F.IsAlwaysCallable test }
+    ensures { (f : ℕ → Bool) → ((b : ℕ) (passes : Bool) → F.post test b passes → passes ≡ f b) → result ≡ past f text.now at }
+{
+    let mut i = at;
+    while i < text.len() && test(text[i]) {
+        i += 1;
+    }
+    i
 }
 
 // The first place from `at` on that has no white space.
 pub fn past_white(text: &[u8], at: usize) -> usize
     ensures { result ≡ past white text.now at }
 {
-    let mut i = at;
-    while i < text.len() {
-        if !white(text[i]) {
-            return i;
-        }
-        i += 1;
-    }
-    i
+    past(white, text, at)
 }
 
 // The first place from `at` on that has white space or a parenthesis.
 pub fn past_word(text: &[u8], at: usize) -> usize
     ensures { result ≡ past inside text.now at }
 {
-    let mut i = at;
-    while i < text.len() {
-        if !inside(text[i]) {
-            return i;
-        }
-        i += 1;
-    }
-    i
+    past(inside, text, at)
 }
 
 // The word that begins at a place of the text.
@@ -327,26 +310,25 @@ fn word_from(text: &[u8], from: usize) -> Token
     requires { from < length text.now }
     ensures { result ≡ word_from text.now from }
 {
-    let b = text[from];
-    if b == 40 {
-        return Token {
+    match text[from] {
+        b'(' => Token {
             word: Word::Open,
             from,
             next: from + 1,
-        };
-    }
-    if b == 41 {
-        return Token {
+        },
+        b')' => Token {
             word: Word::Close,
             from,
             next: from + 1,
-        };
-    }
-    let next = past_word(text, from);
-    Token {
-        word: word_of(&text[from..next]),
-        from,
-        next,
+        },
+        _ => {
+            let next = past_word(text, from);
+            Token {
+                word: word_of(&text[from..next]),
+                from,
+                next,
+            }
+        }
     }
 }
 

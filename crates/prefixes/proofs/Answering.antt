@@ -8,9 +8,9 @@ use native.Mathlib.Omega.{arith}
 use lib.Dec.{eqb, ltb}
 use lib.ListN.{length, length-append, drop}
 use borrow.Author.Tests.{eq-eqb, ne_eqb, eqb-true, eqb-false, ltb-false}
-use Rattle.parser.specs.declared.Parsing.{Parsing}
-use Rattle.parser.specs.declared.Parsing.TheVariants.{Parsed, NotParsed}
-use Rattle.parser.specs.Expressions.{number}
+use Rattle.parser.specs.Parsing.{Parsing}
+use Rattle.std.specs.Prelude.{Ok, Err}
+use Rattle.parser.specs.Expressions.{fault_in, number}
 use Rattle.parser.specs.Rules.{rule_of}
 use Rattle.parser.specs.Parsing.{not_parsed, built, tabled, parsing, room_after}
 use Rattle.parser.specs.Trees.{rule_terms}
@@ -25,7 +25,7 @@ use Rattle.prefixes.proofs.Chunks.{white_space}
 use Rattle.prefixes.proofs.Counting.{terms-counted}
 
 abbrev fault_of : List ℕ → ℕ
-fault_of text = (rule_of text).progress.state.fault
+fault_of text = (fault_in (rule_of text).progress.state)
 
 abbrev count_of : List ℕ → ℕ
 count_of text = (rule_of text).progress.state.count
@@ -58,8 +58,8 @@ tables a b small little same f =
 
 -- the room, by the answer
 same_room : (a b : List ℕ) → built a ≡ built b → (p : Parsing) (l : List ℕ) → room_after p a l ≡ room_after p b l
-same_room a b e (Parsed n) l = ap (λ (t : List ℕ). t ++ drop n l) e
-same_room a b e (NotParsed r) l = refl
+same_room a b e (Ok n) l = ap (λ (t : List ℕ). t ++ drop n l) e
+same_room a b e (Err r) l = refl
 
 module _ (a b : List ℕ) (f : fault_of a ≡ 0) (g : fault_of b ≡ 0) (t : Tables a b) where
   read : (text : List ℕ) → fault_of text ≡ 0 → (room : ℕ) → parsing text room ≡ tabled (built text) (count_of text) room

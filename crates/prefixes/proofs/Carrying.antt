@@ -67,7 +67,7 @@ module _ (a b : List ℕ) where
       let r = stands s d.stands refl in
       record {
         end = r.end;
-        derived = record { tag = d.tag; stands = r.derived; bytes_are = sym (bytes_same s) ∙ d.bytes_are };
+        derived = record { sort = d.sort; stands = r.derived; bytes_are = sym (bytes_same s) ∙ d.bytes_are };
         abreast = r.abreast;
       }
 

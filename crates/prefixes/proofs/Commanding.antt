@@ -1,5 +1,6 @@
 -- The parser's steps follow the words: commands, one after the other.
 -- Assumes nothing.
+use Rattle.parser.specs.declared.states.Fault.TheVariants as fault_kind
 use mathlib.Core.Path.{◌≡◌, refl, sym, ap, ◌∙◌, subst}
 use mathlib.Core.Bool.{Bool, true, false, cond, not, ◌&&◌, ◌||◌}
 use mathlib.Core.List.{List, [], ◌∷◌, ◌++◌}
@@ -11,10 +12,11 @@ use lib.ListN.{length, length-append, replicate}
 use borrow.Author.Tests.{ne_eqb, eqb-true, eqb-false, lt-ltb}
 use Rattle.smtlib.proofs.Cuts.{and_left, and_right}
 use Rattle.parser.specs.declared.words.Word.TheVariants.{Open, Keyword}
+use Rattle.parser.specs.declared.words.Keyword.TheVariants.{DeclareConst, Assert}
 use Rattle.parser.specs.declared.states.State.{State}
 use Rattle.parser.specs.declared.states.Progress.{Progress}
 use Rattle.parser.specs.Words.{token_at}
-use Rattle.parser.specs.Expressions.{faulty_at, expression_of}
+use Rattle.parser.specs.Expressions.{fault_in, faulty_at, expression_of}
 use Rattle.parser.specs.Rules.{Step, code_of, moved_to, expected, sort_of, new_name, declaration_of, joined_rule, assert_of, ended_rule, check_of, command_by, command_of, halted, commands_of, start, rule_of}
 use Rattle.parser.specs.Grammar.{Declared, Stands, Declarations}
 use Rattle.parser.specs.Grammar.Declarations.{none as undeclared, more as declared}
@@ -50,15 +52,15 @@ spot_of p ds = record { place = commands; names = names_of ds; asserted = not (e
 
 -- what a command leads to: a refusal; the next command, further on; the end
 data Outcome (text : List ℕ) (a : Spot) (at : ℕ) (v : Progress) : Type 0 where
-  refusing : (v.state.fault ≡ 0 → ⊥) → first text a at ≡ record { number = v.state.fault; place = v.state.at } → Outcome text a at v
-  going : (ds : List Declared) → Names text v ds → v.ended ≡ false → v.state.fault ≡ 0 → at < v.state.at
+  refusing : (fault_in v.state ≡ 0 → ⊥) → first text a at ≡ record { number = (fault_in v.state); place = v.state.at } → Outcome text a at v
+  going : (ds : List Declared) → Names text v ds → v.ended ≡ false → fault_in v.state ≡ 0 → at < v.state.at
       → first text a at ≡ first text (spot_of v ds) v.state.at → Outcome text a at v
-  ending : v.ended ≡ true → v.state.fault ≡ 0 → first text a at ≡ nothing → Outcome text a at v
+  ending : v.ended ≡ true → fault_in v.state ≡ 0 → first text a at ≡ nothing → Outcome text a at v
 
 -- the end of the words
 record Ends (text : List ℕ) (a : Spot) (at : ℕ) (v : State) : Type 0 where
-  faulty : (v.fault ≡ 0 → ⊥) → first text a at ≡ record { number = v.fault; place = v.at }
-  clean : v.fault ≡ 0 → first text a at ≡ nothing
+  faulty : (fault_in v ≡ 0 → ⊥) → first text a at ≡ record { number = (fault_in v); place = v.at }
+  clean : fault_in v ≡ 0 → first text a at ≡ nothing
 
 ended : (text : List ℕ) (names : List (List ℕ)) (asserted : Bool) {a : Spot} {at : ℕ} (s : State)
     → Leads text a at s (at_place text names asserted (wanting (the 10) [])) → Ends text a at (expected text s 10)
@@ -66,17 +68,17 @@ unfolding expected
 ended text names asserted {a} {at} s l =
     let t = token_at text s.at in
     let b = at_place text names asserted (wanting (the 10) []) in
-    by_test (Ends text a at) (eqb s.fault 0)
+    by_test (Ends text a at) (eqb (fault_in s) 0)
     (λ f. by_test (Ends text a at) (eqb (code_of t.word) 10)
     (λ e. record { faulty = λ n. absurd (n (eqb-true _ _ f)); clean = λ z. l.clean z ∙ first_ended text s.at b (rw e) (ap is_end (coded text s.at 9 (eqb-true _ _ e))) })
-    (λ e. record { faulty = λ z. l.clean (eqb-true _ _ f) ∙ first-refused text s.at b 30 (rw e); clean = λ z. absurd (omega arith) }))
+    (λ e. record { faulty = λ z. l.clean (eqb-true _ _ f) ∙ first-refused text s.at b fault_kind.Unexpected (rw e); clean = λ z. absurd (omega arith) }))
     (λ f. record { faulty = l.faulty; clean = λ z. absurd (eqb-false _ _ f z) })
 
 pub twice : (b : Bool) → not (not b) ≡ b
 twice true = refl
 twice false = refl
 
-module _ (text : List ℕ) (small : Storable text) (p : Progress) (ds : List Declared) (r : Names text p ds) (on : p.ended ≡ false) (clean : p.state.fault ≡ 0)
+module _ (text : List ℕ) (small : Storable text) (p : Progress) (ds : List Declared) (r : Names text p ds) (on : p.ended ≡ false) (clean : fault_in p.state ≡ 0)
     {a : ℕ} (o : Stands text p.state.at Open a) where
   abbrev Leads-to : Step → Type 0
   Leads-to v = Outcome text (spot_of p ds) p.state.at v.progress
@@ -115,12 +117,12 @@ module _ (text : List ℕ) (small : Storable text) (p : Progress) (ds : List Dec
       let ns = names_of ds ++ (w ∷ []) in
       let l = wanted text ns asserted q.state 2 [] (omega arith)
       (sort text ns asserted n (new text (names_of ds) asserted s p.names known (declaring c none))) in
-      by_test Leads-to (eqb e.fault 0)
+      by_test Leads-to (eqb (fault_in e) 0)
       (λ f. let x = went text q.state 1 (eqb-true _ _ f) in
       let y = sort_read text n x.clean in
       let m = new_name_lem text p.names s y.clean in
-      let d : Declared = record { name = w; sort = record { m = q.m; n = q.n } } in
-      let k : Stands text a (Keyword 0) s.at = record { here = coded text a 2 c; after = refl } in
+      let d : Declared = record { name = w; sort = record { m = q.sort.m; n = q.sort.n } } in
+      let k : Stands text a (Keyword DeclareConst) s.at = record { here = coded text a 2 c; after = refl } in
       let before : Declarations text 0 ds p.state.at = subst (Declarations text 0 ds) (r.until none) r.declarations in
       let long : length (ds ++ (d ∷ [])) ≡ length ds + 1 = length-append ds (d ∷ []) in
       let moves : p.state.at < e.at = omega
@@ -149,12 +151,12 @@ module _ (text : List ℕ) (small : Storable text) (p : Progress) (ds : List Dec
       let known = names-known r.declarations r.names_are in
       let l = wanted text (names_of ds) true v.state 2 [] (omega arith)
       (then (asserting c) clean (expression text (names_of ds) p.names known true s room clean)) in
-      let facts : u.fault ≡ 0 → (p.state.at < u.at) × (u.at ≤ length text) = λ f.
+      let facts : fault_in u ≡ 0 → (p.state.at < u.at) × (u.at ≤ length text) = λ f.
       let x = went text v.state 1 f in
-      let k : Stands text a (Keyword 1) s.at = record { here = coded text a 3 c; after = refl } in
+      let k : Stands text a (Keyword Assert) s.at = record { here = coded text a 3 c; after = refl } in
       let further = (expression_moves 64 text p.names s room x.clean).further in
       (omega (arith, open_onward o, onward k, further, onward x.stands), close_inside x.stands) in
-      by_test Leads-to (eqb u.fault 0)
+      by_test Leads-to (eqb (fault_in u) 0)
       (λ f. let g = eqb-true _ _ f in
       by_test Leads-to (eqb p.asserts 0)
       (λ n. going ds
@@ -168,23 +170,23 @@ module _ (text : List ℕ) (small : Storable text) (p : Progress) (ds : List Dec
   -- The end
 
   checking : code_of (token_at text a).word ≡ 5
-      → Leads text (spot_of p ds) p.state.at (cond (eqb p.asserts 0) (faulty_at p.state 35 (token_at text a).from) (moved_to p.state (token_at text a).next))
+      → Leads text (spot_of p ds) p.state.at (cond (eqb p.asserts 0) (faulty_at p.state fault_kind.Unasserted (token_at text a).from) (moved_to p.state (token_at text a).next))
       (at_place text (names_of ds) asserted (wanting (the 2) (the 10 ∷ [])))
   checking e =
       by_test (λ (v : State). Leads text (spot_of p ds) p.state.at v (at_place text (names_of ds) asserted (wanting (the 2) (the 10 ∷ []))))
       (eqb p.asserts 0)
-      (λ z. stopped (at_place text (names_of ds) asserted (wanting (the 2) (the 10 ∷ []))) 34 opened clean (rw (e, z)))
+      (λ z. stopped (at_place text (names_of ds) asserted (wanting (the 2) (the 10 ∷ []))) fault_kind.Unasserted opened clean (rw (e, z)))
       (λ z. let l = passed (moved_to p.state (token_at text a).next) opened clean (rw (e, z)) (ap is_end (coded text a 4 e)) clean refl in rw e at l)
 
   checks : code_of (token_at text a).word ≡ 5 → (room : List ℕ) → Leads-to (check_of text p (token_at text a) room)
   unfolding check_of ended_rule
   checks c room =
-      let s = cond (eqb p.asserts 0) (faulty_at p.state 35 (token_at text a).from) (moved_to p.state (token_at text a).next) in
+      let s = cond (eqb p.asserts 0) (faulty_at p.state fault_kind.Unasserted (token_at text a).from) (moved_to p.state (token_at text a).next) in
       let u = expected text s 2 in
       let v = expected text u 10 in
       let l = wanted text (names_of ds) asserted s 2 (the 10 ∷ []) (omega arith) (checking c) in
       let m = ended text (names_of ds) asserted u l in
-      by_test Leads-to (eqb v.fault 0)
+      by_test Leads-to (eqb (fault_in v) 0)
       (λ f. let g = eqb-true _ _ f in
       by_test Leads-to (eqb p.asserts 1 && p.bare) (λ n. ending refl refl (m.clean g)) (λ n. ending refl g (m.clean g)))
       (λ f. refusing (eqb-false _ _ f) (m.faulty (eqb-false _ _ f)))
@@ -201,18 +203,18 @@ module _ (text : List ℕ) (small : Storable text) (p : Progress) (ds : List Dec
       (λ e. by_test Leads-to (eqb (code_of w) 4) (λ f. asserts (eqb-true _ _ f) room)
       (λ f. by_test Leads-to (eqb (code_of w) 5) (λ g. checks (eqb-true _ _ g) room)
       (λ g. refusing (λ z. omega arith)
-      ((stopped (spot_of p ds) 30 opened clean (rw (twice (eqb p.asserts 0), e, f, g))).faulty (λ z. omega arith)))))
+      ((stopped (spot_of p ds) fault_kind.Unexpected opened clean (rw (twice (eqb p.asserts 0), e, f, g))).faulty (λ z. omega arith)))))
 
-module _ (text : List ℕ) (small : Storable text) (p : Progress) (ds : List Declared) (r : Names text p ds) (on : p.ended ≡ false) (clean : p.state.fault ≡ 0) where
+module _ (text : List ℕ) (small : Storable text) (p : Progress) (ds : List Declared) (r : Names text p ds) (on : p.ended ≡ false) (clean : fault_in p.state ≡ 0) where
   commands_lead : (room : List ℕ) → Outcome text (spot_of p ds) p.state.at (command_of text p room).progress
   unfolding command_of
   commands_lead room =
       by_test (λ (v : Step). Outcome text (spot_of p ds) p.state.at v.progress) (eqb (code_of (token_at text p.state.at).word) 1)
       (λ e. command_by_lem text small p ds r on clean (record { here = coded text p.state.at 0 (eqb-true _ _ e); after = refl }) room)
-      (λ e. refusing (λ z. omega arith) ((stopped (spot_of p ds) 30 (here text (spot_of p ds) p.state clean) clean (rw e)).faulty (λ z. omega arith)))
+      (λ e. refusing (λ z. omega arith) ((stopped (spot_of p ds) fault_kind.Unexpected (here text (spot_of p ds) p.state clean) clean (rw e)).faulty (λ z. omega arith)))
 
-faulty_halts : (p : Progress) → (p.state.fault ≡ 0 → ⊥) → halted p ≡ true
-faulty_halts p n = rw (ne_eqb p.state.fault 0 n) (go p.ended)
+faulty_halts : (p : Progress) → (fault_in p.state ≡ 0 → ⊥) → halted p ≡ true
+faulty_halts p n = rw (ne_eqb (fault_in p.state) 0 n) (go p.ended)
   where
     go : (b : Bool) → b || true ≡ true
     go true = refl
@@ -221,7 +223,7 @@ faulty_halts p n = rw (ne_eqb p.state.fault 0 n) (go p.ended)
 module _ (text : List ℕ) (small : Storable text) where
   Follows : ℕ → Type 0
   Follows left =
-      (v : Step) (ds : List Declared) → Names text v.progress ds → v.progress.ended ≡ false → v.progress.state.fault ≡ 0
+      (v : Step) (ds : List Declared) → Names text v.progress ds → v.progress.ended ≡ false → fault_in v.progress.state ≡ 0
       → length text < left + v.progress.state.at
       → Tells (commands_of left text v).progress.state (first text (spot_of v.progress ds) v.progress.state.at)
 

@@ -1,5 +1,6 @@
 -- Words that are all expected are a sentence.
 -- Assumes nothing.
+use Rattle.std.specs.Prelude.{Option, Some}
 use mathlib.Core.Path.{◌≡◌, refl, sym, ap, ◌∙◌, subst}
 use mathlib.Core.Bool.{Bool, true, false, cond, not, ◌||◌}
 use mathlib.Core.List.{List, [], ◌∷◌}
@@ -11,6 +12,9 @@ use borrow.Author.Tests.{eqb-true, eqb-false, not-true}
 use Rattle.smtlib.proofs.Cuts.{and_left, and_right}
 use Rattle.parser.specs.declared.words.Word.{Word}
 use Rattle.parser.specs.declared.words.Word.TheVariants.{Open, Close, Keyword, Operator, Literal, Width, Name, Other, End}
+use Rattle.parser.specs.declared.words.Keyword.TheVariants.{DeclareConst, Assert, CheckSat, Underscore}
+use Rattle.parser.specs.declared.words.SortName.{SortName}
+use Rattle.parser.specs.declared.words.SortName.TheVariants as sort_name
 use Rattle.parser.specs.Rules.{code_of, width_in, is_name}
 use Rattle.parser.proofs.Accepts.{never}
 use Rattle.parser.proofs.Wanted.{word_by}
@@ -106,7 +110,7 @@ want_width xs b (w ∷ ws) (and_word t ts) e =
 -- BitVec width ) after ( _
 record Ended (ws us : List Word) : Type 0 where
   wide : ℕ
-  is : ws ≡ Name 2 ∷ Width (suc wide) ∷ Close ∷ us
+  is : ws ≡ Name (Some sort_name.BitVec) ∷ Width (suc wide) ∷ Close ∷ us
 
 vector_end : (xs : List Want) (b : Bool) (ws : List Word) → AllTold ws → accepts (wanting (the 8) (width ∷ the 2 ∷ xs)) b ws ≡ true
     → Reaches (Ended ws) (on_to xs) b (length ws)
@@ -118,7 +122,7 @@ vector_end xs b ws t e =
       rest = z.rest;
       derived = record {
         wide = y.derived.wide;
-        is = x.derived.is ∙ ap (λ (us : List Word). Name 2 ∷ us) (y.derived.is
+        is = x.derived.is ∙ ap (λ (us : List Word). Name (Some sort_name.BitVec) ∷ us) (y.derived.is
             ∙ ap (λ (us : List Word). Width (suc y.derived.wide) ∷ us) z.derived.is);
       };
       on = z.on;
@@ -132,8 +136,8 @@ vector_of_lem xs b ws t e =
     let x = want_the 0 (the 6 ∷ the 8 ∷ width ∷ the 2 ∷ xs) b ws (omega arith) t e in
     let y = want_the 5 (the 8 ∷ width ∷ the 2 ∷ xs) b x.rest (omega arith) x.told x.on in
     let z = vector_end xs b y.rest y.told y.on in
-    let is : ws ≡ Open ∷ Keyword 3 ∷ Name 2 ∷ Width (suc z.derived.wide) ∷ Close ∷ z.rest =
-    x.derived.is ∙ ap (λ (us : List Word). Open ∷ us) (y.derived.is ∙ ap (λ (us : List Word). Keyword 3 ∷ us) z.derived.is) in
+    let is : ws ≡ Open ∷ Keyword Underscore ∷ Name (Some sort_name.BitVec) ∷ Width (suc z.derived.wide) ∷ Close ∷ z.rest =
+    x.derived.is ∙ ap (λ (us : List Word). Open ∷ us) (y.derived.is ∙ ap (λ (us : List Word). Keyword Underscore ∷ us) z.derived.is) in
     record {
       rest = z.rest;
       derived = subst (λ (l : List Word). Vector l z.rest) (sym is) vectored;
@@ -169,8 +173,8 @@ sort_opened_lem b (w ∷ ws) (and_word t ts) e = go (eqb (code_of w) 9) (eqb (co
         let c = eqb-true _ _ g in
         let on = rw f at (goes_on sort_opened b w ws e (not_end w 6 c (omega arith))) in
         let z = vector_end (the 2 ∷ []) b ws ts on in
-        let is : w ∷ ws ≡ Keyword 3 ∷ Name 2 ∷ Width (suc z.derived.wide) ∷ Close ∷ z.rest =
-        ap (λ (x : Word). x ∷ ws) (t.is 5 c) ∙ ap (λ (us : List Word). Keyword 3 ∷ us) z.derived.is in
+        let is : w ∷ ws ≡ Keyword Underscore ∷ Name (Some sort_name.BitVec) ∷ Width (suc z.derived.wide) ∷ Close ∷ z.rest =
+        ap (λ (x : Word). x ∷ ws) (t.is 5 c) ∙ ap (λ (us : List Word). Keyword Underscore ∷ us) z.derived.is in
         record {
           rest = z.rest;
           derived = subst (λ (l : List Word). Sorting (Open ∷ l) z.rest) (sym is) (vector vectored);
@@ -295,9 +299,9 @@ expression_of_lem b (End ∷ ws) (and_word t ts) e = absurd (never (is-expected 
 -- Commands
 
 data Commanded (b : Bool) (ws : List Word) : Type 0 where
-  declaring : (vs : List Word) → b ≡ false → ws ≡ Open ∷ Keyword 0 ∷ vs → accepts naming b vs ≡ true → AllTold vs → Commanded b ws
-  asserting : (vs : List Word) → ws ≡ Open ∷ Keyword 1 ∷ vs → accepts (operand []) true vs ≡ true → AllTold vs → Commanded b ws
-  checking : (vs : List Word) → ws ≡ Open ∷ Keyword 2 ∷ vs → accepts (wanting (the 2) (the 10 ∷ [])) b vs ≡ true → AllTold vs → Commanded b ws
+  declaring : (vs : List Word) → b ≡ false → ws ≡ Open ∷ Keyword DeclareConst ∷ vs → accepts naming b vs ≡ true → AllTold vs → Commanded b ws
+  asserting : (vs : List Word) → ws ≡ Open ∷ Keyword Assert ∷ vs → accepts (operand []) true vs ≡ true → AllTold vs → Commanded b ws
+  checking : (vs : List Word) → ws ≡ Open ∷ Keyword CheckSat ∷ vs → accepts (wanting (the 2) (the 10 ∷ [])) b vs ≡ true → AllTold vs → Commanded b ws
 
 or-none : (b : Bool) → b || false || false ≡ true → b ≡ true
 or-none true e = refl
@@ -347,9 +351,9 @@ assert_of_lem ws t e =
     }
 
 record Declares (ws us : List Word) : Type 0 where
-  tag : ℕ
+  kind : Option SortName
   rest : List Word
-  is : ws ≡ Name tag ∷ rest
+  is : ws ≡ Name kind ∷ rest
   sort : Sorting rest (Close ∷ us)
 
 a_name : (w : Word) → is_name w ≡ true → {ws us : List Word} → Sorting ws (Close ∷ us) → Declares (w ∷ ws) us
@@ -359,7 +363,7 @@ a_name (Keyword k) e s = absurd (never e)
 a_name (Operator op) e s = absurd (never e)
 a_name (Literal n v) e s = absurd (never e)
 a_name (Width n) e s = absurd (never e)
-a_name (Name k) e {ws} s = record { tag = k; rest = ws; is = refl; sort = s }
+a_name (Name k) e {ws} s = record { kind = k; rest = ws; is = refl; sort = s }
 a_name Other e s = absurd (never e)
 a_name End e s = absurd (never e)
 
@@ -399,7 +403,7 @@ check_of_lem b ws t e =
 -- Sentences
 
 abbrev last_words : List Word
-last_words = Open ∷ Keyword 2 ∷ Close ∷ End ∷ []
+last_words = Open ∷ Keyword CheckSat ∷ Close ∷ End ∷ []
 
 asserts_of_lem : (n : ℕ) (ws : List Word) → length ws < n → AllTold ws → accepts commands true ws ≡ true → Asserts ws last_words
 asserts_of_lem zero ws h t e = absurd (omega arith)
@@ -425,7 +429,7 @@ sentence_of (suc n) ws h t e = go (commanded false ws t e) (sentence_of n)
           declared = s.declared;
           declarations =
               subst (λ (us : List Word). Declarations us s.declared)
-              (sym (is ∙ ap (λ (us : List Word). Open ∷ Keyword 0 ∷ us) x.derived.is))
+              (sym (is ∙ ap (λ (us : List Word). Open ∷ Keyword DeclareConst ∷ us) x.derived.is))
               (declared x.derived.sort s.declarations);
           asserts = s.asserts;
         }

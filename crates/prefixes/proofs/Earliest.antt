@@ -1,5 +1,6 @@
 -- The first word that is refused ends the shortest prefix that is refused.
 -- Assumes nothing.
+use Rattle.parser.specs.Expressions.{fault_in}
 use mathlib.Core.Path.{◌≡◌, refl, sym, ap, ◌∙◌}
 use mathlib.Core.Bool.{Bool, true, false, cond}
 use mathlib.Core.List.{List, [], ◌∷◌, ◌++◌}
@@ -9,12 +10,12 @@ use lib.Dec.{eqb, ltb, leb}
 use lib.ListN.{length, take}
 use borrow.Author.Tests.{eq-eqb, ne_eqb, eqb-true, eqb-false, leb-true}
 use Rattle.smtlib.proofs.Cuts.{and_right}
-use Rattle.table.specs.declared.Acceptance.{Acceptance}
+use Rattle.table.specs.Answers.{Acceptance}
 use Rattle.table.specs.Terms.{words}
 use Rattle.table.specs.Admission.{and_then}
 use Rattle.table.proofs.Refusals.{admission_by}
-use Rattle.parser.specs.declared.Parsing.{Parsing}
-use Rattle.parser.specs.declared.Parsing.TheVariants.{Parsed, NotParsed}
+use Rattle.parser.specs.Parsing.{Parsing}
+use Rattle.std.specs.Prelude.{Ok, Err}
 use Rattle.parser.specs.declared.states.State.{State}
 use Rattle.parser.specs.Rules.{rule_of}
 use Rattle.parser.specs.Parsing.{not_parsed, built, tabled, parsing}
@@ -87,21 +88,21 @@ found n (w ∷ bs) word rest s r early =
 -- What parse answers
 
 number_of : Parsing → ℕ
-number_of (Parsed n) = 0
-number_of (NotParsed r) = r.number
+number_of (Ok n) = 0
+number_of (Err r) = r.number
 
 place_of : Parsing → ℕ
-place_of (Parsed n) = 0
-place_of (NotParsed r) = r.place
+place_of (Ok n) = 0
+place_of (Err r) = r.place
 
 -- the table's refusals have lower numbers
 low : (t : List ℕ) (count room : ℕ) → number_of (tabled t count room) < 31
 unfolding number_of
 low t count room =
-    let rest = cond (ltb room (count * words)) (not_parsed 21 count) (Parsed (count * words)) in
+    let rest = cond (ltb room (count * words)) (not_parsed 21 count) (Ok (count * words)) in
     let last : number_of rest < 31 = by_test (λ (a : Parsing). number_of a < 31) (ltb room (count * words)) (λ e. omega arith) (λ e. omega arith) in
     by_test (λ (a : Parsing). number_of a < 31) (ltb 512 count) (λ e. omega arith)
-    (λ e. admission_by (λ (a : Acceptance). number_of (and_then NotParsed a rest) < 31) last
+    (λ e. admission_by (λ (a : Acceptance). number_of (and_then Err a rest) < 31) last
     (λ number place b. omega (arith, leb-true number 10 (and_right (leb 1 number) (leb number 10) b))) 512 t)
 
 pub prefix_refused : PrefixRefused
@@ -111,21 +112,21 @@ prefix_refused text room n p small l h = (to, from)
     s : State
     s = (rule_of text).progress.state
 
-    tells : (s.fault ≡ 0 → ⊥) → RefusedAt (spelling text) s.fault s.at
+    tells : (fault_in s ≡ 0 → ⊥) → RefusedAt (spelling text) (fault_in s) s.at
     tells m =
         let t = first-refusal text small in
         rw (sym t.number, sym (t.place m)) (shortest (spelling text) start_spot (λ z. m (sym t.number ∙ z)))
 
-    go : (b : Bool) → eqb s.fault 0 ≡ b → cond b (tabled (built text) s.count room) (not_parsed s.fault s.at) ≡ not_parsed n p
+    go : (b : Bool) → eqb (fault_in s) 0 ≡ b → cond b (tabled (built text) s.count room) (not_parsed (fault_in s) s.at) ≡ not_parsed n p
         → RefusedAt (spelling text) n p
     go true f e = absurd (omega (arith, low (built text) s.count room, ap number_of e))
     go false f e =
-        let i : n ≡ s.fault = sym (ap number_of e) in
+        let i : n ≡ (fault_in s) = sym (ap number_of e) in
         let j : p ≡ s.at = sym (ap place_of e) in
         rw (i, j) (tells (eqb-false _ _ f))
 
     to : parsing text room ≡ not_parsed n p → RefusedAt (spelling text) n p
-    to e = go (eqb s.fault 0) refl e
+    to e = go (eqb (fault_in s) 0) refl e
 
     from : RefusedAt (spelling text) n p → parsing text room ≡ not_parsed n p
     from r =
@@ -133,7 +134,7 @@ prefix_refused text room n p small l h = (to, from)
         let f : first_refusal (spelling text) ≡ record { number = suc (n - 1); place = r.word.from } =
         ap first_refusal r.splits ∙ found (n - 1) r.before r.word r.rest start_spot (r.refused ∙ some) r.earliest in
         let t = first-refusal text small in
-        let i : s.fault ≡ n = sym t.number ∙ ap (λ (x : Refused). x.number) f ∙ sym some in
-        let m : s.fault ≡ 0 → ⊥ = λ z. omega arith in
+        let i : (fault_in s) ≡ n = sym t.number ∙ ap (λ (x : Refused). x.number) f ∙ sym some in
+        let m : fault_in s ≡ 0 → ⊥ = λ z. omega arith in
         let j : s.at ≡ p = sym (t.place m) ∙ ap (λ (x : Refused). x.place) f ∙ r.place in
-        ap (λ (b : Bool). cond b (tabled (built text) s.count room) (not_parsed s.fault s.at)) (ne_eqb _ _ m) ∙ rw (i, j)
+        ap (λ (b : Bool). cond b (tabled (built text) s.count room) (not_parsed (fault_in s) s.at)) (ne_eqb _ _ m) ∙ rw (i, j)

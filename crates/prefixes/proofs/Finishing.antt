@@ -1,5 +1,6 @@
 -- Wherever words that are expected lead, a sentence can be finished; so 31 is the grammar's.
 -- Assumes nothing.
+use Rattle.std.specs.Prelude.{None}
 use mathlib.Core.Path.{◌≡◌, refl, sym, ap, ◌∙◌, subst}
 use mathlib.Core.Bool.{Bool, true, false, cond, not}
 use mathlib.Core.List.{List, [], ◌∷◌, ◌++◌, append_assoc}
@@ -123,7 +124,7 @@ at_place : (p : Place) (b : Bool) → GoodPlace p → Finishes p b
 unfolding GoodPlace
 at_place commands b g = at_commands b
 at_place command b g = at_command b
-at_place naming b g = in_front (Name 0) a_name refl refl (record { is = λ c e. absurd (omega arith) }) (plain 6 (omega arith) refl (at_wants b shut))
+at_place naming b g = in_front (Name None) a_name refl refl (record { is = λ c e. absurd (omega arith) }) (plain 6 (omega arith) refl (at_wants b shut))
 at_place sorting b g = plain 6 (omega arith) refl (at_wants b shut)
 at_place sort_opened b g = plain 5 (omega arith) refl (at_wants b (and_the 7 (omega arith) (and_width (and_the 1 (omega arith) shut))))
 at_place (wanting x xs) b g = at_wants b g

@@ -1,9 +1,12 @@
 -- The parser's steps follow the words: words that are asked for, sorts and new names.
 -- Assumes nothing.
+use Rattle.parser.specs.declared.states.Fault.TheVariants as fault_kind
+use Rattle.parser.specs.declared.states.Fault.{Fault}
+use Rattle.parser.proofs.Faults.{some_number}
 use mathlib.Core.Path.{◌≡◌, refl, sym, ap, ◌∙◌, subst}
 use mathlib.Core.Bool.{Bool, true, false}
 use mathlib.Core.List.{List, [], ◌∷◌, ◌++◌}
-use Prim.Native.Nat.{ℕ, suc, ◌<◌}
+use Prim.Native.Nat.{ℕ, ◌<◌}
 use native.Mathlib.Omega.{arith}
 use lib.Dec.{eqb}
 use borrow.Author.Tests.{eqb-true, eqb-false}
@@ -13,7 +16,7 @@ use Rattle.parser.specs.declared.states.State.{State}
 use Rattle.parser.specs.declared.states.Sorted.{Sorted}
 use Rattle.parser.specs.Words.{token_at}
 use Rattle.parser.specs.Names.{declared}
-use Rattle.parser.specs.Expressions.{faulty_at}
+use Rattle.parser.specs.Expressions.{fault_number, fault_in, faulty_at}
 use Rattle.parser.specs.Rules.{code_of, moved_to, expected, width_in, width_of, vector_of, array_of, sort_of, is_name, new_name}
 use Rattle.parser.proofs.Choices.{by_test}
 use Rattle.parser.proofs.Accepts.{never, Known, declared_is}
@@ -26,15 +29,15 @@ use Rattle.prefixes.proofs.Spellings.{not_the_end, first, first-refused, first-p
 
 -- from the spot a at a place the words lead to the state v: a fault is the first refusal; without one the words go on from the spot b
 pub record Leads (text : List ℕ) (a : Spot) (at : ℕ) (v : State) (b : Spot) : Type 0 where
-  pub faulty : (v.fault ≡ 0 → ⊥) → first text a at ≡ record { number = v.fault; place = v.at }
-  pub clean : v.fault ≡ 0 → first text a at ≡ first text b v.at
+  pub faulty : (fault_in v ≡ 0 → ⊥) → first text a at ≡ record { number = (fault_in v); place = v.at }
+  pub clean : fault_in v ≡ 0 → first text a at ≡ first text b v.at
 
-pub here : (text : List ℕ) (a : Spot) (s : State) → s.fault ≡ 0 → Leads text a s.at s a
+pub here : (text : List ℕ) (a : Spot) (s : State) → fault_in s ≡ 0 → Leads text a s.at s a
 here text a s f = record { faulty = λ n. absurd (n f); clean = λ e. refl }
 
 module _ {text : List ℕ} {a : Spot} {at : ℕ} where
   -- a fault stays
-  pub held : {s : State} {b c : Spot} → Leads text a at s b → (s.fault ≡ 0 → ⊥) → Leads text a at s c
+  pub held : {s : State} {b c : Spot} → Leads text a at s b → (fault_in s ≡ 0 → ⊥) → Leads text a at s c
   held l n = record { faulty = l.faulty; clean = λ e. absurd (n e) }
 
   -- the same state
@@ -42,21 +45,21 @@ module _ {text : List ℕ} {a : Spot} {at : ℕ} where
   same {b = b} e l = subst (λ (x : State). Leads text a at x b) (sym e) l
 
   -- a word that is refused
-  pub stopped : {s : State} {b : Spot} (c : Spot) (n : ℕ) → Leads text a at s b → s.fault ≡ 0 → refusal b (spelt_at text s.at) ≡ suc n
-      → Leads text a at (faulty_at s (suc n) (token_at text s.at).from) c
-  stopped {s} {b} c n l f r = record { faulty = λ z. l.clean f ∙ first-refused text s.at b n r; clean = λ z. absurd (omega arith) }
+  pub stopped : {s : State} {b : Spot} (c : Spot) (n : Fault) → Leads text a at s b → fault_in s ≡ 0 → refusal b (spelt_at text s.at) ≡ fault_number n
+      → Leads text a at (faulty_at s n (token_at text s.at).from) c
+  stopped {s} {b} c n l f r = record { faulty = λ z. l.clean f ∙ first-refused text s.at b n r; clean = λ z. absurd (some_number n z) }
 
   -- a word that is passed
-  pub passed : {s : State} {b : Spot} (v : State) → Leads text a at s b → s.fault ≡ 0 → refusal b (spelt_at text s.at) ≡ 0
+  pub passed : {s : State} {b : Spot} (v : State) → Leads text a at s b → fault_in s ≡ 0 → refusal b (spelt_at text s.at) ≡ 0
       → is_end (token_at text s.at).word ≡ false
-      → v.fault ≡ 0 → v.at ≡ (token_at text s.at).next → Leads text a at v (after b (spelt_at text s.at))
+      → fault_in v ≡ 0 → v.at ≡ (token_at text s.at).next → Leads text a at v (after b (spelt_at text s.at))
   passed {s} {b} v l f r e g i = record { faulty = λ n. absurd (n g); clean = λ z. rw i (l.clean f ∙ first-passed text s.at b r e) }
 
-  pub then : {v u : State} {b c : Spot} → Leads text a at v b → v.fault ≡ 0 → Leads text b v.at u c → Leads text a at u c
+  pub then : {v u : State} {b c : Spot} → Leads text a at v b → fault_in v ≡ 0 → Leads text b v.at u c → Leads text a at u c
   then l f m = record { faulty = λ n. l.clean f ∙ m.faulty n; clean = λ e. l.clean f ∙ m.clean e }
 
   -- another spot from which the words go on alike
-  pub exchanged : {s : State} {b : Spot} (c : Spot) → Leads text a at s b → (s.fault ≡ 0 → first text b s.at ≡ first text c s.at)
+  pub exchanged : {s : State} {b : Spot} (c : Spot) → Leads text a at s b → (fault_in s ≡ 0 → first text b s.at ≡ first text c s.at)
       → Leads text a at s c
   exchanged c l e = record { faulty = l.faulty; clean = λ f. l.clean f ∙ e f }
 
@@ -98,10 +101,10 @@ module _ (text : List ℕ) (names : List (List ℕ)) (asserted : Bool) where
     unfolding expected
     wanted s code more small l =
         let t = token_at text s.at in
-        by_test (λ (v : State). Leads text a at v (at_place (on_to more))) (eqb s.fault 0)
+        by_test (λ (v : State). Leads text a at v (at_place (on_to more))) (eqb (fault_in s) 0)
         (λ f. by_test (λ (v : State). Leads text a at v (at_place (on_to more))) (eqb (code_of t.word) code)
         (λ e. passed (moved_to s t.next) l (eqb-true _ _ f) (rw e) (not_end t.word code (eqb-true _ _ e) small) (eqb-true _ _ f) refl)
-        (λ e. stopped (at_place (on_to more)) 30 l (eqb-true _ _ f) (rw e)))
+        (λ e. stopped (at_place (on_to more)) fault_kind.Unexpected l (eqb-true _ _ f) (rw e)))
         (λ f. held l (eqb-false _ _ f))
 
     wide : (s : State) (more : List Want) → Leads text a at s (at_place (wanting width more))
@@ -109,9 +112,9 @@ module _ (text : List ℕ) (names : List (List ℕ)) (asserted : Bool) where
     unfolding width_of
     wide s more l =
         let t = token_at text s.at in
-        by_test (λ (v : Sorted). Leads text a at v.state (at_place (on_to more))) (eqb s.fault 0)
+        by_test (λ (v : Sorted). Leads text a at v.state (at_place (on_to more))) (eqb (fault_in s) 0)
         (λ f. by_test (λ (v : Sorted). Leads text a at v.state (at_place (on_to more))) (eqb (width_in t.word) 0)
-        (λ e. stopped (at_place (on_to more)) 30 l (eqb-true _ _ f) (rw e))
+        (λ e. stopped (at_place (on_to more)) fault_kind.Unexpected l (eqb-true _ _ f) (rw e))
         (λ e. passed (moved_to s t.next) l (eqb-true _ _ f) (rw e) (wide_not_end t.word (eqb-false _ _ e)) (eqb-true _ _ f) refl))
         (λ f. held l (eqb-false _ _ f))
 
@@ -158,11 +161,11 @@ module _ (text : List ℕ) (names : List (List ℕ)) (asserted : Bool) where
         let w = bytes_at text s.at in
         let c : Spot = record { place = sorting; names = names ++ (bytes_at text s.at ∷ []); asserted = asserted } in
         let d : declared text count w ≡ is_in names w = declared_is k w in
-        by_test (λ (v : State). Leads text a at v c) (eqb s.fault 0)
+        by_test (λ (v : State). Leads text a at v c) (eqb (fault_in s) 0)
         (λ f. by_test (λ (v : State). Leads text a at v c) (is_name t.word)
         (λ e. by_test (λ (v : State). Leads text a at v c) (declared text count w)
-        (λ g. stopped c 31 l (eqb-true _ _ f) (let h : is_in names w ≡ true = sym d ∙ g in rw (e, h)))
+        (λ g. stopped c fault_kind.Undeclared l (eqb-true _ _ f) (let h : is_in names w ≡ true = sym d ∙ g in rw (e, h)))
         (λ g. passed (moved_to s t.next) l (eqb-true _ _ f) (let h : is_in names w ≡ false = sym d ∙ g in rw (e, h)) (name-not_end t.word e)
         (eqb-true _ _ f) refl))
-        (λ e. stopped c 30 l (eqb-true _ _ f) (rw e)))
+        (λ e. stopped c fault_kind.Unexpected l (eqb-true _ _ f) (rw e)))
         (λ f. held l (eqb-false _ _ f))

@@ -1,5 +1,6 @@
 -- A text has a reading just where its words are a sentence.
 -- Assumes nothing.
+use Rattle.std.specs.Prelude.{Option, Some}
 use mathlib.Core.Path.{◌≡◌, refl, sym, ap, ◌∙◌, subst}
 use mathlib.Core.Bool.{Bool, false, cond}
 use mathlib.Core.List.{List, [], ◌∷◌}
@@ -9,6 +10,9 @@ use Rattle.smtlib.specs.Bytes.{part}
 use Rattle.table.specs.declared.words.Sort.{Sort}
 use Rattle.parser.specs.declared.words.Word.{Word}
 use Rattle.parser.specs.declared.words.Word.TheVariants.{Open, Close, Keyword, Operator, Literal, Width, Name, End}
+use Rattle.parser.specs.declared.words.Keyword.TheVariants.{DeclareConst, Assert, CheckSat, Underscore}
+use Rattle.parser.specs.declared.words.SortName.{SortName}
+use Rattle.parser.specs.declared.words.SortName.TheVariants as sort_name
 use Rattle.parser.specs.Words.{token_at}
 use Rattle.parser.specs.Grammar.{Tree, Trees, Declared, Rule, Stands, Named, Reads}
 use Rattle.parser.specs.Grammar.Tree.{literal, symbol, apply}
@@ -145,8 +149,8 @@ module _ (text : List ℕ) where
   vector-back : {ws us : List Word} → Vector ws us → (from : ℕ) → ws ≡ from_on from → Up (Wide from) us
   vector-back (vectored {n = n} {us = us}) from e =
       let o = stood Open _ from e refl in
-      let k = stood (Keyword 3) _ o.to o.on refl in
-      let v = stood (Name 2) _ k.to k.on refl in
+      let k = stood (Keyword Underscore) _ o.to o.on refl in
+      let v = stood (Name (Some sort_name.BitVec)) _ k.to k.on refl in
       let w = stood (Width (suc n)) _ v.to v.on refl in
       let c = stood Close us w.to w.on refl in
       record {
@@ -157,14 +161,14 @@ module _ (text : List ℕ) where
 
   sort_back : {ws us : List Word} → Sorting ws us → (from : ℕ) → ws ≡ from_on from → Up (Sorted from) us
   sort_back (bool {us = us}) from e =
-      let w = stood (Name 1) us from e refl in
+      let w = stood (Name (Some sort_name.Bool)) us from e refl in
       record { to = w.to; derived = record { sort = record { m = 0; n = 0 }; reads = text-bool w.derived }; on = w.on }
   sort_back (vector v) from e =
       let x = vector-back v from e in
       record { to = x.to; derived = record { sort = record { m = 0; n = x.derived.wide }; reads = text-vector x.derived.reads }; on = x.on }
   sort_back (array {us = us} v w) from e =
       let o = stood Open _ from e refl in
-      let k = stood (Name 3) _ o.to o.on refl in
+      let k = stood (Name (Some sort_name.Array)) _ o.to o.on refl in
       let m = vector-back v k.to k.on in
       let n = vector-back w m.to m.on in
       let c = stood Close us n.to n.on refl in
@@ -177,8 +181,8 @@ module _ (text : List ℕ) where
         on = c.on;
       }
 
-  named : {k from to : ℕ} → Stands text from (Name k) to → Named text from (part text (token_at text from).from (token_at text from).next) to
-  named {k} s = record { tag = k; stands = s; bytes_are = refl }
+  named : {from to : ℕ} {k : Option SortName} → Stands text from (Name k) to → Named text from (part text (token_at text from).from (token_at text from).next) to
+  named {k = k} s = record { sort = k; stands = s; bytes_are = refl }
 
   mutual
     expression_back : {ws us : List Word} → Expression ws us → (from : ℕ) → ws ≡ from_on from → Up (Spelled from) us
@@ -238,7 +242,7 @@ module _ (text : List ℕ) where
   declarations_back undeclared from e = record { to = from; derived = record { list = []; reads = text-undeclared }; on = e }
   declarations_back (declared {k = k} {vs = vs} q ds) from e =
       let o = stood Open _ from e refl in
-      let d = stood (Keyword 0) _ o.to o.on refl in
+      let d = stood (Keyword DeclareConst) _ o.to o.on refl in
       let n = stood (Name k) _ d.to d.on refl in
       let s = sort_back q n.to n.on in
       let c = stood Close vs s.to s.on refl in
@@ -256,7 +260,7 @@ module _ (text : List ℕ) where
   asserts_back unasserted from e = record { to = from; derived = record { list = []; reads = text-unasserted }; on = e }
   asserts_back (asserted {vs = vs} t ts) from e =
       let o = stood Open _ from e refl in
-      let k = stood (Keyword 1) _ o.to o.on refl in
+      let k = stood (Keyword Assert) _ o.to o.on refl in
       let x = expression_back t k.to k.on in
       let c = stood Close vs x.to x.on refl in
       let r = asserts_back ts c.to c.on in
@@ -274,8 +278,8 @@ module _ (text : List ℕ) where
   reading s =
       let ds = declarations_back s.declarations 0 refl in
       let ts = asserts_back s.asserts ds.to ds.on in
-      let o = stood Open (Keyword 2 ∷ Close ∷ End ∷ []) ts.to ts.on refl in
-      let k = stood (Keyword 2) (Close ∷ End ∷ []) o.to o.on refl in
+      let o = stood Open (Keyword CheckSat ∷ Close ∷ End ∷ []) ts.to ts.on refl in
+      let k = stood (Keyword CheckSat) (Close ∷ End ∷ []) o.to o.on refl in
       let c = stood Close (End ∷ []) k.to k.on refl in
       record {
         rule = record { declarations = ds.derived.list; asserts = ts.derived.list };

@@ -1,5 +1,6 @@
 -- A text of given words: their bytes, each followed by a space.
 -- Assumes nothing.
+use Rattle.std.specs.Prelude.{None}
 use mathlib.Core.Path.{◌≡◌, refl, ap, ◌∙◌}
 use mathlib.Core.List.{List, [], ◌∷◌, ◌++◌}
 use Prim.Native.Nat.{ℕ, zero, suc, ◌<◌}
@@ -43,7 +44,7 @@ pub a_constant : Written (Literal 0 1)
 unfolding chunks joined chunk_word same_bytes place_in value_of every among symbol private plain_of word_of
 a_constant = record { text = bytes "true"; piece = record { spaced = λ l. refl }; is = refl }
 
-pub a_name : Written (Name 0)
+pub a_name : Written (Name None)
 unfolding chunks joined chunk_word same_bytes place_in value_of every among symbol private plain_of word_of
 a_name = record { text = bytes "a"; piece = record { spaced = λ l. refl }; is = refl }
 

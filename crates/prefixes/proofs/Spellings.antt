@@ -1,5 +1,8 @@
 -- The words of a text one after the other, and the first that is refused.
 -- Assumes nothing.
+use Rattle.parser.specs.declared.states.Fault.{Fault}
+use Rattle.parser.specs.Expressions.{fault_number}
+use Rattle.parser.proofs.Faults.{some_number}
 use mathlib.Core.Path.{◌≡◌, refl, sym, ap, ◌∙◌}
 use mathlib.Core.Bool.{Bool, true, false, cond}
 use mathlib.Core.List.{List, [], ◌∷◌}
@@ -98,8 +101,8 @@ module _ (text : List ℕ) (at : ℕ) where
       go true = refl
       go false = refl
 
-  pub first-refused : (s : Spot) (n : ℕ) → refusal s word-here ≡ suc n → first text s at ≡ record { number = suc n; place = word-here.from }
-  first-refused s n e = first_is s ∙ rw (e, ne_eqb (suc n) 0 (λ z. omega arith))
+  pub first-refused : (s : Spot) (f : Fault) → refusal s word-here ≡ fault_number f → first text s at ≡ record { number = fault_number f; place = word-here.from }
+  first-refused s f e = first_is s ∙ rw (e, ne_eqb (fault_number f) 0 (some_number f))
 
   pub first-passed : (s : Spot) → refusal s word-here ≡ 0 → is_end word-here.word ≡ false
       → first text s at ≡ first text (after s word-here) (token_at text at).next

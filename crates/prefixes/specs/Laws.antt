@@ -4,7 +4,7 @@ use Rattle.std.specs.Prelude.{◌≡◌, Bool, true, false, not, ◌&&◌, List,
 use Rattle.parser.specs.declared.words.Word.{Word}
 use Rattle.parser.specs.declared.states.State.{State}
 use Rattle.parser.specs.Words.{white, inside}
-use Rattle.parser.specs.Expressions.{number}
+use Rattle.parser.specs.Expressions.{fault_in, number}
 use Rattle.parser.specs.Rules.{rule_of}
 use Rattle.parser.specs.Parsing.{not_parsed, parsing, room_after}
 use Rattle.parser.specs.Grammar.{Rule, Reads}
@@ -17,8 +17,8 @@ use Rattle.prefixes.specs.Sentences.{Sentence}
 -- The parser stops at the first word that is refused
 
 pub record Tells (s : State) (f : Refused) : Type 0 where
-  pub number : f.number ≡ s.fault
-  pub place : (s.fault ≡ 0 → ⊥) → f.place ≡ s.at
+  pub number : f.number ≡ (fault_in s)
+  pub place : (fault_in s ≡ 0 → ⊥) → f.place ≡ s.at
 
 abbrev pub FirstRefusal : Type 0
 FirstRefusal = (text : List ℕ) → Storable text → Tells (rule_of text).progress.state (first_refusal (spelling text))
@@ -52,10 +52,10 @@ place_of (w ∷ ws) (suc i) = place_of ws i
 
 -- two texts are refused by the same number at the same word, or neither is by 31 to 35
 pub record SameRefusal (a b : List ℕ) : Type 0 where
-  pub number : (rule_of a).progress.state.fault ≡ (rule_of b).progress.state.fault
+  pub number : (fault_in (rule_of a).progress.state) ≡ (fault_in (rule_of b).progress.state)
   pub word : ℕ
-  pub place : ((rule_of a).progress.state.fault ≡ 0 → ⊥) → (rule_of a).progress.state.at ≡ place_of (spelling a) word
-  pub other_place : ((rule_of a).progress.state.fault ≡ 0 → ⊥) → (rule_of b).progress.state.at ≡ place_of (spelling b) word
+  pub place : ((fault_in (rule_of a).progress.state) ≡ 0 → ⊥) → (rule_of a).progress.state.at ≡ place_of (spelling a) word
+  pub other_place : ((fault_in (rule_of a).progress.state) ≡ 0 → ⊥) → (rule_of b).progress.state.at ≡ place_of (spelling b) word
 
 abbrev pub SameWordsRefused : Type 0
 SameWordsRefused = (a b : List ℕ) → Storable a → Storable b → SameWords a b → SameRefusal a b
@@ -73,7 +73,7 @@ TermsCounted =
 -- what parse answers two texts: the same table, the same refusal of the table, or the same of 31 to 35 at the same word; and the room that it leaves
 pub record SameAnswer (a b : List ℕ) : Type 0 where
   pub refusal : SameRefusal a b
-  pub answer : (rule_of a).progress.state.fault ≡ 0 → (room : ℕ) → parsing a room ≡ parsing b room
+  pub answer : (fault_in (rule_of a).progress.state) ≡ 0 → (room : ℕ) → parsing a room ≡ parsing b room
   pub room : (l : List ℕ) → room_after (parsing a (length l)) a l ≡ room_after (parsing b (length l)) b l
 
 abbrev pub SameWordsAnswered : Type 0

@@ -1,32 +1,25 @@
-use mathlib.Core.Path.{sym}
-use native.Mathlib.Omega.{arith}
+use Rattle.std.proofs.Common.{◌≡◌, ◌∙◌, Err, sym, arith, rules}
 use lib.Seq.{length-take-le}
-use borrow.Author.Tests.{eq-eqb, ne_eqb, lt-ltb, le-ltb}
+use borrow.Author.Tests.{ne_eqb, lt-ltb, le-ltb}
+use Rattle.parser.proofs.Faults.{some_number}
 use Rattle.parser.proofs.answer.Goals as goal
 
-pub returns-then-s-ne0 : goal.returns-then-s-ne0
-returns-then-s-ne0 c = rw (c.not_parsed.ensures, ne_eqb _ _ c.if-s-ne0.true)
+pub returns-in-Some : goal.returns-in-Some
+returns-in-Some c = rw (c.not_parsed.ensures, c.number.ensures, c.in-Some.is, ne_eqb _ _ (some_number c.in-Some.fault))
 
 pub returns-then-s-gt512 : goal.returns-then-s-gt512
-returns-then-s-gt512 c = rw (c.not_parsed-then-s-gt512.ensures, eq-eqb _ _ c.if-s-ne0.false, lt-ltb _ _ c.if-s-gt512.true)
+returns-then-s-gt512 c = rw (c.not_parsed-then-s-gt512.ensures, c.in_default.is, lt-ltb _ _ c.if-s-gt512.true)
 
 pub slice_bounds-admit-end : goal.slice_bounds-admit-end
 slice_bounds-admit-end c = sym (length-take-le _ _ (omega (arith, c.requires, c.if-s-gt512.false)))
 
+pub returns-in_err-admit : goal.returns-in_err-admit
+returns-in_err-admit c =
+    let e : c.from_residual.result ≡ Err c.in_err-admit.field-0.0 = search rules in
+    let admitted = sym c.in_err-admit.was ∙ c.admit.ensures in
+    rw (e, c.in_default.is, le-ltb _ _ c.if-s-gt512.false, sym admitted)
+
 pub returns : goal.returns
-returns c = rw (c.and_then.ensures, c.sized.ensures, c.admit.ensures, eq-eqb _ _ c.if-s-ne0.false, le-ltb _ _ c.if-s-gt512.false)
-
-pub not_parsed-requires : goal.not_parsed-requires
-not_parsed-requires c = tt
-
-pub not_parsed-requires-then-s-gt512 : goal.not_parsed-requires-then-s-gt512
-not_parsed-requires-then-s-gt512 c = tt
-
-pub admit-requires : goal.admit-requires
-admit-requires c = tt
-
-pub sized-requires : goal.sized-requires
-sized-requires c = tt
-
-pub and_then-requires : goal.and_then-requires
-and_then-requires c = tt
+returns c =
+    let admitted = sym c.in_ok-admit.was ∙ c.admit.ensures in
+    rw (c.sized.ensures, c.in_default.is, le-ltb _ _ c.if-s-gt512.false, sym admitted)

@@ -1,4 +1,4 @@
 use Rattle.parser.proofs.given.Goals as goal
 
-pub returns-in-NotParsed : goal.returns-in-NotParsed
-returns-in-NotParsed c = rw c.in-NotParsed.is
+pub returns-in-Err : goal.returns-in-Err
+returns-in-Err c = rw c.in-Err.is

@@ -20,9 +20,3 @@ returns c = record {
   value = parse_is c.args.text.now c.args.room.now c.rule.result c.rule.new.room c.rule.ensures c.answer-r.result c.answer-r.ensures;
   room_after = filled c.args.text.now c.args.room.now c.rule.result c.rule.new.room c.rule.ensures c.answer-r.result c.answer-r.ensures c.rule.auto.room c.given-end.result c.given-end.ensures c.copy.new.room c.copy.ensures;
 }
-
-pub rule-requires : goal.rule-requires
-rule-requires c = tt
-
-pub given-end-requires : goal.given-end-requires
-given-end-requires c = tt

@@ -6,6 +6,3 @@ returns-then-room-end c = rw (c.not_parsed.ensures, lt-ltb _ _ c.if-room-end.tru
 
 pub returns : goal.returns
 returns c = rw (le-ltb _ _ c.if-room-end.false)
-
-pub not_parsed-requires : goal.not_parsed-requires
-not_parsed-requires c = tt

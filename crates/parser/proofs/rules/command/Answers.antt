@@ -1,27 +1,12 @@
-use mathlib.Core.Path.{refl}
-use borrow.Author.Tests.{eq-eqb, ne_eqb}
+use Rattle.std.proofs.Common.{refl}
 use Rattle.parser.specs.Rules.{command_of}
+use Rattle.parser.proofs.Codes.{not_open}
 use Rattle.parser.proofs.rules.command.Goals as goal
 
-pub returns-then-code_of-eq1 : goal.returns-then-code_of-eq1
+pub returns-in-Open : goal.returns-in-Open
 unfolding command_of
-returns-then-code_of-eq1 c = rw (c.command_by.ensures.0, c.command_by.ensures.1, eq-eqb _ _ (rw (c.code_of.ensures, c.words_at-w.ensures) at c.if-code_of-eq1.true), c.words_at-w.ensures) (refl, refl)
+returns-in-Open c = rw (c.command_by.ensures.0, c.command_by.ensures.1, c.words_at-w.ensures, rw c.words_at-w.ensures at c.in-Open.is) (refl, refl)
 
-pub returns : goal.returns
+pub returns-in_default : goal.returns-in_default
 unfolding command_of
-returns c = rw (c.with_state.ensures, c.faulty.ensures, ne_eqb _ _ (rw (c.code_of.ensures, c.words_at-w.ensures) at c.if-code_of-eq1.false), c.words_at-w.ensures) (refl, refl)
-
-pub words_at-w-requires : goal.words_at-w-requires
-words_at-w-requires c = tt
-
-pub code_of-requires : goal.code_of-requires
-code_of-requires c = tt
-
-pub command_by-requires : goal.command_by-requires
-command_by-requires c = tt
-
-pub faulty-requires : goal.faulty-requires
-faulty-requires c = tt
-
-pub with_state-requires : goal.with_state-requires
-with_state-requires c = tt
+returns-in_default c = rw (c.unexpected.ensures, c.words_at-w.ensures, not_open _ (rw c.words_at-w.ensures at c.in_default.not-Open)) (refl, refl)

@@ -1,44 +1,31 @@
-use mathlib.Core.Path.{refl}
+use Rattle.std.proofs.Common.{refl}
 use borrow.Author.Tests.{eq-eqb, ne_eqb}
 use Rattle.parser.specs.Rules.{command_by}
+use Rattle.parser.proofs.Codes.{no_keyword}
 use Rattle.parser.proofs.rules.command_by.Goals as goal
 
-pub returns-then-code-p : goal.returns-then-code-p
+pub returns-then-p-eq0 : goal.returns-then-p-eq0
 unfolding command_by
-returns-then-code-p c = rw (c.declaration.ensures.0, c.declaration.ensures.1, c.moved.ensures, (rw c.code_of-code.ensures at c.if-code-p.true)) (refl, refl)
+returns-then-p-eq0 c = rw (c.declaration.ensures.0, c.declaration.ensures.1, c.moved.ensures, c.in-Keyword.is, c.in-DeclareConst.is, eq-eqb _ _ c.if-p-eq0.true) (refl, refl)
 
-pub returns-then-code-eq4 : goal.returns-then-code-eq4
+pub returns-else-p-eq0 : goal.returns-else-p-eq0
 unfolding command_by
-returns-then-code-eq4 c = rw (c.assertion.ensures.0, c.assertion.ensures.1, c.moved-then-code-eq4.ensures, (rw c.code_of-code.ensures at c.if-code-p.false), eq-eqb _ _ (rw c.code_of-code.ensures at c.if-code-eq4.true)) (refl, refl)
+returns-else-p-eq0 c = rw (c.unexpected-else-p-eq0.ensures, c.in-Keyword.is, c.in-DeclareConst.is, ne_eqb _ _ c.if-p-eq0.false) (refl, refl)
 
-pub returns-then-code-eq5 : goal.returns-then-code-eq5
+pub returns-in-Assert : goal.returns-in-Assert
 unfolding command_by
-returns-then-code-eq5 c = rw (c.check.ensures.0, c.check.ensures.1, (rw c.code_of-code.ensures at c.if-code-p.false), ne_eqb _ _ (rw c.code_of-code.ensures at c.if-code-eq4.false), eq-eqb _ _ (rw c.code_of-code.ensures at c.if-code-eq5.true)) (refl, refl)
+returns-in-Assert c = rw (c.assertion.ensures.0, c.assertion.ensures.1, c.moved-in-Assert.ensures, c.in-Keyword.is, c.in-Assert.is) (refl, refl)
 
-pub returns : goal.returns
+pub returns-in-CheckSat : goal.returns-in-CheckSat
 unfolding command_by
-returns c = rw (c.with_state.ensures, c.faulty.ensures, (rw c.code_of-code.ensures at c.if-code-p.false), ne_eqb _ _ (rw c.code_of-code.ensures at c.if-code-eq4.false), ne_eqb _ _ (rw c.code_of-code.ensures at c.if-code-eq5.false)) (refl, refl)
+returns-in-CheckSat c = rw (c.check.ensures.0, c.check.ensures.1, c.in-Keyword.is, c.in-CheckSat.is) (refl, refl)
 
-pub code_of-code-requires : goal.code_of-code-requires
-code_of-code-requires c = tt
+pub returns-in-Underscore : goal.returns-in-Underscore
+unfolding command_by
+returns-in-Underscore c = rw (c.unexpected-in-Underscore.ensures, c.in-Keyword.is, c.in-Underscore.is) (refl, refl)
 
-pub moved-requires : goal.moved-requires
-moved-requires c = tt
-
-pub declaration-requires : goal.declaration-requires
-declaration-requires c = tt
-
-pub moved-requires-then-code-eq4 : goal.moved-requires-then-code-eq4
-moved-requires-then-code-eq4 c = tt
-
-pub assertion-requires : goal.assertion-requires
-assertion-requires c = tt
-
-pub check-requires : goal.check-requires
-check-requires c = tt
-
-pub faulty-requires : goal.faulty-requires
-faulty-requires c = tt
-
-pub with_state-requires : goal.with_state-requires
-with_state-requires c = tt
+pub returns-in_default : goal.returns-in_default
+unfolding command_by
+returns-in_default c =
+    let none = no_keyword c.args.t.word c.in_default.not-Keyword in
+    rw (c.unexpected.ensures, none.declare_const, none.assert, none.check_sat) (refl, refl)

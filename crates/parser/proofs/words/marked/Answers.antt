@@ -1,11 +1,8 @@
 use Rattle.parser.proofs.WordKinds.{not-marked, marked_is}
 use Rattle.parser.proofs.words.marked.Goals as goal
 
-pub returns-then-word-lt2 : goal.returns-then-word-lt2
-returns-then-word-lt2 c = not-marked c.args.word.now c.if-word-lt2.true
+pub returns-in-Some : goal.returns-in-Some
+returns-in-Some c = let e = c.in-Some.ensures.cases in marked_is c.args.word.now c.in-Some.digits.now e.0 e.1 c.is_empty.ensures c.all_digits.ensures
 
-pub returns : goal.returns
-returns c = marked_is c.args.word.now c.all_between.result c.if-word-lt2.false c.all_between.ensures
-
-pub all_between-requires : goal.all_between-requires
-all_between-requires c = tt
+pub returns-in-None : goal.returns-in-None
+returns-in-None c = not-marked c.args.word.now c.in-None.ensures.cases

@@ -1,16 +1,8 @@
+use Rattle.std.proofs.Common.{◌∙◌}
+use Rattle.smtlib.specs.Bytes.{bytes}
+use Rattle.parser.proofs.Lists.{among_is}
+use Rattle.parser.proofs.WordKinds.{symbolic_is}
 use Rattle.parser.proofs.words.symbolic.Goals as goal
 
 pub returns : goal.returns
-returns c = rw (c.mark.ensures, c.between-3.ensures, c.between-2.ensures, c.between.ensures)
-
-pub between-requires : goal.between-requires
-between-requires c = tt
-
-pub between-requires-2 : goal.between-requires-2
-between-requires-2 c = tt
-
-pub between-requires-3 : goal.between-requires-3
-between-requires-3 c = tt
-
-pub mark-requires : goal.mark-requires
-mark-requires c = tt
+returns c = symbolic_is c.args.b c.is_ascii_alphanumeric.ensures.value (c.contains.ensures.value ∙ among_is c.args.b (bytes "~!@$%^&*_-+=<>.?/"))

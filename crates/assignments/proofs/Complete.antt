@@ -1,4 +1,4 @@
--- No token of a text is left out.
+-- No token of a text is left out, and what is left after a token.
 -- Assumes nothing.
 use mathlib.Core.Path.{◌≡◌, refl, sym, ap, ◌∙◌}
 use mathlib.Core.Bool.{Bool, true, false, cond, not, ◌||◌}
@@ -8,13 +8,13 @@ use native.Mathlib.Omega.{arith}
 use lib.Dec.{eqb, ltb}
 use lib.ListN.{length, drop, get_or, length-drop}
 use lib.Seq.{get_or-drop}
-use borrow.Author.Tests.{ltb-true, le-ltb}
+use borrow.Author.Tests.{ltb-true, le-ltb, lt-ltb}
 use Rattle.cases.specs.Bytes.{white}
 use Rattle.cases.proofs.Booleans.{never}
 use Rattle.parser.specs.Words.{past}
 use Rattle.parser.proofs.Forward.{one_ahead}
-use Rattle.assignments.specs.declared.tokens.Token.{Token}
-use Rattle.assignments.specs.Tokens.{skipped, comment_after, skipped_from, past_skipped, bracket, inside, token_at, tokens_from}
+use Rattle.outline.specs.declared.scan.Span.{Span}
+use Rattle.assignments.specs.Tokens.{skipped, comment_after, skipped_from, past_skipped, bracket, inside, token_at, tokens_from, tokens_left}
 use Rattle.assignments.specs.Laws.{NoTokenLeft}
 
 -- what stops the way past white space and comments
@@ -69,7 +69,7 @@ step-more n text at = go (ltb (token_at text at).from (length text)) refl
     go : (b : Bool) → ltb (token_at text at).from (length text) ≡ b
         → ((token_at text at).from < length text → tokens_from (suc n) text (token_at text at).to ≡ tokens_from n text (token_at text at).to)
         → cond b (token_at text at ∷ tokens_from (suc n) text (token_at text at).to) [] ≡ cond b (token_at text at ∷ tokens_from n text (token_at text at).to) []
-    go true e f = ap (λ (l : List Token). token_at text at ∷ l) (f (ltb-true (token_at text at).from (length text) e))
+    go true e f = ap (λ (l : List Span). token_at text at ∷ l) (f (ltb-true (token_at text at).from (length text) e))
     go false e f = refl
 
 one_more_lem : (n : ℕ) (text : List ℕ) (at : ℕ) → length text ≤ at + n → tokens_from (suc n) text at ≡ tokens_from n text at
@@ -83,3 +83,27 @@ no_token_left text zero = let z : 0 + length text ≡ length text = omega arith 
 no_token_left text (suc more) =
     let z : suc more + length text ≡ suc (more + length text) = omega arith in
     ap (λ (n : ℕ). tokens_from n text 0) z ∙ one_more_lem (more + length text) text 0 (omega arith) ∙ no_token_left text more
+
+-- what is left at a place begins with the token there, unless that is at the text's end
+module _ (text : List ℕ) (at : ℕ) (t : Span) (is : t ≡ token_at text at) where
+  advances : t.from < length text → at < t.to
+  advances = rw is (moves text at)
+
+  none_from : (n : ℕ) → length text ≤ t.from → tokens_from n text at ≡ []
+  unfolding tokens_from
+  none_from zero b = refl
+  none_from (suc n) b = rw (sym is, le-ltb t.from (length text) b)
+
+  one_from : (n : ℕ) → n ≡ length text → t.from < length text → tokens_from n text at ≡ t ∷ tokens_from n text t.to
+  unfolding tokens_from
+  one_from zero e b = absurd (omega arith)
+  one_from (suc n) e b =
+      let m : at < t.to = advances b in
+      let more : length text ≤ t.to + n = omega arith in
+      rw (sym is, lt-ltb t.from (length text) b) (ap (λ (l : List Span). t ∷ l) (sym (one_more_lem n text t.to more)))
+
+  pub none_left : length text ≤ t.from → tokens_left text at ≡ []
+  none_left b = none_from (length text) b
+
+  pub one_left : t.from < length text → tokens_left text at ≡ t ∷ tokens_left text t.to
+  one_left b = one_from (length text) refl b

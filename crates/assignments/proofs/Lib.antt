@@ -1,6 +1,5 @@
-pub mod TokenLists
-pub mod LineLists
+pub mod Complete
+pub mod Lines
 pub mod Ways
 pub mod Running
-pub mod Complete
 pub mod Samples

@@ -1,51 +1,49 @@
 -- The statements of a setting, token by token, and the rooms of the cells and of the sheet.
 -- Assumes nothing.
-use mathlib.Core.Path.{◌≡◌, refl, sym, ap, ◌∙◌}
-use mathlib.Core.Bool.{Bool, true, false, cond}
-use mathlib.Core.List.{List, ◌∷◌}
-use Prim.Native.Nat.{ℕ, ◌+◌, ◌<◌}
-use lib.Dec.{eqb}
+use mathlib.Core.Path.{◌≡◌, refl}
+use mathlib.Core.List.{List, [], ◌∷◌}
+use Prim.Native.Nat.{ℕ}
 use lib.ListN.{length, length-set}
-use Rattle.assignments.specs.declared.tokens.Token.{Token}
-use Rattle.assignments.specs.declared.statements.State.{State}
-use Rattle.assignments.specs.Tokens.{token_at}
-use Rattle.assignments.specs.Statements.{step, put_three, put_cell, put_line, counted, no_line, work_of, run}
-use Rattle.assignments.specs.Reading.{worked}
-use Rattle.assignments.proofs.TokenLists.{Reached, onward}
+use Rattle.std.specs.Prelude.{Option, Some, None, Ok, Err}
+use Rattle.outline.specs.declared.scan.Span.{Span}
+use Rattle.assignments.specs.declared.state.Entry.{Entry}
+use Rattle.assignments.specs.declared.state.Entry.TheVariants.{Cell, Line}
+use Rattle.assignments.specs.declared.state.State.{State}
+use Rattle.assignments.specs.declared.state.Failure.{Failure}
+use Rattle.assignments.specs.Statements.{step, put_three, with_cell, with_line, put_cell, put_line, counted, no_line, work_of, run}
 
 -- what is written leaves the room as long as it was
-pub put-length : (ready : Bool) (room : List ℕ) (n a b c : ℕ) → length (put_three ready room n a b c) ≡ length room
-put-length true room n a b c = rw (length-set, length-set, length-set)
-put-length false room n a b c = refl
+three-length : (room : List ℕ) (n a b c : ℕ) → length (put_three room n a b c) ≡ length room
+three-length room n a b c = rw (length-set, length-set, length-set)
 
-pub record Ran (names table text cells₀ sheet₀ cells sheet : List ℕ) (s : State) (at i : ℕ) : Type 0 where
-  pub celled : length cells ≡ length cells₀
-  pub lined : length sheet ≡ length sheet₀
-  pub is : Reached (run names table text s cells sheet) (worked names table text cells₀ sheet₀) text at i
+cell-length : (room : List ℕ) (n : ℕ) (e : Option Entry) → length (with_cell room n e) ≡ length room
+cell-length room n (Some (Cell cell value)) = three-length room n cell.slot cell.index value
+cell-length room n (Some (Line mark slot)) = refl
+cell-length room n None = refl
 
-module _ (names table text : List ℕ) (s : State) (cells sheet : List ℕ) (t : Token) (ts : List Token) (q : State) (e : q ≡ step names table text cells (no_line sheet s) s t) where
-  turn : run names table text s cells sheet (t ∷ ts) ≡ cond (eqb q.fault 0) (run names table text (counted q) (put_cell cells q) (put_line sheet q) ts) (work_of q cells sheet)
+line-length : (room : List ℕ) (n : ℕ) (e : Option Entry) → length (with_line room n e) ≡ length room
+line-length room n (Some (Cell cell value)) = refl
+line-length room n (Some (Line mark slot)) = three-length room n _ slot slot
+line-length room n None = refl
+
+pub put_cell-length : (room : List ℕ) (s : State) → length (put_cell room s) ≡ length room
+put_cell-length room s = cell-length room s.cells s.entry
+
+pub put_line-length : (room : List ℕ) (s : State) → length (put_line room s) ≡ length room
+put_line-length room s = line-length room s.lines s.entry
+
+-- the tokens that are left
+module _ (names table text : List ℕ) (s : State) (cells sheet : List ℕ) (left : List Span) where
+  pub run_none : left ≡ [] → work_of (Ok s) cells sheet ≡ run names table text s cells sheet left
   unfolding run
-  turn = ap (λ (x : State). cond (eqb x.fault 0) (run names table text (counted x) (put_cell cells x) (put_line sheet x) ts) (work_of x cells sheet)) (sym e)
+  run_none e = rw e
 
-  pub run-fault : eqb q.fault 0 ≡ false → run names table text s cells sheet (t ∷ ts) ≡ work_of q cells sheet
-  run-fault f = turn ∙ ap (λ (b : Bool). cond b (run names table text (counted q) (put_cell cells q) (put_line sheet q) ts) (work_of q cells sheet)) f
+  module _ (t : Span) (others : List Span) (is : left ≡ t ∷ others) where
+    pub run_failed : (f : Failure) → step names table text cells (no_line sheet s) s t ≡ Err f → work_of (Err f) cells sheet ≡ run names table text s cells sheet left
+    unfolding run
+    run_failed f e = rw (is, e)
 
-  goes_on : eqb q.fault 0 ≡ true → run names table text s cells sheet (t ∷ ts) ≡ run names table text (counted q) (put_cell cells q) (put_line sheet q) ts
-  goes_on f = turn ∙ ap (λ (b : Bool). cond b (run names table text (counted q) (put_cell cells q) (put_line sheet q) ts) (work_of q cells sheet)) f
-
-module _ (names table text cells₀ sheet₀ cells sheet : List ℕ) (s : State) (at i : ℕ) (h : Ran names table text cells₀ sheet₀ cells sheet s at i) (b : i < length text) (t : Token) (is : t ≡ token_at text at) (f : t.from < length text) where
-  pub run_on : (q : State) → q ≡ step names table text cells (no_line sheet s) s t → eqb q.fault 0 ≡ true → (cells₁ : List ℕ) → cells₁ ≡ put_cell cells q
-      → (sheet₁ : List ℕ) → sheet₁ ≡ put_line sheet q → (r : State) → r ≡ counted q → Ran names table text cells₀ sheet₀ cells₁ sheet₁ r t.to (i + 1)
-  run_on q e clear cells₁ p sheet₁ l r c =
-      record {
-        celled = ap length p ∙ put-length q.ready cells q.count q.slot q.index q.value ∙ h.celled;
-        lined = ap length l ∙ put-length q.line sheet q.marks q.value q.slot q.slot ∙ h.lined;
-        is =
-            onward (run names table text s cells sheet) (worked names table text cells₀ sheet₀) text at i h.is b t is f (run names table text r cells₁ sheet₁)
-            (λ ts.
-            goes_on names table text s cells sheet t ts q e clear
-            ∙ ap (λ (x : State). run names table text x (put_cell cells q) (put_line sheet q) ts) (sym c)
-            ∙ ap (λ (k : List ℕ). run names table text r k (put_line sheet q) ts) (sym p)
-            ∙ ap (λ (k : List ℕ). run names table text r cells₁ k ts) (sym l));
-      }
+    pub run_on : (q : State) → step names table text cells (no_line sheet s) s t ≡ Ok q
+        → run names table text (counted q) (put_cell cells q) (put_line sheet q) others ≡ run names table text s cells sheet left
+    unfolding run
+    run_on q e = rw (is, e)

@@ -9,12 +9,13 @@ use Rattle.smtlib.specs.Numerals.{value_of}
 use Rattle.table.specs.Folds.{every}
 use Rattle.cases.specs.Places.{feeds, back_to}
 use Rattle.parser.specs.Words.{among, symbol, private, plain_of, word_of, ahead}
-use Rattle.assignments.specs.declared.Reading.{Reading}
-use Rattle.assignments.specs.declared.Reading.TheVariants.{Read, NotRead}
+use Rattle.std.specs.Prelude.{Result, Ok, Err, unwrap_or}
+use Rattle.assignments.specs.declared.Setting.{Setting}
+use Rattle.assignments.specs.declared.Error.{Error}
 use Rattle.assignments.specs.Tokens.{skipped_from, token_at, tokens_from, decimal_from, number_of}
 use Rattle.assignments.specs.Seeking.{lines_from, slot_from, place_from, value_place, cell_place, allowance_place, by_parts_from, by_parts}
 use Rattle.assignments.specs.Statements.{listed_in, step, run}
-use Rattle.assignments.specs.Reading.{missing_from, values_in, worked, reading}
+use Rattle.assignments.specs.Reading.{fault_number, missing_from, values_in, worked, reading}
 
 names : List ℕ
 names = bytes "a\nt\n"
@@ -25,10 +26,11 @@ table = 1 ∷ 0 ∷ 8 ∷ 0 ∷ 0 ∷ 0 ∷ 1 ∷ 8 ∷ 8 ∷ 1 ∷ 0 ∷ 0 ∷ 
 room : List ℕ
 room = 0 ∷ 0 ∷ 0 ∷ []
 
--- what is read: 0, and the counts and the allowance; or the fault, its line and column, and the bytes of its token
-told : Reading → List ℕ
-told (Read s) = 0 ∷ s.values ∷ s.cells ∷ s.sheet ∷ s.allowance ∷ []
-told (NotRead e) = e.kind ∷ e.line ∷ e.column ∷ e.from ∷ e.to ∷ []
+-- what is read: 0, and the counts and the allowance; or the fault, its line and column, 0 where there is none, and the bytes of its
+-- token
+told : Result Setting Error → List ℕ
+told (Ok s) = 0 ∷ s.values ∷ s.cells ∷ s.sheet ∷ s.allowance ∷ []
+told (Err e) = fault_number e.kind ∷ e.line ∷ unwrap_or e.column 0 ∷ e.from ∷ e.to ∷ []
 
 reads : List ℕ → List ℕ
 reads text = told (reading names table text room (0 ∷ 0 ∷ 0 ∷ 0 ∷ 0 ∷ 0 ∷ []))

@@ -1,10 +1,14 @@
 -- Names by their lines, and where the values of names, of cells and of the allowance stand in a text.
 -- Assumes nothing.
-use Rattle.std.specs.Prelude.{Bool, true, false, cond, not, ◌&&◌, ◌||◌, List, [], ◌∷◌, ℕ, zero, suc, ◌+◌, ◌-◌, eqb, ltb, length, get_or}
+use Rattle.std.specs.Prelude.{Bool, true, false, cond, not, ◌&&◌, ◌||◌, List, [], ◌∷◌, ℕ, zero, suc, ◌+◌, ◌-◌, min, eqb, ltb, length, get_or, Option, Some, None, is_some}
 use Rattle.smtlib.specs.Bytes.{bytes, part, same_bytes}
 use Rattle.outline.specs.Lines.{line_end}
-use Rattle.assignments.specs.declared.tokens.Token.{Token}
-use Rattle.assignments.specs.Tokens.{tokens, word, code_of, decimal_from, no_decimal}
+use Rattle.outline.specs.declared.scan.Span.{Span}
+use Rattle.assignments.specs.declared.tokens.Kind.{Kind}
+use Rattle.assignments.specs.declared.tokens.Kind.TheVariants.{Mark, Keep}
+use Rattle.assignments.specs.declared.seek.Met.{Met}
+use Rattle.assignments.specs.declared.seek.Met.TheVariants.{Nothing, Word, Both, Marking}
+use Rattle.assignments.specs.Tokens.{tokens, word, kind_of, assigns, equals_kind, allowance_kind, decimal_from}
 
 -- at most n lines from a place on
 unfoldable pub lines_from : ℕ → List ℕ → ℕ → List (List ℕ)
@@ -14,53 +18,61 @@ lines_from (suc n) names at =
     let rest = lines_from n names (end + 1) in
     cond (ltb at (length names)) (part names at end ∷ rest) []
 
--- the names: name k is line k
+-- the names from a place on, and all: name k is line k
+abbrev pub names_left : List ℕ → ℕ → List (List ℕ)
+names_left names at = lines_from (length names) names at
+
 abbrev pub names_of : List ℕ → List (List ℕ)
-names_of names = lines_from (length names) names 0
+names_of names = names_left names 0
 
 -- one more; 2^32 - 1 is the most that is counted, and no slot
 abbrev pub more : ℕ → ℕ
-more n = cond (ltb n 4294967295) (n + 1) n
+more n = min (n + 1) 4294967295
 
-abbrev pub no_slot : ℕ
-no_slot = 4294967295
+abbrev pub slot_at : ℕ → Option ℕ
+slot_at k = cond (ltb k 4294967295) (Some k) None
 
 -- the number of the line that a name is, from k on
-unfoldable pub slot_from : List (List ℕ) → List ℕ → ℕ → ℕ
-slot_from [] w k = no_slot
+unfoldable pub slot_from : List (List ℕ) → List ℕ → ℕ → Option ℕ
+slot_from [] w k = None
 slot_from (x ∷ xs) w k =
     let rest = slot_from xs w (more k) in
-    cond (same_bytes x w) k rest
+    cond (same_bytes x w) (slot_at k) rest
 
--- the slot of a name; no_slot where it is not declared
-abbrev pub slot_of : List ℕ → List ℕ → ℕ
+-- the slot of a name; none where it is not declared
+abbrev pub slot_of : List ℕ → List ℕ → Option ℕ
 slot_of names w = slot_from (names_of names) w 0
 
--- what was met of a word and the equals sign after it: 0 nothing, 1 the word, 2 both; 3 mark or keep, after which it is the name that
--- is marked
-abbrev pub met_after : List ℕ → List ℕ → ℕ → Token → ℕ
-met_after text w met t =
-    cond (eqb met 1 && eqb (code_of (word text t)) 1) 2
-    (cond (eqb met 3) 0
-    (cond (same_bytes (word text t) w) 1
-    (cond (ltb 6 (code_of (word text t))) 3
-    0)))
+-- what was met of a word and the equals sign after it; after mark or keep a word is the name that is marked
+abbrev pub begins : Kind → Met
+begins Mark = Marking
+begins Keep = Marking
+begins k = Nothing
 
--- the token is a value: after both; or, where no equals sign is asked for, after the word, and neither = nor [
-abbrev pub valued : List ℕ → Bool → ℕ → Token → Bool
-valued text equals met t =
-    cond equals (eqb met 2) (eqb met 1 && not (eqb (code_of (word text t)) 1 || eqb (code_of (word text t)) 2))
+abbrev pub met_word : List ℕ → List ℕ → Met
+met_word sought w = cond (same_bytes w sought) Word (begins (kind_of w))
+
+abbrev pub met_after : List ℕ → Met → List ℕ → Met
+met_after sought Word w = cond (equals_kind (kind_of w)) Both (met_word sought w)
+met_after sought Marking w = Nothing
+met_after sought met w = met_word sought w
+
+-- the word is a value: after both; or, where no equals sign is asked for, after the word, and neither = nor [
+abbrev pub valued : Bool → Met → List ℕ → Bool
+valued true Both w = true
+valued false Word w = not (assigns (kind_of w))
+valued equals met w = false
 
 -- the place of value k after a word; the text's length where there is none
-unfoldable pub place_from : List ℕ → List ℕ → Bool → ℕ → ℕ → List Token → ℕ
-place_from text w equals k met [] = length text
-place_from text w equals k met (t ∷ ts) =
-    let v = valued text equals met t in
-    let rest = place_from text w equals (cond v (k - 1) k) (met_after text w met t) ts in
+unfoldable pub place_from : List ℕ → List ℕ → Bool → ℕ → Met → List Span → ℕ
+place_from text sought equals k met [] = length text
+place_from text sought equals k met (t ∷ ts) =
+    let v = valued equals met (word text t) in
+    let rest = place_from text sought equals (cond v (k - 1) k) (met_after sought met (word text t)) ts in
     cond (v && eqb k 0) t.from rest
 
 abbrev pub place_after : List ℕ → List ℕ → Bool → ℕ → ℕ
-place_after text w equals k = place_from text w equals k 0 (tokens text)
+place_after text sought equals k = place_from text sought equals k Nothing (tokens text)
 
 -- of name k, of cell k, of the allowance
 abbrev pub value_place : List ℕ → List ℕ → ℕ → ℕ
@@ -78,15 +90,15 @@ heading w = same_bytes w (bytes "table") || same_bytes w (bytes "sheet") || same
 
 -- allowance, or a decimal number
 abbrev pub neutral : List ℕ → Bool
-neutral w = eqb (code_of w) 6 || ltb (decimal_from 0 w) no_decimal
+neutral w = allowance_kind (kind_of w) || is_some (decimal_from 0 w)
 
 -- the first token that is not neutral is a heading, and neither = nor [ follows; found: it was the token before
-unfoldable pub by_parts_from : List ℕ → Bool → List Token → Bool
+unfoldable pub by_parts_from : List ℕ → Bool → List Span → Bool
 by_parts_from text found [] = found
 by_parts_from text found (t ∷ ts) =
     let w = word text t in
     let rest = by_parts_from text (not (neutral w)) ts in
-    cond found (not (eqb (code_of w) 1 || eqb (code_of w) 2)) (cond (neutral w || heading w) rest false)
+    cond found (not (assigns (kind_of w))) (cond (neutral w || heading w) rest false)
 
 abbrev pub by_parts : List ℕ → Bool
 by_parts text = by_parts_from text false (tokens text)

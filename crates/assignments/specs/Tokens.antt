@@ -1,15 +1,18 @@
 -- The tokens of a setting: `[` and `]`, and every other longest run of bytes that are no white space. A semicolon starts a comment
 -- up to the line feed.
 -- Assumes nothing.
-use Rattle.std.specs.Prelude.{Bool, false, cond, not, ◌&&◌, ◌||◌, List, [], ◌∷◌, ℕ, zero, suc, ◌+◌, eqb, ltb, length, drop, get_or}
+use Rattle.std.specs.Prelude.{Bool, true, false, cond, not, ◌&&◌, ◌||◌, List, [], ◌∷◌, ℕ, zero, suc, ◌+◌, eqb, ltb, length, drop, get_or, Option, Some, None}
 use Rattle.smtlib.specs.Bytes.{bytes, part, same_bytes}
 use Rattle.cases.specs.Bytes.{white, digit}
 use Rattle.cases.specs.Lexing.{next_value}
 use Rattle.parser.specs.declared.words.Word.{Word}
-use Rattle.parser.specs.declared.words.Word.TheVariants.{Open, Close, Keyword, Operator, Literal, Width, Name, Other, End}
+use Rattle.parser.specs.declared.words.Word.TheVariants.{Literal}
 use Rattle.parser.specs.Words.{word_of, past}
-use Rattle.assignments.specs.declared.tokens.Token.{Token}
+use Rattle.outline.specs.declared.scan.Span.{Span}
+use Rattle.assignments.specs.declared.tokens.Kind.{Kind}
+use Rattle.assignments.specs.declared.tokens.Kind.TheVariants.{Equals, Open, Close, Allowance, Mark, Keep, Other}
 use Rattle.assignments.specs.declared.tokens.Number.{Number}
+use Rattle.assignments.specs.declared.tokens.Number.TheVariants.{Decimal, Binary, Truth, TooLarge}
 
 -- in a comment or not: a byte that is skipped, and how it is after it
 abbrev pub skipped : Bool → ℕ → Bool
@@ -36,76 +39,79 @@ abbrev pub inside : ℕ → Bool
 inside b = not (white b || eqb b 59 || bracket b)
 
 -- the token at a place, after white space and comments; at the end both its places are the text's length, or further
-unfoldable pub token_at : List ℕ → ℕ → Token
+unfoldable pub token_at : List ℕ → ℕ → Span
 token_at text at =
     let from = past_skipped text at in
     record { from = from; to = cond (bracket (get_or text from 0)) (from + 1) (past inside text from) }
 
 -- at most n tokens from a place on
-unfoldable pub tokens_from : ℕ → List ℕ → ℕ → List Token
+unfoldable pub tokens_from : ℕ → List ℕ → ℕ → List Span
 tokens_from zero text at = []
 tokens_from (suc n) text at =
     let t = token_at text at in
     let rest = tokens_from n text t.to in
     cond (ltb t.from (length text)) (t ∷ rest) []
 
--- all: a token takes a byte at least
-abbrev pub tokens : List ℕ → List Token
-tokens text = tokens_from (length text) text 0
+-- all from a place on, and from the text's begin on: a token takes a byte at least
+abbrev pub tokens_left : List ℕ → ℕ → List Span
+tokens_left text at = tokens_from (length text) text at
 
-abbrev pub word : List ℕ → Token → List ℕ
+abbrev pub tokens : List ℕ → List Span
+tokens text = tokens_left text 0
+
+abbrev pub word : List ℕ → Span → List ℕ
 word text t = part text t.from t.to
 
--- = 1, [ 2, ] 3, any other 0; allowance 6, mark 7, keep 8, which is what is expected after each (Statements.antt)
-abbrev pub code_of : List ℕ → ℕ
-code_of w =
-    cond (same_bytes w (bytes "=")) 1
-    (cond (same_bytes w (bytes "[")) 2
-    (cond (same_bytes w (bytes "]")) 3
-    (cond (same_bytes w (bytes "allowance")) 6
-    (cond (same_bytes w (bytes "mark")) 7
-    (cond (same_bytes w (bytes "keep")) 8
-    0)))))
+-- what a token is to a setting
+abbrev pub kind_of : List ℕ → Kind
+kind_of w =
+    cond (same_bytes w (bytes "=")) Equals
+    (cond (same_bytes w (bytes "[")) Open
+    (cond (same_bytes w (bytes "]")) Close
+    (cond (same_bytes w (bytes "allowance")) Allowance
+    (cond (same_bytes w (bytes "mark")) Mark
+    (cond (same_bytes w (bytes "keep")) Keep
+    Other)))))
 
--- no decimal number
-abbrev pub no_decimal : ℕ
-no_decimal = 1152921504606846976
+-- = or [, which follow a name that is given a value; =; allowance
+abbrev pub assigns : Kind → Bool
+assigns Equals = true
+assigns Open = true
+assigns k = false
 
--- the number that digits say, after those that say v; from 2^32 on it stays as large
-unfoldable pub decimal_from : ℕ → List ℕ → ℕ
-decimal_from v [] = v
+abbrev pub equals_kind : Kind → Bool
+equals_kind Equals = true
+equals_kind k = false
+
+abbrev pub allowance_kind : Kind → Bool
+allowance_kind Allowance = true
+allowance_kind k = false
+
+-- the number that digits say, after those that say v; from 2^32 on it stays as large; none where another byte is among them
+unfoldable pub decimal_from : ℕ → List ℕ → Option ℕ
+decimal_from v [] = Some v
 decimal_from v (b ∷ bs) =
     let rest = decimal_from (next_value v b) bs in
-    cond (digit b) rest no_decimal
+    cond (digit b) rest None
 
--- Numbers, by kinds: 0 no number, 1 decimal, 2 #b and digits, 3 true or false, 4 a decimal number of 2^32 or more
-abbrev pub number : ℕ → ℕ → Number
-number kind value = record { kind = kind; value = value }
-
-abbrev pub literal_kind : Word → ℕ
-literal_kind Open = 0
-literal_kind Close = 0
-literal_kind (Keyword k) = 0
-literal_kind (Operator op) = 0
-literal_kind (Literal n v) = cond (eqb n 0) 3 2
-literal_kind (Width n) = 0
-literal_kind (Name k) = 0
-literal_kind Other = 0
-literal_kind End = 0
-
-abbrev pub literal_value : Word → ℕ
-literal_value Open = 0
-literal_value Close = 0
-literal_value (Keyword k) = 0
-literal_value (Operator op) = 0
-literal_value (Literal n v) = v
-literal_value (Width n) = 0
-literal_value (Name k) = 0
-literal_value Other = 0
-literal_value End = 0
+abbrev pub literal : Word → Option Number
+literal (Literal n v) = Some (cond (eqb n 0) (Truth v) (Binary v))
+literal w = None
 
 abbrev pub decimal_number : ℕ → Number
-decimal_number v = cond (ltb v 4294967296) (number 1 v) (number 4 0)
+decimal_number v = cond (ltb v 4294967296) (Decimal v) TooLarge
 
-unfoldable pub number_of : List ℕ → Number
-number_of w = cond (ltb (decimal_from 0 w) no_decimal) (decimal_number (decimal_from 0 w)) (number (literal_kind (word_of w)) (literal_value (word_of w)))
+-- a decimal number, or else a constant of the rules
+abbrev pub number_from : Option ℕ → List ℕ → Option Number
+number_from (Some v) w = Some (decimal_number v)
+number_from None w = literal (word_of w)
+
+unfoldable pub number_of : List ℕ → Option Number
+number_of w = number_from (decimal_from 0 w) w
+
+-- its value; 0 where it is too large
+abbrev pub value_of : Number → ℕ
+value_of (Decimal v) = v
+value_of (Binary v) = v
+value_of (Truth v) = v
+value_of TooLarge = 0

@@ -3,21 +3,24 @@
 
 mod names; // names by their lines
 mod seek; // where values stand
+mod state; // how far the statements are read
 mod statements; // the statements of a setting
 mod tokens; // the tokens of a text
 mod values; // the values of the names
 
-ghost use Rattle.std.specs.Prelude.{◌≡◌, ◌-◌};
-ghost use Rattle.assignments.specs.Reading.{capped, name_count, error_at, error_at_end, setting_of, answer};
-ghost use Rattle.assignments.specs.Reading.{reading, given_by, values_after, worked};
+ghost use Rattle.std.specs.Prelude.{◌≡◌};
+ghost use Rattle.assignments.specs.Reading.{fault_number, name_count, error_at, error_at_end, setting_of, answer};
+ghost use Rattle.assignments.specs.Reading.{reading, values_after, worked};
 
+use outline::Span;
 pub use seek::{allowance_place, by_parts, cell_place, value_place};
-use statements::State;
+use state::{Expects, Failure, State};
+use statements::Source;
 use values::{fill, missing};
 
-// How many numbers were written at the rooms' fronts, a value a name, three numbers a cell and a line of the sheet, and
-// the allowance.
-#[derive(Clone, Copy)]
+/// How many numbers were written at the rooms' fronts, a value a name, three numbers a cell and a line of the sheet, and
+/// the allowance.
+#[derive(Clone, Copy, Debug, PartialEq, Eq)]
 pub struct Setting {
     pub values: u32,
     pub cells: u32,
@@ -25,113 +28,134 @@ pub struct Setting {
     pub allowance: u32,
 }
 
-// What is wrong, by its number, and the token at fault: the line and column of its first byte, counted from 1, and its
-// bytes, which go from one up to another. At the end of the text the column is 0, and from is to: the slot of the name
-// that has no value (11), or the text's length (13).
-// 1 the name is not declared; 2 it was given before; 3 the cell was given before (at its index); 4 = is expected, or [ for
-// an array; 5 a value is expected; 6 a number of 2^32 or more; 7 the name is no array (at the bracket); 8 ] is expected;
-// 9 the allowance was given before; 10 an index is expected; 11 a name has no value; 12 the room has no cell more (at its
-// index); 13 the text ends in a statement; 14 the room has no line of the sheet more (at mark or keep).
-#[derive(Clone, Copy)]
+/// What is wrong with a setting.
+#[derive(Clone, Copy, Debug, PartialEq, Eq)]
+pub enum Fault {
+    NotDeclared,
+    GivenTwice,
+    // at its index
+    CellGivenTwice,
+    // =, or [ for an array
+    EqualsOrBracketExpected,
+    ValueExpected,
+    // 2^32 or more
+    NumberTooLarge,
+    // at the bracket
+    NoArray,
+    // ]
+    BracketExpected,
+    AllowanceGivenTwice,
+    IndexExpected,
+    // a name has no value
+    ValueMissing,
+    // at the index
+    CellsFull,
+    // the text ends in a statement
+    StatementUnfinished,
+    // at mark or keep
+    SheetFull,
+}
+
+impl Fault {
+    /// Its number, from 1 in the order above.
+    pub fn number(self) -> u32
+        ensures { result ≡ fault_number self }
+    {
+        match self {
+            Fault::NotDeclared => 1,
+            Fault::GivenTwice => 2,
+            Fault::CellGivenTwice => 3,
+            Fault::EqualsOrBracketExpected => 4,
+            Fault::ValueExpected => 5,
+            Fault::NumberTooLarge => 6,
+            Fault::NoArray => 7,
+            Fault::BracketExpected => 8,
+            Fault::AllowanceGivenTwice => 9,
+            Fault::IndexExpected => 10,
+            Fault::ValueMissing => 11,
+            Fault::CellsFull => 12,
+            Fault::StatementUnfinished => 13,
+            Fault::SheetFull => 14,
+        }
+    }
+}
+
+/// What is wrong, and the token at fault: the line and column of its first byte, counted from 1, and its bytes, which go
+/// from one up to another. At the end of the text there is no column, and from is to: the slot of the name that has no
+/// value, or the text's length.
+#[derive(Clone, Copy, Debug, PartialEq, Eq)]
 pub struct Error {
-    pub kind: u32,
+    pub kind: Fault,
     pub line: u64,
-    pub column: u64,
+    pub column: Option<u64>,
     pub from: usize,
     pub to: usize,
-}
-
-#[derive(Clone, Copy)]
-pub enum Reading {
-    Read(Setting),
-    NotRead(Error),
-}
-
-fn capped(n: u64) -> u32
-    ensures { result ≡ capped n }
-{
-    if n < 4294967295 { n as u32 } else { 4294967295 }
-}
-
-// One less; 0 stays.
-fn before(n: u64) -> u64
-    ensures { result ≡ n - 1 }
-{
-    if 0 < n { n - 1 } else { 0 }
 }
 
 // The count of names: their line feeds.
 fn name_count(names: &[u8]) -> u32
     ensures { result ≡ name_count names.now }
 {
-    capped(before(outline::line_of(names, names.len())))
+    let line = outline::line_of(names, names.len());
+    u32::try_from(line.saturating_sub(1)).unwrap_or(u32::MAX)
 }
 
-fn error_at(text: &[u8], kind: u32, from: usize, to: usize) -> Error
-    ensures { result ≡ error_at text.now kind from to }
+fn error_at(text: &[u8], failure: Failure) -> Error
+    ensures { result ≡ error_at text.now failure.fault failure.token }
 {
+    let Span { from, to } = failure.token;
     Error {
-        kind,
+        kind: failure.fault,
         line: outline::line_of(text, from),
-        column: outline::column_of(text, from),
+        column: Some(outline::column_of(text, from)),
         from,
         to,
     }
 }
 
-fn error_at_end(text: &[u8], kind: u32, place: usize) -> Error
+fn error_at_end(text: &[u8], kind: Fault, place: usize) -> Error
     ensures { result ≡ error_at_end text.now kind place }
 {
     Error {
         kind,
         line: outline::line_of(text, text.len()),
-        column: 0,
+        column: None,
         from: place,
         to: place,
     }
 }
 
-fn setting_of(count: u32, s: State) -> Setting
-    ensures { result ≡ setting_of count s }
+fn setting_of(count: u32, state: State) -> Setting
+    ensures { result ≡ setting_of count state }
 {
     Setting {
         values: count,
-        cells: capped(3 * (s.count as u64)),
-        sheet: capped(3 * (s.marks as u64)),
-        allowance: s.allowance,
+        cells: state.cells.saturating_mul(3),
+        sheet: state.lines.saturating_mul(3),
+        allowance: state.allowance.unwrap_or(8192),
     }
 }
 
 // What a setting answers that is read to a state.
-fn answer(names: &[u8], text: &[u8], s: State) -> Reading
-    ensures { result ≡ answer names.now text.now s }
+fn answer(names: &[u8], text: &[u8], read: Result<State, Failure>) -> Result<Setting, Error>
+    ensures { result ≡ answer names.now text.now read }
 {
-    if s.fault != 0 {
-        return Reading::NotRead(error_at(text, s.fault, s.from, s.to));
-    }
-    if s.expects != 0 {
-        return Reading::NotRead(error_at_end(text, 13, text.len()));
-    }
+    let state = match read {
+        Ok(state) => state,
+        Err(failure) => return Err(error_at(text, failure)),
+    };
+    let Expects::Statement = state.expects else {
+        return Err(error_at_end(text, Fault::StatementUnfinished, text.len()));
+    };
     let count = name_count(names);
-    let first = missing(names, text, count);
-    if first < count {
-        return Reading::NotRead(error_at_end(text, 11, first as usize));
-    }
-    Reading::Read(setting_of(count, s))
-}
-
-// How many values are written: none by a fault.
-fn given(r: Reading) -> u32
-    ensures { result ≡ given_by r }
-{
-    match r {
-        Reading::Read(s) => s.values,
-        Reading::NotRead(_) => 0,
+    match missing(names, text, count) {
+        Some(slot) => Err(error_at_end(text, Fault::ValueMissing, slot as usize)),
+        None => Ok(setting_of(count, state)),
     }
 }
 
-// Reads a setting. Names are lines, name k is the variable of slot k and term k of the table. The cells and the lines of
-// the sheet that are read stand at the front of their rooms, after a fault too; the values where there is no fault.
+/// Reads a setting. Names are lines, name k is the variable of slot k and term k of the table. The cells and the lines of
+/// the sheet that are read stand at the front of their rooms, after a fault too; the values where there is no fault.
 pub fn read(
     names: &[u8],
     table: &[u32],
@@ -139,7 +163,7 @@ pub fn read(
     values: &mut [u32],
     cells: &mut [u32],
     sheet: &mut [u32],
-) -> Reading
+) -> Result<Setting, Error>
     ensures value { result
         ≡ reading names.now table.now text.now cells.old
         sheet.old }
@@ -152,8 +176,8 @@ pub fn read(
         ≡ (worked names.now table.now text.now cells.old
         sheet.old).sheet }
 {
-    let s = statements::run(names, table, text, cells, sheet);
-    let r = answer(names, text, s);
-    fill(names, text, given(r), values);
-    r
+    let read = statements::run(Source { names, table, text }, cells, sheet);
+    let setting = answer(names, text, read)?;
+    fill(names, text, setting.values, values);
+    Ok(setting)
 }

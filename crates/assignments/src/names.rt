@@ -1,66 +1,80 @@
 // Names by their lines: name k is line k.
 ghost use Rattle.std.specs.Prelude.{◌≡◌, [], get_or};
-ghost use Rattle.smtlib.specs.Bytes.{part};
-ghost use Rattle.assignments.specs.Seeking.{more, slot_of, names_of};
+ghost use Rattle.std.specs.Iterator.{YieldsFirstRef, item_count};
+ghost use Rattle.assignments.specs.Seeking.{slot_at, slot_of, names_of, names_left};
 
-use crate::tokens::Token;
-use outline::line_end;
-use smtlib::{lower, same_part};
+use outline::{Span, line_end};
+use smtlib::same_bytes;
 
-// One more; 2^32 - 1 is the most that is counted.
-pub fn more(n: u32) -> u32
-    ensures { result ≡ more n }
-{
-    if n < 4294967295 { n + 1 } else { n }
+/// The names from a place on.
+#[derive(Clone, Copy)]
+pub struct Names<'a> {
+    text: &'a [u8],
+    at: usize,
 }
 
-// No slot.
-pub const NO_SLOT: u32 = 4294967295;
+impl<'a> Names<'a> {
+    /// All of them.
+    pub fn new(text: &'a [u8]) -> Self
+        ensures { names_left result.text.now result.at ≡ names_of text.now }
+    {
+        Names { text, at: 0 }
+    }
+}
 
-fn slot_in(names: &[u8], word: &[u8]) -> u32
+impl<'a> Iterator for Names<'a> {
+    type Item = &'a [u8];
+
+    ghost next_gives = { YieldsFirstRef (λ s. names_left s.text.now s.at) };
+
+    ghost remaining = { item_count (λ s. names_left s.text.now s.at) };
+
+    fn next(&mut self) -> Option<&'a [u8]> {
+        if self.at < self.text.len() {
+            let end = line_end(self.text, self.at);
+            let name = Span {
+                from: self.at,
+                to: end,
+            };
+            self.at = end + 1;
+            Some(name.of(self.text))
+        } else {
+            None
+        }
+    }
+}
+
+// The slot of name `k`: there are 2^32 - 1 slots.
+fn slot_at(k: u32) -> Option<u32>
+    ensures { result ≡ slot_at k }
+{
+    if k < u32::MAX { Some(k) } else { None }
+}
+
+/// The slot of a name; none where it is not declared.
+pub fn slot_of(names: &[u8], word: &[u8]) -> Option<u32>
     ensures { result ≡ slot_of names.now word.now }
 {
     let mut k = 0u32;
-    let mut at = 0usize;
-    for _ in 0..names.len() {
-        if names.len() <= at {
-            return NO_SLOT;
+    for name in Names::new(names) {
+        if same_bytes(name, word) {
+            return slot_at(k);
         }
-        let end = line_end(names, at);
-        if same_part(names, at, end, word) {
-            return k;
-        }
-        k = more(k);
-        at = end + 1;
+        k = k.saturating_add(1);
     }
-    NO_SLOT
+    None
 }
 
-// The slot of the name that a token is; NO_SLOT where it is not declared.
-pub fn slot_of(names: &[u8], text: &[u8], t: Token) -> u32
-    ensures { result ≡ slot_of names.now (part text.now t.from t.to) }
-{
-    let to = lower(t.to, text.len());
-    let from = lower(t.from, to);
-    slot_in(names, &text[from..to])
-}
-
-// The bytes of name `k`; none where there is no such name.
-pub fn name_at(names: &[u8], k: u32) -> Token
-    ensures { part names.now result.from result.to ≡ get_or (names_of names.now) k [] }
+/// The bytes of name `k`; none where there is no such name.
+pub fn name_at(names: &[u8], k: u32) -> &[u8]
+    ensures { result.now ≡ get_or (names_of names.now) k [] }
 {
     let mut left = k;
-    let mut at = 0usize;
-    for _ in 0..names.len() {
-        if names.len() <= at {
-            return Token { from: 0, to: 0 };
-        }
-        let end = line_end(names, at);
+    for name in Names::new(names) {
         if left == 0 {
-            return Token { from: at, to: end };
+            return name;
         }
         left -= 1;
-        at = end + 1;
     }
-    Token { from: 0, to: 0 }
+    &[]
 }

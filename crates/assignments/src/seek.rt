@@ -1,84 +1,83 @@
 // Where the values of names, of cells and of the allowance stand in a text.
-ghost use Rattle.std.specs.Prelude.{◌≡◌, cond, ◌-◌};
-ghost use Rattle.assignments.specs.Tokens.{word};
+ghost use Rattle.std.specs.Prelude.{◌≡◌};
 ghost use Rattle.assignments.specs.Seeking.{met_after, valued, place_after, value_place, cell_place};
 ghost use Rattle.assignments.specs.Seeking.{allowance_place, heading, neutral, by_parts};
 
 use crate::names::name_at;
-use crate::tokens::{NO_DECIMAL, Token, code_of, decimal_of, pick, token_at};
-use smtlib::{lower, same_part};
+use crate::tokens::{Kind, Tokens, decimal_of};
+use smtlib::same_bytes;
 
-fn pick_truth(test: bool, a: bool, b: bool) -> bool
-    ensures { result ≡ cond test a b }
-{
-    if test { a } else { b }
+// What was met of a word and the equals sign after it.
+#[derive(Clone, Copy, Debug, PartialEq, Eq)]
+enum Met {
+    Nothing,
+    Word,
+    Both,
+    // mark or keep, after which a word is the name that is marked
+    Marking,
 }
 
-// What was met of a word and the equals sign after it: 0 nothing, 1 the word, 2 both; 3 mark or keep.
-fn met_after(text: &[u8], w: &[u8], met: u32, t: Token) -> u32
-    ensures { result ≡ met_after text.now w.now met t }
-{
-    let code = code_of(text, t);
-    let from = t.from;
-    let to = t.to;
-    let word = pick(same_part(text, from, to, w), 1, pick(6 < code, 3, 0));
-    pick((met == 1) & (code == 1), 2, pick(met == 3, 0, word))
+impl Met {
+    fn after(self, sought: &[u8], word: &[u8]) -> Met
+        ensures { result ≡ met_after sought.now self word.now }
+    {
+        let kind = Kind::of(word);
+        match self {
+            Met::Word if kind == Kind::Equals => Met::Both,
+            Met::Marking => Met::Nothing,
+            _ if same_bytes(word, sought) => Met::Word,
+            _ if matches!(kind, Kind::Mark | Kind::Keep) => Met::Marking,
+            _ => Met::Nothing,
+        }
+    }
+
+    // A token is a value.
+    fn valued(self, equals: bool, word: &[u8]) -> bool
+        ensures { result ≡ valued equals self word.now }
+    {
+        if equals {
+            self == Met::Both
+        } else {
+            self == Met::Word && !Kind::of(word).assigns()
+        }
+    }
 }
 
-// A token is a value.
-fn valued(text: &[u8], equals: bool, met: u32, t: Token) -> bool
-    ensures { result ≡ valued text.now equals met t }
+/// The place of value `k` after a word, and an equals sign where one is asked for; the text's length where there is none.
+pub fn place_after(text: &[u8], sought: &[u8], equals: bool, k: u32) -> usize
+    ensures { result ≡ place_after text.now sought.now equals k }
 {
-    let code = code_of(text, t);
-    pick_truth(equals, met == 2, (met == 1) & !((code == 1) | (code == 2)))
-}
-
-// One less; 0 stays.
-fn less(n: u32) -> u32
-    ensures { result ≡ n - 1 }
-{
-    if 0 < n { n - 1 } else { 0 }
-}
-
-// The place of value `k` after a word, and an equals sign where one is asked for; the text's length where there is none.
-pub fn place_after(text: &[u8], w: &[u8], equals: bool, k: u32) -> usize
-    ensures { result ≡ place_after text.now w.now equals k }
-{
+    // No Option: whoever asks takes the line of the place, and where there is none that of the text's end.
     let mut left = k;
-    let mut met = 0u32;
-    let mut at = 0usize;
-    for _ in 0..text.len() {
-        let t = token_at(text, at);
-        if text.len() <= t.from {
-            return text.len();
+    let mut met = Met::Nothing;
+    for token in Tokens::new(text) {
+        let word = token.of(text);
+        if met.valued(equals, word) {
+            if left == 0 {
+                return token.from;
+            }
+            left -= 1;
         }
-        let hit = valued(text, equals, met, t);
-        if hit & (left == 0) {
-            return t.from;
-        }
-        left = pick(hit, less(left), left);
-        met = met_after(text, w, met, t);
-        at = t.to;
+        met = met.after(sought, word);
     }
     text.len()
 }
 
-// The place of the value of a name, of cell `k`, of the allowance; the text's length where there is none.
+/// The place of the value of a name; the text's length where there is none.
 pub fn value_place(names: &[u8], text: &[u8], slot: u32) -> usize
     ensures { result ≡ value_place names.now text.now slot }
 {
-    let n = name_at(names, slot);
-    let to = lower(n.to, names.len());
-    let from = lower(n.from, to);
-    place_after(text, &names[from..to], true, 0)
+    place_after(text, name_at(names, slot), true, 0)
 }
 
+/// The same of cell `k`.
 pub fn cell_place(text: &[u8], k: u32) -> usize
     ensures { result ≡ cell_place text.now k }
 {
     place_after(text, b"]", true, k)
 }
 
+/// The same of the allowance.
 pub fn allowance_place(text: &[u8]) -> usize
     ensures { result ≡ allowance_place text.now }
 {
@@ -86,46 +85,39 @@ pub fn allowance_place(text: &[u8]) -> usize
 }
 
 // table, sheet, values, cells.
-fn heading(text: &[u8], t: Token) -> bool
-    ensures { result ≡ heading (word text.now t) }
+fn heading(word: &[u8]) -> bool
+    ensures { result ≡ heading word.now }
 {
-    let from = t.from;
-    let to = t.to;
-    same_part(text, from, to, b"table")
-        | same_part(text, from, to, b"sheet")
-        | same_part(text, from, to, b"values")
-        | same_part(text, from, to, b"cells")
+    same_bytes(word, b"table")
+        || same_bytes(word, b"sheet")
+        || same_bytes(word, b"values")
+        || same_bytes(word, b"cells")
 }
 
 // allowance, or a decimal number.
-fn neutral(text: &[u8], t: Token) -> bool
-    ensures { result ≡ neutral (word text.now t) }
+fn neutral(word: &[u8]) -> bool
+    ensures { result ≡ neutral word.now }
 {
-    (code_of(text, t) == 6) | (decimal_of(text, t) < NO_DECIMAL)
+    Kind::of(word) == Kind::Allowance || decimal_of(word).is_some()
 }
 
-// The setting is in the parts of a case file: its first token that is neither allowance nor a number is sheet, values,
-// cells or table, and neither = nor [ follows.
+/// The setting is in the parts of a case file: its first token that is neither allowance nor a number is sheet, values,
+/// cells or table, and neither = nor [ follows.
 pub fn by_parts(text: &[u8]) -> bool
     ensures { result ≡ by_parts text.now }
 {
     let mut found = false;
-    let mut at = 0usize;
-    for _ in 0..text.len() {
-        let t = token_at(text, at);
-        if text.len() <= t.from {
-            return found;
-        }
+    for token in Tokens::new(text) {
+        let word = token.of(text);
         if found {
-            let code = code_of(text, t);
-            return !((code == 1) | (code == 2));
+            return !Kind::of(word).assigns();
         }
-        let skip = neutral(text, t);
-        if !(skip | heading(text, t)) {
-            return false;
+        if !neutral(word) {
+            if !heading(word) {
+                return false;
+            }
+            found = true;
         }
-        found = !skip;
-        at = t.to;
     }
     found
 }

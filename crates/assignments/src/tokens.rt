@@ -1,208 +1,221 @@
 // The tokens of a setting, and what each of them says.
-ghost use Rattle.std.specs.Prelude.{◌≡◌, cond, ◌+◌, ◌<◌, length};
-ghost use Rattle.parser.specs.Words.{past};
-ghost use Rattle.smtlib.specs.Bytes.{part};
-ghost use Rattle.assignments.specs.Tokens.{skipped, comment_after, past_skipped, bracket, inside, token_at, code_of};
-ghost use Rattle.assignments.specs.Tokens.{decimal_from, literal_kind, literal_value, decimal_number, number_of};
+ghost use Rattle.std.specs.Prelude.{◌≡◌, false, drop};
+ghost use Rattle.std.specs.List.{prefix_len};
+ghost use Rattle.std.specs.Iterator.{YieldsFirst, item_count};
+ghost use Rattle.assignments.specs.Tokens.{skipped, comment_after, skipped_from, bracket, inside, token_at, tokens, tokens_left};
+ghost use Rattle.assignments.specs.Tokens.{kind_of, assigns, decimal_from, literal, decimal_number, number_of, value_of};
 
 use cases::{byte_at, digit, next_value, white};
+use outline::Span;
 use parser::{Word, word_of};
-use smtlib::{lower, same_part};
+use smtlib::same_bytes;
 
-// The bytes of a token.
-#[derive(Clone, Copy)]
-pub struct Token {
-    pub from: usize,
-    pub to: usize,
+/// What a token is to a setting.
+#[derive(Clone, Copy, Debug, PartialEq, Eq)]
+pub enum Kind {
+    Equals,
+    Open,
+    Close,
+    Allowance,
+    Mark,
+    Keep,
+    Other,
 }
 
-// 0 no number, 1 decimal, 2 #b and digits, 3 true or false, 4 a decimal number of 2^32 or more.
-#[derive(Clone, Copy)]
-pub struct Number {
-    pub kind: u32,
-    pub value: u32,
+/// A number as it is typed, with its value.
+#[derive(Clone, Copy, Debug, PartialEq, Eq)]
+pub enum Number {
+    Decimal(u32),
+    // #b and digits
+    Binary(u32),
+    // true or false
+    Truth(u32),
+    // a decimal number of 2^32 or more
+    TooLarge,
 }
 
 fn skipped(comment: bool, b: u8) -> bool
     ensures { result ≡ skipped comment b }
 {
-    comment | white(b) | (b == b';')
+    comment || white(b) || b == b';'
 }
 
 fn comment_after(comment: bool, b: u8) -> bool
     ensures { result ≡ comment_after comment b }
 {
-    !(b == b'\n') & (comment | (b == b';'))
+    b != b'\n' && (comment || b == b';')
 }
 
-// The first place from `at` on that is neither white space nor in a comment.
-fn past_skipped(text: &[u8], at: usize) -> usize
-    ensures { result ≡ past_skipped text.now at }
+// How many bytes in front are white space and comments.
+fn skipped_length(text: &[u8]) -> usize
+    ensures { result ≡ skipped_from false text.now }
 {
     let mut comment = false;
-    let mut i = at;
-    while i < text.len() {
-        let b = text[i];
+    for (i, &b) in text.iter().enumerate() {
         if !skipped(comment, b) {
             return i;
         }
         comment = comment_after(comment, b);
-        i += 1;
     }
-    i
+    text.len()
 }
 
 fn bracket(b: u8) -> bool
     ensures { result ≡ bracket b }
 {
-    (b == b'[') | (b == b']')
+    matches!(b, b'[' | b']')
 }
 
 fn inside(b: u8) -> bool
     ensures { result ≡ inside b }
 {
-    !(white(b) | (b == b';') | bracket(b))
+    !(white(b) || b == b';' || bracket(b))
 }
 
-fn past_inside(text: &[u8], at: usize) -> usize
-    ensures { result ≡ past inside text.now at }
+fn inside_length(text: &[u8]) -> usize
+    ensures { result ≡ prefix_len inside text.now }
 {
-    let mut i = at;
-    while i < text.len() {
-        if !inside(text[i]) {
-            return i;
-        }
-        i += 1;
-    }
-    i
+    text.iter().take_while(|b| inside(**b)).count()
 }
 
-// The token at a place, after white space and comments.
-pub fn token_at(text: &[u8], at: usize) -> Token
+// The bytes of a text from a place on.
+fn rest_of(text: &[u8], at: usize) -> &[u8]
+    ensures { result.now ≡ drop at text.now }
+{
+    &text[at.min(text.len())..]
+}
+
+/// The token at a place, after white space and comments.
+pub fn token_at(text: &[u8], at: usize) -> Span
     ensures { result ≡ token_at text.now at }
 {
-    let from = past_skipped(text, at);
+    let from = at + skipped_length(rest_of(text, at));
     if bracket(byte_at(text, from)) {
-        return Token { from, to: from + 1 };
+        return Span { from, to: from + 1 };
     }
-    Token {
+    Span {
         from,
-        to: past_inside(text, from),
+        to: from + inside_length(rest_of(text, from)),
     }
 }
 
-pub fn pick(test: bool, a: u32, b: u32) -> u32
-    ensures { result ≡ cond test a b }
-{
-    if test { a } else { b }
+/// The tokens of a text from a place on.
+#[derive(Clone, Copy)]
+pub struct Tokens<'a> {
+    text: &'a [u8],
+    at: usize,
 }
 
-// = 1, [ 2, ] 3, any other token 0; allowance 6, mark 7, keep 8, which is what is expected after each.
-pub fn code_of(text: &[u8], t: Token) -> u32
-    ensures { result ≡ code_of (part text.now t.from t.to) }
-{
-    let from = t.from;
-    let to = t.to;
-    let equals = same_part(text, from, to, b"=");
-    let open = same_part(text, from, to, b"[");
-    let close = same_part(text, from, to, b"]");
-    let allowance = same_part(text, from, to, b"allowance");
-    let mark = same_part(text, from, to, b"mark");
-    let keep = same_part(text, from, to, b"keep");
-    let words = pick(allowance, 6, pick(mark, 7, pick(keep, 8, 0)));
-    pick(equals, 1, pick(open, 2, pick(close, 3, words)))
+impl<'a> Tokens<'a> {
+    /// All of them.
+    pub fn new(text: &'a [u8]) -> Self
+        ensures { tokens_left result.text.now result.at ≡ tokens text.now }
+    {
+        Tokens { text, at: 0 }
+    }
 }
 
-// No decimal number.
-pub const NO_DECIMAL: u64 = 1152921504606846976;
+impl<'a> Iterator for Tokens<'a> {
+    type Item = Span;
 
-// The number that digits say.
-fn decimal_in(word: &[u8]) -> u64
+    ghost next_gives = { YieldsFirst (λ s. tokens_left s.text.now s.at) };
+
+    ghost remaining = { item_count (λ s. tokens_left s.text.now s.at) };
+
+    fn next(&mut self) -> Option<Span> {
+        let token = token_at(self.text, self.at);
+        if token.from < self.text.len() {
+            self.at = token.to;
+            Some(token)
+        } else {
+            None
+        }
+    }
+}
+
+impl Kind {
+    pub fn of(word: &[u8]) -> Kind
+        ensures { result ≡ kind_of word.now }
+    {
+        if same_bytes(word, b"=") {
+            Kind::Equals
+        } else if same_bytes(word, b"[") {
+            Kind::Open
+        } else if same_bytes(word, b"]") {
+            Kind::Close
+        } else if same_bytes(word, b"allowance") {
+            Kind::Allowance
+        } else if same_bytes(word, b"mark") {
+            Kind::Mark
+        } else if same_bytes(word, b"keep") {
+            Kind::Keep
+        } else {
+            Kind::Other
+        }
+    }
+
+    /// = or [, which follow a name that is given a value.
+    pub fn assigns(self) -> bool
+        ensures { result ≡ assigns self }
+    {
+        matches!(self, Kind::Equals | Kind::Open)
+    }
+}
+
+/// The number that digits say; none where another byte is among them.
+pub fn decimal_of(word: &[u8]) -> Option<u64>
     ensures { result ≡ decimal_from 0 word.now }
 {
-    let mut v = 0u64;
-    for i in 0..word.len() {
-        let b = word[i];
+    let mut value = 0;
+    for &b in word {
         if !digit(b) {
-            return NO_DECIMAL;
+            return None;
         }
-        v = next_value(v, b);
+        value = next_value(value, b);
     }
-    v
+    Some(value)
 }
 
-pub fn decimal_of(text: &[u8], t: Token) -> u64
-    ensures { result ≡ decimal_from 0 (part text.now t.from t.to) }
-{
-    let to = lower(t.to, text.len());
-    let from = lower(t.from, to);
-    decimal_in(&text[from..to])
-}
-
-fn literal_kind(word: Word) -> u32
-    ensures { result ≡ literal_kind word }
+fn literal(word: Word) -> Option<Number>
+    ensures { result ≡ literal word }
 {
     match word {
-        Word::Open => 0,
-        Word::Close => 0,
-        Word::Keyword(_) => 0,
-        Word::Operator(_) => 0,
-        Word::Literal(n, _) => pick(n == 0, 3, 2),
-        Word::Width(_) => 0,
-        Word::Name(_) => 0,
-        Word::Other => 0,
-        Word::End => 0,
+        Word::Literal(0, value) => Some(Number::Truth(value)),
+        Word::Literal(_, value) => Some(Number::Binary(value)),
+        _ => None,
     }
 }
 
-fn literal_value(word: Word) -> u32
-    ensures { result ≡ literal_value word }
+fn decimal_number(value: u64) -> Number
+    ensures { result ≡ decimal_number value }
 {
-    match word {
-        Word::Open => 0,
-        Word::Close => 0,
-        Word::Keyword(_) => 0,
-        Word::Operator(_) => 0,
-        Word::Literal(_, v) => v,
-        Word::Width(_) => 0,
-        Word::Name(_) => 0,
-        Word::Other => 0,
-        Word::End => 0,
+    match u32::try_from(value) {
+        Ok(value) => Number::Decimal(value),
+        Err(_) => Number::TooLarge,
     }
 }
 
-// The number that a run of bytes is.
-fn number_in(word: &[u8]) -> Number
+/// The number that a word is.
+#[tactic(auto, unfolding(crate::specs::Tokens::number_of))]
+pub fn number_of(word: &[u8]) -> Option<Number>
     ensures { result ≡ number_of word.now }
 {
-    let v = decimal_in(word);
-    if v < NO_DECIMAL {
-        return decimal_number(v);
-    }
-    let w = word_of(word);
-    Number {
-        kind: literal_kind(w),
-        value: literal_value(w),
+    match decimal_of(word) {
+        Some(value) => Some(decimal_number(value)),
+        None => literal(word_of(word)),
     }
 }
 
-fn decimal_number(v: u64) -> Number
-    ensures { result ≡ decimal_number v }
-{
-    if v < 4294967296 {
-        return Number {
-            kind: 1,
-            value: v as u32,
-        };
+impl Number {
+    /// Its value; 0 where it is too large.
+    pub fn value(self) -> u32
+        ensures { result ≡ value_of self }
+    {
+        match self {
+            Number::Decimal(value) => value,
+            Number::Binary(value) => value,
+            Number::Truth(value) => value,
+            Number::TooLarge => 0,
+        }
     }
-    Number { kind: 4, value: 0 }
-}
-
-// The number that a token is.
-pub fn number_of(text: &[u8], t: Token) -> Number
-    ensures { result ≡ number_of (part text.now t.from t.to) }
-{
-    let to = lower(t.to, text.len());
-    let from = lower(t.from, to);
-    number_in(&text[from..to])
 }

@@ -5,27 +5,30 @@ ghost use Rattle.assignments.specs.Reading.{missing_from, value_of, values_in};
 use crate::seek::value_place;
 use crate::tokens::{number_of, token_at};
 
-// The first name that has no value; their count where each has.
-pub fn missing(names: &[u8], text: &[u8], count: u32) -> u32
+/// The first name that has no value.
+pub fn missing(names: &[u8], text: &[u8], count: u32) -> Option<u32>
     ensures { result ≡ missing_from names.now text.now count 0 }
 {
-    for k in 0..count {
-        if text.len() <= value_place(names, text, k) {
-            return k;
+    for slot in 0..count {
+        if text.len() <= value_place(names, text, slot) {
+            return Some(slot);
         }
     }
-    count
+    None
 }
 
 // The value of a name.
 fn value_of(names: &[u8], text: &[u8], slot: u32) -> u32
     ensures { result ≡ value_of names.now text.now slot }
 {
-    let t = token_at(text, value_place(names, text, slot));
-    number_of(text, t).value
+    let token = token_at(text, value_place(names, text, slot));
+    match number_of(token.of(text)) {
+        Some(number) => number.value(),
+        None => 0,
+    }
 }
 
-// Writes a number at a place; past the room's end nothing is written.
+/// Writes a number at a place; past the room's end nothing is written.
 pub fn put(room: &mut [u32], k: usize, v: u32)
     ensures { room.new ≡ set room.old k v }
 {
@@ -34,12 +37,13 @@ pub fn put(room: &mut [u32], k: usize, v: u32)
     }
 }
 
-// The values of the names, each at its slot.
+/// The values of the names, each at its slot.
 pub fn fill(names: &[u8], text: &[u8], count: u32, values: &mut [u32])
     ensures { values.new
         ≡ values_in names.now text.now count values.old }
 {
-    for k in 0..count {
-        put(values, k as usize, value_of(names, text, k));
+    // By slots: the room may have fewer places, and put writes none past its end.
+    for slot in 0..count {
+        put(values, slot as usize, value_of(names, text, slot));
     }
 }

@@ -1,4 +1,4 @@
--- No word of a text is left out.
+-- No word of a text is left out, and what is left after a word.
 -- Assumes nothing.
 use mathlib.Core.Path.{◌≡◌, refl, sym, ap, ◌∙◌}
 use mathlib.Core.Bool.{Bool, true, false, cond}
@@ -7,14 +7,14 @@ use Prim.Native.Nat.{ℕ, zero, suc, ◌+◌, ◌≤◌, ◌<◌}
 use native.Mathlib.Omega.{arith}
 use lib.Dec.{ltb}
 use lib.ListN.{length}
-use borrow.Author.Tests.{ltb-true, le-ltb}
+use borrow.Author.Tests.{ltb-true, le-ltb, lt-ltb}
 use Rattle.parser.specs.declared.words.Token.{Token}
 use Rattle.parser.specs.Words.{white, past, token_at}
 use Rattle.parser.proofs.Ahead.{not_before}
 use Rattle.parser.proofs.Forward.{words_move, end_at_end}
 use Rattle.parser.proofs.Unique.{kind}
 use Rattle.parser.proofs.Tokens.{Shape, ending, opening, closing, running, shape}
-use Rattle.outline.specs.Scanning.{words_from}
+use Rattle.outline.specs.Scanning.{words_from, words_left}
 use Rattle.outline.specs.Laws.{NoWordLeft}
 
 -- a word begins where it is sought or later, and takes a byte at least
@@ -65,3 +65,24 @@ no-word_left text zero = let z : 0 + length text ≡ length text = omega arith i
 no-word_left text (suc more) =
     let z : suc more + length text ≡ suc (more + length text) = omega arith in
     ap (λ (n : ℕ). words_from n text (length text) 0) z ∙ one_more_lem (more + length text) text 0 (omega arith) ∙ no-word_left text more
+
+-- what is left at a place begins with the word there, unless that is at the text's end
+module _ (text : List ℕ) (at : ℕ) (t : Token) (is : t ≡ token_at text at) where
+  none_of : (n : ℕ) → length text ≤ t.from → words_from n text (length text) at ≡ []
+  unfolding words_from
+  none_of zero b = refl
+  none_of (suc n) b = rw (sym is, le-ltb t.from (length text) b)
+
+  one_of : (n : ℕ) → n ≡ length text → t.from < length text → words_from n text (length text) at ≡ t ∷ words_from n text (length text) t.next
+  unfolding words_from
+  one_of zero e b = absurd (omega arith)
+  one_of (suc n) e b =
+      let w : Word text at t = rw is (word_at text at) in
+      let m : length text ≤ t.next + n = omega (arith, w.moves b) in
+      rw (sym is, lt-ltb t.from (length text) b) (ap (λ (l : List Token). t ∷ l) (sym (one_more_lem n text t.next m)))
+
+  pub none_left : length text ≤ t.from → words_left text at ≡ []
+  none_left b = none_of (length text) b
+
+  pub one_left : t.from < length text → words_left text at ≡ t ∷ words_left text t.next
+  one_left b = one_of (length text) refl b

@@ -1,5 +1,6 @@
 pub mod WordLists
+pub mod Complete
 pub mod Ways
 pub mod Writing
-pub mod Complete
+pub mod Lengths
 pub mod Samples

@@ -7,6 +7,7 @@ use Rattle.smtlib.specs.Bytes.{bytes, same_bytes, place_in}
 use Rattle.smtlib.specs.Numerals.{value_of}
 use Rattle.table.specs.Folds.{every}
 use Rattle.parser.specs.Words.{among, symbol, private, plain_of, word_of, ahead, word_from, token_at}
+use Rattle.outline.specs.declared.scan.Command.TheVariants.{DeclareConst}
 use Rattle.outline.specs.Scanning.{words_from, step, scanned, context_at}
 use Rattle.outline.specs.Spans.{open_before, span_in, span_of, enclosing}
 
@@ -27,8 +28,9 @@ joined : places (bytes "(assert (not (not true))) (assert true)") 0 ∷ places (
 unfolding places same_bytes place_in value_of every among symbol private plain_of word_of ahead word_from token_at words_from step open_before span_in
 joined = refl
 
--- in the sort of a declaration: command 2, two parentheses, four words; the innermost is the second
-inside : (context_at (bytes "(declare-const a (Array ") 18).command ∷ (context_at (bytes "(declare-const a (Array ") 18).depth
-    ∷ (context_at (bytes "(declare-const a (Array ") 18).words ∷ enclosing (bytes "(declare-const a (Array ") 18 ∷ [] ≡ 2 ∷ 2 ∷ 4 ∷ 17 ∷ []
+-- in the sort of a declaration: two parentheses, four words; the innermost is the second
+inside : ((context_at (bytes "(declare-const a (Array ") 18).command ≡ DeclareConst)
+    × ((context_at (bytes "(declare-const a (Array ") 18).depth ∷ (context_at (bytes "(declare-const a (Array ") 18).words
+    ∷ enclosing (bytes "(declare-const a (Array ") 18 ∷ [] ≡ 2 ∷ 4 ∷ 17 ∷ [])
 unfolding same_bytes place_in value_of every among symbol private plain_of word_of ahead word_from token_at words_from step scanned open_before
-inside = refl
+inside = (refl, refl)

@@ -1,67 +1,50 @@
--- Going over the words of a text: the rest equals the whole.
+-- Going over the words of a text that begin before a place.
 -- Assumes nothing.
-use mathlib.Core.Path.{◌≡◌, sym, ap, ◌∙◌}
-use mathlib.Core.Bool.{Bool, cond}
+use mathlib.Core.Path.{◌≡◌, refl, ap}
+use mathlib.Core.Bool.{Bool, true, false, cond}
 use mathlib.Core.List.{List, [], ◌∷◌}
-use Prim.Native.Nat.{ℕ, suc, ◌+◌, ◌-◌, ◌≤◌, ◌<◌}
+use Prim.Native.Nat.{ℕ, zero, suc, ◌≤◌, ◌<◌}
 use native.Mathlib.Omega.{arith}
 use lib.Dec.{ltb}
 use lib.ListN.{length}
-use borrow.Author.Tests.{lt-ltb, le-ltb}
+use borrow.Author.Tests.{lt-ltb, le-ltb, ltb-true, ltb-false}
 use Rattle.parser.specs.declared.words.Token.{Token}
 use Rattle.parser.specs.Words.{token_at}
 use Rattle.outline.specs.declared.scan.Scan.{Scan}
-use Rattle.outline.specs.Scanning.{words_from, start, step}
+use Rattle.outline.specs.Scanning.{words_from, step, scanned}
 
--- i of at most n words are read
-module _ (text : List ℕ) (stop n i at : ℕ) where
-  words_out : n ≤ i → words_from (n - i) text stop at ≡ []
-  unfolding words_from
-  words_out b = let e : n - i ≡ 0 = omega arith in ap (λ (m : ℕ). words_from m text stop at) e
+-- the words of a list up to the first that begins at a place or later
+pub before : ℕ → List Token → List Token
+before stop [] = []
+before stop (t ∷ ts) = cond (ltb t.from stop) (t ∷ before stop ts) []
 
-  module _ (b : i < n) (t : Token) (is : t ≡ token_at text at) where
-    abbrev pub rest : List Token
-    rest = words_from (n - (i + 1)) text stop t.next
+pub before_is : (n : ℕ) (text : List ℕ) (stop at : ℕ) → stop ≤ length text → before stop (words_from n text (length text) at) ≡ words_from n text stop at
+unfolding words_from before
+before_is zero text stop at h = refl
+before_is (suc n) text stop at h = go (ltb (token_at text at).from (length text)) (ltb (token_at text at).from stop) refl refl (before_is n text stop (token_at text at).next h)
+  where
+    t : Token
+    t = token_at text at
 
-    one_word : words_from (n - i) text stop at ≡ cond (ltb t.from stop) (t ∷ rest) []
-    unfolding words_from
-    one_word =
-        let e : n - i ≡ suc (n - (i + 1)) = omega arith in
-        ap (λ (m : ℕ). words_from m text stop at) e
-        ∙ ap (λ (x : Token). cond (ltb x.from stop) (x ∷ words_from (n - (i + 1)) text stop x.next) []) (sym is)
+    go : (a b : Bool) → ltb t.from (length text) ≡ a → ltb t.from stop ≡ b
+        → before stop (words_from n text (length text) t.next) ≡ words_from n text stop t.next
+        → before stop (cond a (t ∷ words_from n text (length text) t.next) []) ≡ cond b (t ∷ words_from n text stop t.next) []
+    go true true e f r = rw f (ap (λ (l : List Token). t ∷ l) r)
+    go true false e f r = rw f
+    go false true e f r = absurd (omega (arith, ltb-true t.from stop f, ltb-false t.from (length text) e))
+    go false false e f r = refl
 
-    word_on : t.from < stop → words_from (n - i) text stop at ≡ t ∷ rest
-    word_on f = one_word ∙ ap (λ (c : Bool). cond c (t ∷ rest) []) (lt-ltb t.from stop f)
+-- a scan over them
+module _ (stop : ℕ) (s : Scan) (left : List Token) where
+  pub scan_none : left ≡ [] → scanned s (before stop left) ≡ s
+  unfolding before scanned
+  scan_none e = rw e
 
-    word_stop : stop ≤ t.from → words_from (n - i) text stop at ≡ []
-    word_stop f = one_word ∙ ap (λ (c : Bool). cond c (t ∷ rest) []) (le-ltb t.from stop f)
+  module _ (t : Token) (others : List Token) (is : left ≡ t ∷ others) where
+    pub scan_stop : stop ≤ t.from → scanned s (before stop left) ≡ s
+    unfolding before scanned
+    scan_stop h = rw (is, le-ltb t.from stop h)
 
--- what f says of the whole it says of what is left, from a scan on
-pub record Reached {A : Type 0} (f : Scan → List Token → A) (text : List ℕ) (stop : ℕ) (s : Scan) (at i : ℕ) : Type 0 where
-  pub is : f s (words_from (length text - i) text stop at) ≡ f start (words_from (length text) text stop 0)
-
-module _ {A : Type 0} (f : Scan → List Token → A) (text : List ℕ) (stop : ℕ) (s : Scan) where
-  pub begun : s ≡ start → Reached f text stop s 0 0
-  begun e =
-      let z : length text - 0 ≡ length text = omega arith in
-      record { is = ap (λ (x : Scan). f x (words_from (length text - 0) text stop 0)) e ∙ ap (λ (m : ℕ). f start (words_from m text stop 0)) z }
-
-  module _ (at i : ℕ) (h : Reached f text stop s at i) where
-    pub through : length text ≤ i → f s [] ≡ f start (words_from (length text) text stop 0)
-    through b = ap (f s) (sym (words_out text stop (length text) i at b)) ∙ h.is
-
-    module _ (b : i < length text) (t : Token) (is : t ≡ token_at text at) where
-      pub stopped : stop ≤ t.from → f s [] ≡ f start (words_from (length text) text stop 0)
-      stopped e = ap (f s) (sym (word_stop text stop (length text) i at b t is e)) ∙ h.is
-
-      pub met : t.from < stop → f s (t ∷ rest text stop (length text) i at b t is) ≡ f start (words_from (length text) text stop 0)
-      met e = ap (f s) (sym (word_on text stop (length text) i at b t is e)) ∙ h.is
-
-      pub onward : t.from < stop → (q : Scan) → q ≡ step s t → ((ts : List Token) → f s (t ∷ ts) ≡ f (step s t) ts) → Reached f text stop q t.next (i + 1)
-      onward e q said goes =
-          record {
-            is =
-                ap (λ (x : Scan). f x (rest text stop (length text) i at b t is)) said
-                ∙ sym (goes (rest text stop (length text) i at b t is))
-                ∙ met e;
-          }
+    pub scan_more : t.from < stop → scanned s (before stop left) ≡ scanned (step s t) (before stop others)
+    unfolding before scanned
+    scan_more h = rw (is, lt-ltb t.from stop h)

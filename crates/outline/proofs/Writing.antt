@@ -8,7 +8,9 @@ use native.Mathlib.Numerals.{add-one}
 use native.Mathlib.Omega.{arith}
 use lib.ListN.{length, get_or, take, drop, set, length-append, length-drop, take-append-drop}
 use lib.Dec.{leb}
-use lib.Seq.{take-suc, take-length, length-take-le, drop-cons, set_at, take-append_seam, drop-append-add, drop-drop}
+use lib.Seq.{length-take-le, drop-cons, set_at, take-append_seam, drop-append-add, drop-drop}
+use borrow.Rule.Slice.PartMut.{put_mid}
+use Rattle.std.proofs.lemmas.Slice.{take-put_mid, drop-put_mid}
 use borrow.Author.Tests.{le-leb, lt-leb}
 use Rattle.outline.specs.NameLines.{name_line, lines_from, names_in}
 
@@ -18,47 +20,16 @@ front_more front room i v e h = rw (drop-cons room i 0 h, set_at front (get_or r
 front_length : (front room : List ℕ) (i : ℕ) → length front ≡ i → i ≤ length room → length (front ++ drop i room) ≡ length room
 front_length front room i e h = rw (length-append, e, length-drop) (omega arith)
 
--- the first i bytes of a name stand at a place
-pub record Named (name begin : List ℕ) (at : ℕ) (room : List ℕ) (i : ℕ) : Type 0 where
-  pub within : i ≤ length name
-  pub is : room ≡ (take at begin ++ take i name) ++ drop (at + i) begin
-
-pub none_named : (name begin : List ℕ) (at : ℕ) → Named name begin at begin 0
-none_named name begin at =
-    let z : at ≡ at + 0 = omega arith in
-    record {
-      within = omega arith;
-      is = sym (take-append-drop at begin) ∙ ap (λ (l : List ℕ). l ++ drop at begin) (sym (append-nil (take at begin))) ∙ ap (λ (n : ℕ). (take at begin ++ []) ++ drop n begin) z;
-    }
-
-module _ (name begin : List ℕ) (at : ℕ) (room : List ℕ) (i : ℕ) (fits : at + length name < length begin) (h : Named name begin at room i) where
-  front_size : length (take at begin ++ take i name) ≡ at + i
-  front_size = rw (length-append, length-take-le at begin (omega arith), length-take-le i name h.within)
-
-  pub named-length : length room ≡ length begin
-  named-length = let b : i ≤ length name = h.within in ap length h.is ∙ front_length (take at begin ++ take i name) begin (at + i) front_size (omega arith)
-
-  pub one_named : i < length name → (after : List ℕ) → after ≡ set room (at + i) (get_or name i 0) → Named name begin at after (i + 1)
-  one_named b after e =
-      let sum : at + i + 1 ≡ at + (i + 1) = omega arith in
-      record {
-        within = omega arith;
-        is =
-            e ∙ ap (λ (l : List ℕ). set l (at + i) (get_or name i 0)) h.is
-            ∙ front_more (take at begin ++ take i name) begin (at + i) (get_or name i 0) front_size (omega arith)
-            ∙ ap (λ (l : List ℕ). l ++ drop (at + i + 1) begin) (append_assoc (take at begin) (take i name) (get_or name i 0 ∷ []))
-            ∙ ap (λ (l : List ℕ). (take at begin ++ l) ++ drop (at + i + 1) begin) (sym (take-suc name i 0 b) ∙ ap (λ (n : ℕ). take n name) (sym (add-one i)))
-            ∙ ap (λ (n : ℕ). (take at begin ++ take (i + 1) name) ++ drop n begin) sum;
-      }
-
-  pub all_named : length name ≤ i → (v : ℕ) (after : List ℕ) → after ≡ set room (at + length name) v → after ≡ (take at begin ++ (name ++ (v ∷ []))) ++ drop (at + length name + 1) begin
-  all_named end v after e =
-      let z : i ≡ length name = let b : i ≤ length name = h.within in omega arith in
-      let n : ℕ = length name in
-      let size : length (take at begin ++ name) ≡ at + n = rw (length-append, length-take-le at begin (omega arith)) in
-      e ∙ ap (λ (l : List ℕ). set l (at + n) v) (h.is ∙ ap (λ (k : ℕ). (take at begin ++ take k name) ++ drop (at + k) begin) z ∙ ap (λ (l : List ℕ). (take at begin ++ l) ++ drop (at + n) begin) (take-length name))
-      ∙ front_more (take at begin ++ name) begin (at + n) v size (omega arith)
-      ∙ ap (λ (l : List ℕ). l ++ drop (at + n + 1) begin) (append_assoc (take at begin) name (v ∷ []))
+-- a name is written at a place, and a byte after it
+pub line_put : (name room : List ℕ) (at k v : ℕ) → k ≡ length name → at + length name < length room
+    → set (put_mid at k room name) (at + length name) v ≡ (take at room ++ (name ++ (v ∷ []))) ++ drop (at + length name + 1) room
+line_put name room at k v e h =
+    let n : ℕ = at + length name in
+    let size : length (take at room ++ name) ≡ n = rw (length-append, length-take-le at room (omega arith)) in
+    let w : put_mid at k room name ≡ (take at room ++ name) ++ drop n room =
+    sym (take-append-drop n (put_mid at k room name))
+    ∙ rw (take-put_mid at k room name n refl (omega arith), drop-put_mid at k room name n (omega arith) (omega arith) (sym e)) in
+    rw w (front_more (take at room ++ name) room n v size h) ∙ ap (λ (l : List ℕ). l ++ drop (n + 1) room) (append_assoc (take at room) name (v ∷ []))
 
 -- The lines of the first k names stand in front
 

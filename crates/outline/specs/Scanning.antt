@@ -1,13 +1,19 @@
 -- Where a text stands, word by word from the left: in which command, how deep, how many terms its words have added. Terms are
 -- counted as the table of a typed rule holds them (Req 02).
 -- Assumes nothing.
-use Rattle.std.specs.Prelude.{Bool, false, cond, ◌&&◌, ◌||◌, List, [], ◌∷◌, ℕ, zero, suc, ◌+◌, ◌-◌, eqb, ltb, leb, length}
+use Rattle.std.specs.Prelude.{Bool, true, false, cond, ◌&&◌, ◌||◌, List, [], ◌∷◌, ℕ, zero, suc, ◌+◌, ◌-◌, min, eqb, ltb, leb, length}
+use Rattle.parser.specs.declared.words.Keyword.{Keyword}
+use Rattle.parser.specs.declared.words.Keyword.TheVariants as keyword
 use Rattle.parser.specs.declared.words.Word.{Word}
-use Rattle.parser.specs.declared.words.Word.TheVariants.{Open, Close, Keyword, Operator, Literal, Width, Name, Other, End}
+use Rattle.parser.specs.declared.words.Word.TheVariants as words
 use Rattle.parser.specs.declared.words.Token.{Token}
 use Rattle.parser.specs.Words.{token_at}
 use Rattle.outline.specs.declared.scan.Scan.{Scan}
 use Rattle.outline.specs.declared.scan.Span.{Span}
+use Rattle.outline.specs.declared.scan.Kind.{Kind}
+use Rattle.outline.specs.declared.scan.Kind.TheVariants.{Open, Close, Constant, Name, DeclareConst, Assert, CheckSat, Other}
+use Rattle.outline.specs.declared.scan.Command.{Command}
+use Rattle.outline.specs.declared.scan.Command.TheVariants as commands
 
 -- the words of a text that begin before a place: at most n, from a place on
 unfoldable pub words_from : ℕ → List ℕ → ℕ → ℕ → List Token
@@ -17,93 +23,143 @@ words_from (suc n) text stop at =
     let rest = words_from n text stop t.next in
     cond (ltb t.from stop) (t ∷ rest) []
 
-abbrev pub lower : ℕ → ℕ → ℕ
-lower a b = cond (ltb a b) a b
-
 -- those before a place: a word takes a byte at least, so that there are no more than bytes
 abbrev pub words_to : List ℕ → ℕ → List Token
-words_to text stop = words_from (length text) text (lower stop (length text)) 0
+words_to text stop = words_from (length text) text (min stop (length text)) 0
 
--- all of them
+-- all of them from a place on, and from the text's begin on
+abbrev pub words_left : List ℕ → ℕ → List Token
+words_left text at = words_from (length text) text (length text) at
+
 abbrev pub all_words : List ℕ → List Token
-all_words text = words_from (length text) text (length text) 0
+all_words text = words_left text 0
 
--- Kinds of words, by numbers: ( 1, ) 2, a constant 3, a name 4; declare-const, assert, check-sat 5 to 7; any other 0
-abbrev pub keyword_kind : ℕ → ℕ
-keyword_kind k = cond (ltb k 3) (k + 5) 0
+-- what a word is to the scan
+abbrev pub keyword_kind : Keyword → Kind
+keyword_kind keyword.DeclareConst = DeclareConst
+keyword_kind keyword.Assert = Assert
+keyword_kind keyword.CheckSat = CheckSat
+keyword_kind keyword.Underscore = Other
 
-abbrev pub kind_of : Word → ℕ
-kind_of Open = 1
-kind_of Close = 2
-kind_of (Keyword k) = keyword_kind k
-kind_of (Operator op) = 0
-kind_of (Literal n v) = 3
-kind_of (Width n) = 0
-kind_of (Name k) = 4
-kind_of Other = 0
-kind_of End = 0
-
--- Commands, by numbers: 0 between commands, 1 after its parenthesis, 2 declaration, 3 assert, 4 check-sat
+abbrev pub kind_of : Word → Kind
+kind_of words.Open = Open
+kind_of words.Close = Close
+kind_of (words.Keyword k) = keyword_kind k
+kind_of (words.Literal n v) = Constant
+kind_of (words.Name k) = Name
+kind_of w = Other
 
 -- one more; 2^32 - 1 is the most that is counted
 abbrev pub more : ℕ → ℕ
 more n = cond (ltb n 4294967295) (n + 1) n
 
+-- a word is a closing parenthesis, a constant, a name, check-sat
+abbrev pub closing : Kind → Bool
+closing Close = true
+closing k = false
+
+abbrev pub constant_kind : Kind → Bool
+constant_kind Constant = true
+constant_kind k = false
+
+abbrev pub name_kind : Kind → Bool
+name_kind Name = true
+name_kind k = false
+
+abbrev pub check_kind : Kind → Bool
+check_kind CheckSat = true
+check_kind k = false
+
+-- the scan stands between commands, after a command's parenthesis, in a declaration, in an assert
+abbrev pub outside : Command → Bool
+outside commands.Outside = true
+outside c = false
+
+abbrev pub opened : Command → Bool
+opened commands.Begun = true
+opened c = false
+
+abbrev pub declaring : Command → Bool
+declaring commands.DeclareConst = true
+declaring c = false
+
+abbrev pub asserting : Command → Bool
+asserting commands.Assert = true
+asserting c = false
+
 -- a word of kind k closes the command
-abbrev pub ends : Scan → ℕ → Bool
-ends s k = eqb k 2 && leb s.depth 1
+abbrev pub ends : Scan → Kind → Bool
+ends s k = closing k && leb s.depth 1
 
 -- it is the declared name; a constant; the end of a list
-abbrev pub declares : Scan → ℕ → Bool
-declares s k = eqb s.command 2 && eqb s.words 2
+abbrev pub declares : Scan → Kind → Bool
+declares s k = declaring s.command && eqb s.words 2
 
-abbrev pub constant : Scan → ℕ → Bool
-constant s k = eqb s.command 3 && eqb k 3
+abbrev pub constant : Scan → Kind → Bool
+constant s k = asserting s.command && constant_kind k
 
-abbrev pub lists : Scan → ℕ → Bool
-lists s k = eqb s.command 3 && (eqb k 2 && ltb 1 s.depth)
+abbrev pub lists : Scan → Kind → Bool
+lists s k = asserting s.command && (closing k && ltb 1 s.depth)
 
 -- the end of an assert that is joined to those before it; check-sat after a sole assert of a bare name
-abbrev pub joins : Scan → ℕ → Bool
-joins s k = eqb s.command 3 && (ends s k && ltb 0 s.asserts)
+abbrev pub joins : Scan → Kind → Bool
+joins s k = asserting s.command && (ends s k && ltb 0 s.asserts)
 
-abbrev pub doubles : Scan → ℕ → Bool
-doubles s k = eqb s.command 1 && eqb k 7 && (eqb s.asserts 1 && s.bare)
+abbrev pub doubles : Scan → Kind → Bool
+doubles s k = opened s.command && check_kind k && (eqb s.asserts 1 && s.bare)
 
 -- it adds a term
-abbrev pub adds : Scan → ℕ → Bool
+abbrev pub adds : Scan → Kind → Bool
 adds s k = declares s k || constant s k || lists s k || joins s k || doubles s k
 
--- what each is after a word of kind k
-abbrev pub command_after : Scan → ℕ → ℕ
-command_after s k =
-    cond (ends s k) 0
-    (cond (eqb s.command 0) (cond (eqb k 1) 1 0)
-    (cond (eqb s.command 1 && ltb 4 k) (k - 3)
-    s.command))
+-- what each is after a word of kind k: a parenthesis opens a command, and its first word says which
+abbrev pub named : Command → Kind → Command
+named commands.Outside Open = commands.Begun
+named commands.Begun DeclareConst = commands.DeclareConst
+named commands.Begun Assert = commands.Assert
+named commands.Begun CheckSat = commands.CheckSat
+named c k = c
 
-abbrev pub depth_after : Scan → ℕ → ℕ
-depth_after s k = cond (eqb k 1) (more s.depth) (cond (eqb k 2) (s.depth - 1) s.depth)
+abbrev pub command_after : Scan → Kind → Command
+command_after s k = cond (ends s k) commands.Outside (named s.command k)
 
-abbrev pub words_after : Scan → ℕ → ℕ
-words_after s k = cond (eqb (command_after s k) 0) 0 (more s.words)
+abbrev pub depth_after : Scan → Kind → ℕ
+depth_after s Open = more s.depth
+depth_after s Close = s.depth - 1
+depth_after s k = s.depth
+
+abbrev pub words_after : Scan → Kind → ℕ
+words_after s k = cond (outside (command_after s k)) 0 (more s.words)
 
 -- the word ends an assert
-abbrev pub asserted : Scan → ℕ → Bool
-asserted s k = eqb s.command 3 && ends s k
+abbrev pub asserted : Scan → Kind → Bool
+asserted s k = asserting s.command && ends s k
+
+abbrev pub terms_after : Scan → Kind → ℕ
+terms_after s k = cond (adds s k) (more s.terms) s.terms
+
+abbrev pub asserts_after : Scan → Kind → ℕ
+asserts_after s k = cond (asserted s k) (more s.asserts) s.asserts
 
 -- the assert that it ends, if it does, is ( assert name )
-abbrev pub bare_after : Scan → ℕ → Bool
-bare_after s k = cond (asserted s k) (eqb s.words 3 && eqb (kind_of s.previous) 4) s.bare
+abbrev pub bare_after : Scan → Kind → Bool
+bare_after s k = cond (asserted s k) (eqb s.words 3 && name_kind (kind_of s.previous)) s.bare
 
 abbrev pub spanned : ℕ → ℕ → Span
 spanned from to = record { from = from; to = to }
+
+-- where the command begins, and the last assert
+abbrev pub begun_after : Scan → Token → ℕ
+begun_after s t = cond (outside s.command) t.from s.begun
+
+abbrev pub last_after : Scan → Token → Span
+last_after s t = cond (asserted s (kind_of t.word)) (spanned s.begun t.next) s.last
 
 -- before the first word
 abbrev pub start : Scan
 start =
     record {
-      command = 0;
+      command = commands.Outside;
       depth = 0;
       words = 0;
       terms = 0;
@@ -111,7 +167,7 @@ start =
       bare = false;
       begun = 0;
       last = spanned 0 0;
-      previous = End;
+      previous = words.End;
     }
 
 -- after one word more
@@ -122,11 +178,11 @@ step s t =
       command = command_after s k;
       depth = depth_after s k;
       words = words_after s k;
-      terms = cond (adds s k) (more s.terms) s.terms;
-      asserts = cond (asserted s k) (more s.asserts) s.asserts;
+      terms = terms_after s k;
+      asserts = asserts_after s k;
       bare = bare_after s k;
-      begun = cond (eqb s.command 0) t.from s.begun;
-      last = cond (asserted s k) (spanned s.begun t.next) s.last;
+      begun = begun_after s t;
+      last = last_after s t;
       previous = t.word;
     }
 

@@ -11,28 +11,25 @@ fn put_line(name: &[u8], at: usize, room: &mut [u8])
         ≡ (take at room.old ++ (name.now ++ (10 ∷ [])))
         ++ drop (at + length name.now + 1) room.old }
 {
-    for i in 0..name.len() {
-        room[at + i] = name[i];
-    }
-    room[at + name.len()] = b'\n';
+    let end = at + name.len();
+    room[at..end].copy_from_slice(name);
+    room[end] = b'\n';
 }
 
-// The declared names at the room's front, a line feed after each, as many as fit wholly; the bytes written.
+/// The declared names at the room's front, a line feed after each, as many as fit wholly; the bytes written.
 pub fn put_names(text: &[u8], names: u32, room: &mut [u8]) -> usize
     ensures value { result ≡ length (names_in text.now names (length room.old)) }
     ensures room_after { room.new
         ≡ names_in text.now names (length room.old) ++ drop result room.old }
 {
-    let mut at = 0usize;
+    let mut at = 0;
     for k in 0..names {
-        let s = span_of(text, k);
-        let to = smtlib::lower(s.to, text.len());
-        let from = smtlib::lower(s.from, to);
-        if room.len() - at <= to - from {
+        let name = span_of(text, k).of(text);
+        if room.len() - at <= name.len() {
             return at;
         }
-        put_line(&text[from..to], at, room);
-        at = at + (to - from) + 1;
+        put_line(name, at, room);
+        at += name.len() + 1;
     }
     at
 }

@@ -1,23 +1,57 @@
 // A text word by word from the left: in which command it stands, how deep, and how many terms there are.
-ghost use Rattle.std.specs.Prelude.{◌≡◌, cond, ◌-◌};
-ghost use Rattle.outline.specs.Scanning.{keyword_kind, kind_of, more, ends, declares, constant, lists, joins};
-ghost use Rattle.outline.specs.Scanning.{doubles, adds, command_after, depth_after, words_after, asserted};
-ghost use Rattle.outline.specs.Scanning.{bare_after, spanned, start, step, context_at};
+ghost use Rattle.std.specs.Prelude.{◌≡◌};
+ghost use Rattle.smtlib.specs.Bytes.{part};
+ghost use Rattle.outline.specs.Scanning.{keyword_kind, kind_of, ends, lists, joins, doubles, adds};
+ghost use Rattle.outline.specs.Scanning.{command_after, depth_after, words_after, asserted, terms_after};
+ghost use Rattle.outline.specs.Scanning.{asserts_after, bare_after, begun_after, last_after};
+ghost use Rattle.outline.specs.Scanning.{start, step, context_at};
 
-use parser::{Token, Word, token_at};
-use smtlib::lower;
+use crate::words::Words;
+use parser::{Keyword, Token, Word};
 
-// The bytes from one place up to another.
-#[derive(Clone, Copy)]
+/// The bytes from one place up to another.
+#[derive(Clone, Copy, Debug, PartialEq, Eq)]
 pub struct Span {
     pub from: usize,
     pub to: usize,
 }
 
+impl Span {
+    /// These bytes of a text; places past its end are its end.
+    pub fn of(self, text: &[u8]) -> &[u8]
+        ensures { result.now ≡ part text.now self.from self.to }
+    {
+        let to = self.to.min(text.len());
+        &text[self.from.min(to)..to]
+    }
+}
+
+/// What a word is to a scan: declare-const, assert and check-sat are told from other keywords.
+#[derive(Clone, Copy, Debug, PartialEq, Eq)]
+pub enum Kind {
+    Open,
+    Close,
+    Constant,
+    Name,
+    DeclareConst,
+    Assert,
+    CheckSat,
+    Other,
+}
+
+/// Where a scan stands: between commands, after a command's parenthesis, or in a command.
+#[derive(Clone, Copy, Debug, PartialEq, Eq)]
+pub enum Command {
+    Outside,
+    Begun,
+    DeclareConst,
+    Assert,
+    CheckSat,
+}
+
 #[derive(Clone, Copy)]
 pub struct Scan {
-    // 0 between commands, 1 after its parenthesis, 2 declaration, 3 assert, 4 check-sat
-    pub command: u32,
+    pub command: Command,
     // the parentheses that are open, the command's own too, and the words of it that were read
     pub depth: u32,
     pub words: u32,
@@ -33,201 +67,209 @@ pub struct Scan {
     pub previous: Word,
 }
 
-fn keyword_kind(k: u32) -> u32
-    ensures { result ≡ keyword_kind k }
+fn keyword_kind(keyword: Keyword) -> Kind
+    ensures { result ≡ keyword_kind keyword }
 {
-    if k < 3 { k + 5 } else { 0 }
+    match keyword {
+        Keyword::DeclareConst => Kind::DeclareConst,
+        Keyword::Assert => Kind::Assert,
+        Keyword::CheckSat => Kind::CheckSat,
+        Keyword::Underscore => Kind::Other,
+    }
 }
 
-// ( 1, ) 2, a constant 3, a name 4; declare-const, assert, check-sat 5 to 7; any other word 0.
-pub fn kind_of(word: Word) -> u32
+pub fn kind_of(word: Word) -> Kind
     ensures { result ≡ kind_of word }
 {
     match word {
-        Word::Open => 1,
-        Word::Close => 2,
-        Word::Keyword(k) => keyword_kind(k),
-        Word::Operator(_) => 0,
-        Word::Literal(_, _) => 3,
-        Word::Width(_) => 0,
-        Word::Name(_) => 4,
-        Word::Other => 0,
-        Word::End => 0,
+        Word::Open => Kind::Open,
+        Word::Close => Kind::Close,
+        Word::Keyword(keyword) => keyword_kind(keyword),
+        Word::Literal(_, _) => Kind::Constant,
+        Word::Name(_) => Kind::Name,
+        _ => Kind::Other,
     }
 }
 
-pub fn pick(test: bool, a: u32, b: u32) -> u32
-    ensures { result ≡ cond test a b }
-{
-    if test { a } else { b }
-}
+impl Scan {
+    /// Before the first word.
+    pub(crate) fn start() -> Scan
+        ensures { result ≡ start }
+    {
+        Scan {
+            command: Command::Outside,
+            depth: 0,
+            words: 0,
+            terms: 0,
+            asserts: 0,
+            bare: false,
+            begun: 0,
+            last: Span { from: 0, to: 0 },
+            previous: Word::End,
+        }
+    }
 
-pub fn pick_place(test: bool, a: usize, b: usize) -> usize
-    ensures { result ≡ cond test a b }
-{
-    if test { a } else { b }
-}
+    // The word closes the command.
+    fn ends(self, kind: Kind) -> bool
+        ensures { result ≡ ends self kind }
+    {
+        kind == Kind::Close && self.depth <= 1
+    }
 
-fn pick_truth(test: bool, a: bool, b: bool) -> bool
-    ensures { result ≡ cond test a b }
-{
-    if test { a } else { b }
-}
+    /// The word ends a list.
+    pub(crate) fn lists(self, kind: Kind) -> bool
+        ensures { result ≡ lists self kind }
+    {
+        self.command == Command::Assert && kind == Kind::Close && 1 < self.depth
+    }
 
-pub fn pick_span(test: bool, a: Span, b: Span) -> Span
-    ensures { result ≡ cond test a b }
-{
-    if test { a } else { b }
-}
+    /// The word ends an assert that is joined to those before it.
+    pub(crate) fn joins(self, kind: Kind) -> bool
+        ensures { result ≡ joins self kind }
+    {
+        self.command == Command::Assert && self.ends(kind) && 0 < self.asserts
+    }
 
-pub fn spanned(from: usize, to: usize) -> Span
-    ensures { result ≡ spanned from to }
-{
-    Span { from, to }
-}
+    /// The word is check-sat after a sole assert of a bare name.
+    pub(crate) fn doubles(self, kind: Kind) -> bool
+        ensures { result ≡ doubles self kind }
+    {
+        self.command == Command::Begun && kind == Kind::CheckSat && self.asserts == 1 && self.bare
+    }
 
-// One more; 2^32 - 1 is the most that is counted.
-fn more(n: u32) -> u32
-    ensures { result ≡ more n }
-{
-    if n < 4294967295 { n + 1 } else { n }
-}
+    /// The word adds a term: a declared name or a constant too.
+    pub(crate) fn adds(self, kind: Kind) -> bool
+        ensures { result ≡ adds self kind }
+    {
+        let declares = self.command == Command::DeclareConst && self.words == 2;
+        let constant = self.command == Command::Assert && kind == Kind::Constant;
+        declares || constant || self.lists(kind) || self.joins(kind) || self.doubles(kind)
+    }
 
-fn less(n: u32, by: u32) -> u32
-    ensures { result ≡ n - by }
-{
-    if by < n { n - by } else { 0 }
-}
+    fn command_after(self, kind: Kind) -> Command
+        ensures { result ≡ command_after self kind }
+    {
+        if self.ends(kind) {
+            return Command::Outside;
+        }
+        match (self.command, kind) {
+            (Command::Outside, Kind::Open) => Command::Begun,
+            (Command::Begun, Kind::DeclareConst) => Command::DeclareConst,
+            (Command::Begun, Kind::Assert) => Command::Assert,
+            (Command::Begun, Kind::CheckSat) => Command::CheckSat,
+            (command, _) => command,
+        }
+    }
 
-// A word of kind `k` closes the command.
-fn ends(s: Scan, k: u32) -> bool
-    ensures { result ≡ ends s k }
-{
-    (k == 2) & (s.depth <= 1)
-}
+    fn depth_after(self, kind: Kind) -> u32
+        ensures { result ≡ depth_after self kind }
+    {
+        match kind {
+            Kind::Open => self.depth.saturating_add(1),
+            Kind::Close => self.depth.saturating_sub(1),
+            _ => self.depth,
+        }
+    }
 
-// It ends a list.
-pub fn lists(s: Scan, k: u32) -> bool
-    ensures { result ≡ lists s k }
-{
-    (s.command == 3) & ((k == 2) & (1 < s.depth))
-}
+    fn words_after(self, kind: Kind) -> u32
+        ensures { result ≡ words_after self kind }
+    {
+        match self.command_after(kind) {
+            Command::Outside => 0,
+            _ => self.words.saturating_add(1),
+        }
+    }
 
-// It ends an assert that is joined to those before it.
-pub fn joins(s: Scan, k: u32) -> bool
-    ensures { result ≡ joins s k }
-{
-    (s.command == 3) & (ends(s, k) & (0 < s.asserts))
-}
+    // The word ends an assert.
+    fn asserted(self, kind: Kind) -> bool
+        ensures { result ≡ asserted self kind }
+    {
+        self.command == Command::Assert && self.ends(kind)
+    }
 
-// It is check-sat after a sole assert of a bare name.
-pub fn doubles(s: Scan, k: u32) -> bool
-    ensures { result ≡ doubles s k }
-{
-    (s.command == 1) & (k == 7) & ((s.asserts == 1) & s.bare)
-}
+    fn terms_after(self, kind: Kind) -> u32
+        ensures { result ≡ terms_after self kind }
+    {
+        if self.adds(kind) {
+            self.terms.saturating_add(1)
+        } else {
+            self.terms
+        }
+    }
 
-// It adds a term: a declared name or a constant too.
-pub fn adds(s: Scan, k: u32) -> bool
-    ensures { result ≡ adds s k }
-{
-    let declares = (s.command == 2) & (s.words == 2);
-    let constant = (s.command == 3) & (k == 3);
-    declares | constant | lists(s, k) | joins(s, k) | doubles(s, k)
-}
+    fn asserts_after(self, kind: Kind) -> u32
+        ensures { result ≡ asserts_after self kind }
+    {
+        if self.asserted(kind) {
+            self.asserts.saturating_add(1)
+        } else {
+            self.asserts
+        }
+    }
 
-fn command_after(s: Scan, k: u32) -> u32
-    ensures { result ≡ command_after s k }
-{
-    let named = pick((s.command == 1) & (4 < k), less(k, 3), s.command);
-    let begun = pick(k == 1, 1, 0);
-    pick(ends(s, k), 0, pick(s.command == 0, begun, named))
-}
+    fn bare_after(self, kind: Kind) -> bool
+        ensures { result ≡ bare_after self kind }
+    {
+        if self.asserted(kind) {
+            self.words == 3 && kind_of(self.previous) == Kind::Name
+        } else {
+            self.bare
+        }
+    }
 
-fn depth_after(s: Scan, k: u32) -> u32
-    ensures { result ≡ depth_after s k }
-{
-    pick(
-        k == 1,
-        more(s.depth),
-        pick(k == 2, less(s.depth, 1), s.depth),
-    )
-}
+    fn begun_after(self, token: Token) -> usize
+        ensures { result ≡ begun_after self token }
+    {
+        if self.command == Command::Outside {
+            token.from
+        } else {
+            self.begun
+        }
+    }
 
-fn words_after(s: Scan, k: u32) -> u32
-    ensures { result ≡ words_after s k }
-{
-    pick(command_after(s, k) == 0, 0, more(s.words))
-}
+    fn last_after(self, token: Token) -> Span
+        ensures { result ≡ last_after self token }
+    {
+        if self.asserted(kind_of(token.word)) {
+            Span {
+                from: self.begun,
+                to: token.next,
+            }
+        } else {
+            self.last
+        }
+    }
 
-// It ends an assert.
-fn asserted(s: Scan, k: u32) -> bool
-    ensures { result ≡ asserted s k }
-{
-    (s.command == 3) & ends(s, k)
-}
-
-fn bare_after(s: Scan, k: u32) -> bool
-    ensures { result ≡ bare_after s k }
-{
-    let word = s.previous;
-    pick_truth(
-        asserted(s, k),
-        (s.words == 3) & (kind_of(word) == 4),
-        s.bare,
-    )
-}
-
-pub fn start() -> Scan
-    ensures { result ≡ start }
-{
-    Scan {
-        command: 0,
-        depth: 0,
-        words: 0,
-        terms: 0,
-        asserts: 0,
-        bare: false,
-        begun: 0,
-        last: Span { from: 0, to: 0 },
-        previous: Word::End,
+    /// After one word more.
+    pub(crate) fn step(self, token: Token) -> Scan
+        ensures { result ≡ step self token }
+    {
+        let kind = kind_of(token.word);
+        Scan {
+            command: self.command_after(kind),
+            depth: self.depth_after(kind),
+            words: self.words_after(kind),
+            terms: self.terms_after(kind),
+            asserts: self.asserts_after(kind),
+            bare: self.bare_after(kind),
+            begun: self.begun_after(token),
+            last: self.last_after(token),
+            previous: token.word,
+        }
     }
 }
 
-// After one word more.
-pub fn step(s: Scan, t: Token) -> Scan
-    ensures { result ≡ step s t }
-{
-    let word = t.word;
-    let k = kind_of(word);
-    let last = s.last;
-    Scan {
-        command: command_after(s, k),
-        depth: depth_after(s, k),
-        words: words_after(s, k),
-        terms: pick(adds(s, k), more(s.terms), s.terms),
-        asserts: pick(asserted(s, k), more(s.asserts), s.asserts),
-        bare: bare_after(s, k),
-        begun: pick_place(s.command == 0, t.from, s.begun),
-        last: pick_span(asserted(s, k), spanned(s.begun, t.next), last),
-        previous: word,
-    }
-}
-
-// The scan before the word at a place.
+/// The scan before the word at a place.
 pub fn context_at(text: &[u8], place: usize) -> Scan
     ensures { result ≡ context_at text.now place }
 {
-    let stop = lower(place, text.len());
-    let mut s = start();
-    let mut at = 0usize;
-    for _ in 0..text.len() {
-        let t = token_at(text, at);
-        if stop <= t.from {
-            return s;
+    let stop = place.min(text.len());
+    let mut scan = Scan::start();
+    for token in Words::new(text) {
+        if stop <= token.from {
+            break;
         }
-        s = step(s, t);
-        at = t.next;
+        scan = scan.step(token);
     }
-    s
+    scan
 }

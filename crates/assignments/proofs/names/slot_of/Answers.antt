@@ -1,34 +1,20 @@
-use mathlib.Core.Path.{ap, ◌∙◌}
-use mathlib.Core.List.{List}
-use Prim.Native.Nat.{ℕ, ◌≤◌}
-use lib.ListN.{length}
-use Rattle.smtlib.proofs.Searches.{within, part_is}
-use Rattle.assignments.specs.Seeking.{slot_of}
+use mathlib.Core.Path.{sym, ◌∙◌}
+use Rattle.assignments.proofs.Ways.{slot_none, slot_here, slot_later}
 use Rattle.assignments.proofs.names.slot_of.Goals as goal
 
+pub returns-then-same_bytes : goal.returns-then-same_bytes
+returns-then-same_bytes c =
+    c.slot_at.ensures
+    ∙ slot_here c.args.word.now c.loop-name.k _ c.in-Some.name.now _ c.in-Some.ensures.steps (sym c.same_bytes.ensures ∙ c.if-same_bytes.true)
+    ∙ c.loop-name.invariant.1
+
+pub loop-name-preserved : goal.loop-name-preserved
+loop-name-preserved c = (
+  (tt, tt),
+  rw c.saturating_add-k.ensures (
+      slot_later c.args.word.now c.loop-name.k _ c.in-Some.name.now _ c.in-Some.ensures.steps (sym c.same_bytes.ensures ∙ c.if-same_bytes.false)
+      ∙ c.loop-name.invariant.1),
+)
+
 pub returns : goal.returns
-returns c = c.slot_in.ensures ∙ ap (λ (l : List ℕ). slot_of c.args.names.now l) (part_is c.args.text.now c.args.t.from c.args.t.to c.lower-to.result c.lower-from.result c.lower-to.ensures c.lower-from.ensures)
-
-pub lower-to-requires : goal.lower-to-requires
-lower-to-requires c = tt
-
-pub lower-from-requires : goal.lower-from-requires
-lower-from-requires c = tt
-
-pub slice_bounds-slot_in-count : goal.slice_bounds-slot_in-count
-slice_bounds-slot_in-count c =
-    let inside : (c.lower-from.result ≤ c.lower-to.result) × (c.lower-to.result ≤ length c.args.text.now) = within c.args.text.now c.args.t.from c.args.t.to c.lower-to.result c.lower-from.result c.lower-to.ensures c.lower-from.ensures in
-    inside.0
-
-pub slice_bounds-slot_in-start : goal.slice_bounds-slot_in-start
-slice_bounds-slot_in-start c =
-    let inside : (c.lower-from.result ≤ c.lower-to.result) × (c.lower-to.result ≤ length c.args.text.now) = within c.args.text.now c.args.t.from c.args.t.to c.lower-to.result c.lower-from.result c.lower-to.ensures c.lower-from.ensures in
-    inside.0
-
-pub slice_bounds-slot_in-end : goal.slice_bounds-slot_in-end
-slice_bounds-slot_in-end c =
-    let inside : (c.lower-from.result ≤ c.lower-to.result) × (c.lower-to.result ≤ length c.args.text.now) = within c.args.text.now c.args.t.from c.args.t.to c.lower-to.result c.lower-from.result c.lower-to.ensures c.lower-from.ensures in
-    inside.1
-
-pub slot_in-requires : goal.slot_in-requires
-slot_in-requires c = tt
+returns c = slot_none c.args.word.now c.loop-name.k _ c.in-None.ensures.steps.0 ∙ c.loop-name.invariant.1

@@ -1,79 +1,43 @@
-use mathlib.Core.Path.{◌≡◌, refl, sym, ap, ◌∙◌}
-use mathlib.Core.Bool.{Bool, true, false, cond, not, ◌||◌}
-use mathlib.Core.List.{List, ◌∷◌}
-use Prim.Native.Nat.{ℕ}
-use native.Mathlib.Omega.{arith}
-use lib.Dec.{eqb}
-use borrow.Author.Tests.{not-true, not-false}
-use Rattle.assignments.specs.declared.tokens.Token.{Token}
-use Rattle.assignments.specs.Tokens.{word, code_of}
+use mathlib.Core.Path.{sym, ap, ◌∙◌}
+use mathlib.Core.Bool.{Bool}
+use Rattle.assignments.specs.Tokens.{tokens_left}
 use Rattle.assignments.specs.Seeking.{neutral, heading, by_parts_from}
-use Rattle.assignments.proofs.TokenLists.{begun, through, stopped, met, onward, rest}
+use Rattle.assignments.proofs.Ways.{parts_none, parts_found, parts_stop, parts_on}
 use Rattle.assignments.proofs.seek.by_parts.Goals as goal
-
--- after a heading; before it, with a token that is skipped or the heading, or another
-found_turn : (text : List ℕ) (found : Bool) (t : Token) (ts : List Token) → found ≡ true → (code : ℕ) → code ≡ code_of (word text t)
-    → not (eqb code 1 || eqb code 2) ≡ by_parts_from text found (t ∷ ts)
-unfolding by_parts_from
-found_turn text found t ts e code is = ap (λ (n : ℕ). not (eqb n 1 || eqb n 2)) is ∙ rw e
-
-seek-turn : (text : List ℕ) (found : Bool) (t : Token) (ts : List Token) → found ≡ false → (n h : Bool) → n ≡ neutral (word text t) → h ≡ heading (word text t)
-    → by_parts_from text found (t ∷ ts) ≡ cond (n || h) (by_parts_from text (not n) ts) false
-unfolding by_parts_from
-seek-turn text found t ts e n h p q =
-    ap (λ (b : Bool). cond b (not (eqb (code_of (word text t)) 1 || eqb (code_of (word text t)) 2)) (cond (neutral (word text t) || heading (word text t)) (by_parts_from text (not (neutral (word text t))) ts) false)) e
-    ∙ ap (λ (b : Bool). cond (b || heading (word text t)) (by_parts_from text (not b) ts) false) (sym p)
-    ∙ ap (λ (b : Bool). cond (n || b) (by_parts_from text (not n) ts) false) (sym q)
-
-pub returns-then-text-t : goal.returns-then-text-t
-unfolding by_parts_from
-returns-then-text-t c = stopped (by_parts_from c.args.text.now c.loop.found) _ c.args.text.now c.loop.at c.loop.counter c.loop.invariant c.loop-test.true c.token_at-t.result c.token_at-t.ensures c.if-text-t.true
 
 pub returns-then-found : goal.returns-then-found
 returns-then-found c =
-    let g = by_parts_from c.args.text.now c.loop.found in
-    let b = c.loop-test.true in
-    let ts = rest g _ c.args.text.now c.loop.at c.loop.counter c.loop.invariant b c.token_at-t.result c.token_at-t.ensures in
-    found_turn c.args.text.now c.loop.found c.token_at-t.result ts c.if-found.true c.code_of-code.result c.code_of-code.ensures
-    ∙ met g _ c.args.text.now c.loop.at c.loop.counter c.loop.invariant b c.token_at-t.result c.token_at-t.ensures c.if-text-t.false
+    rw (c.assigns.ensures, c.of.ensures, c.of-word.ensures) (parts_found c.args.text.now _ c.in-Some.token _ c.in-Some.ensures.steps)
+    ∙ ap (λ (b : Bool). by_parts_from c.args.text.now b (tokens_left c.loop-token.token-iterator.text.now c.loop-token.token-iterator.at)) (sym c.if-found.true)
+    ∙ c.loop-token.invariant.1
 
-pub returns-then-not-skip-heading : goal.returns-then-not-skip-heading
-returns-then-not-skip-heading c =
-    let g = by_parts_from c.args.text.now c.loop.found in
-    let b = c.loop-test.true in
-    let ts = rest g _ c.args.text.now c.loop.at c.loop.counter c.loop.invariant b c.token_at-t.result c.token_at-t.ensures in
-    sym (seek-turn c.args.text.now c.loop.found c.token_at-t.result ts c.if-found.false c.neutral-skip.result c.heading.result c.neutral-skip.ensures c.heading.ensures
-    ∙ ap (λ (x : Bool). cond x (by_parts_from c.args.text.now (not c.neutral-skip.result) ts) false) (not-true (c.neutral-skip.result || c.heading.result) c.if-not-skip-heading.true-raw))
-    ∙ met g _ c.args.text.now c.loop.at c.loop.counter c.loop.invariant b c.token_at-t.result c.token_at-t.ensures c.if-text-t.false
+pub returns-then-not-heading : goal.returns-then-not-heading
+returns-then-not-heading c =
+    parts_stop c.args.text.now _ c.in-Some.token _ c.in-Some.ensures.steps
+    (sym (c.neutral.ensures ∙ ap neutral c.of-word.ensures) ∙ c.if-not-neutral.true)
+    (sym (c.heading.ensures ∙ ap heading c.of-word.ensures) ∙ c.if-not-heading.true)
+    ∙ ap (λ (b : Bool). by_parts_from c.args.text.now b (tokens_left c.loop-token.token-iterator.text.now c.loop-token.token-iterator.at)) (sym c.if-found.false)
+    ∙ c.loop-token.invariant.1
 
-pub loop-preserved : goal.loop-preserved
-loop-preserved c =
-    onward (by_parts_from c.args.text.now c.loop.found) _ c.args.text.now c.loop.at c.loop.counter c.loop.invariant c.loop-test.true c.token_at-t.result c.token_at-t.ensures c.if-text-t.false (by_parts_from c.args.text.now (not c.neutral-skip.result))
-    (λ ts.
-    seek-turn c.args.text.now c.loop.found c.token_at-t.result ts c.if-found.false c.neutral-skip.result c.heading.result c.neutral-skip.ensures c.heading.ensures
-    ∙ ap (λ (x : Bool). cond x (by_parts_from c.args.text.now (not c.neutral-skip.result) ts) false) (not-false (c.neutral-skip.result || c.heading.result) c.if-not-skip-heading.false-raw))
+pub loop-token-preserved-then-not-neutral : goal.loop-token-preserved-then-not-neutral
+loop-token-preserved-then-not-neutral c =
+    let n = sym (c.neutral.ensures ∙ ap neutral c.of-word.ensures) ∙ c.if-not-neutral.true in
+    let h = sym (c.heading.ensures ∙ ap heading c.of-word.ensures) ∙ c.if-not-heading.false in (
+      (tt, tt),
+      rw n at (parts_on c.args.text.now _ c.in-Some.token _ c.in-Some.ensures.steps (rw (n, h)))
+          ∙ ap (λ (b : Bool). by_parts_from c.args.text.now b (tokens_left c.loop-token.token-iterator.text.now c.loop-token.token-iterator.at)) (sym c.if-found.false)
+          ∙ c.loop-token.invariant.1,
+    )
+
+pub loop-token-preserved : goal.loop-token-preserved
+loop-token-preserved c =
+    let n = sym (c.neutral.ensures ∙ ap neutral c.of-word.ensures) ∙ c.if-not-neutral.false in (
+      (tt, tt),
+      rw c.if-found.false (
+          rw n at (parts_on c.args.text.now _ c.in-Some.token _ c.in-Some.ensures.steps (rw n))
+          ∙ ap (λ (b : Bool). by_parts_from c.args.text.now b (tokens_left c.loop-token.token-iterator.text.now c.loop-token.token-iterator.at)) (sym c.if-found.false)
+          ∙ c.loop-token.invariant.1),
+    )
 
 pub returns : goal.returns
-unfolding by_parts_from
-returns c = through (by_parts_from c.args.text.now c.loop.found) _ c.args.text.now c.loop.at c.loop.counter c.loop.invariant c.loop-test.false
-
-pub loop-init : goal.loop-init
-loop-init c = begun (by_parts_from c.args.text.now false) _ c.args.text.now refl
-
-pub token_at-t-requires : goal.token_at-t-requires
-token_at-t-requires c = tt
-
-pub code_of-code-requires : goal.code_of-code-requires
-code_of-code-requires c = tt
-
-pub neutral-skip-requires : goal.neutral-skip-requires
-neutral-skip-requires c = tt
-
-pub heading-requires : goal.heading-requires
-heading-requires c = tt
-
-pub overflow_step : goal.overflow_step
-overflow_step c = omega (arith, c.loop-test.true)
-
-pub loop-smaller : goal.loop-smaller
-loop-smaller c = omega (arith, c.loop-test.true)
+returns c = parts_none c.args.text.now _ c.loop-token.found c.in-None.ensures.steps.0 ∙ c.loop-token.invariant.1

@@ -1,11 +1,9 @@
-use Prim.Native.Nat.{◌-◌}
-use lib.ListN.{length}
+use mathlib.Core.Path.{◌≡◌}
+use Rattle.assignments.specs.Tokens.{tokens_left}
 use Rattle.assignments.specs.Seeking.{place_from, place_after}
-use Rattle.assignments.proofs.TokenLists.{Reached}
 use Rattle.assignments.proofs.seek.place_after.Given as goal
 
-abbrev pub invariant-loop : goal.invariant-loop
-invariant-loop l = Reached (place_from l.text l.w l.equals l.left l.met) (place_after l.text l.w l.equals l.k) l.text l.at l.counter
-
-abbrev pub decreases-loop : goal.decreases-loop
-decreases-loop l = length l.text - l.counter
+abbrev pub invariant-loop-token : goal.invariant-loop-token
+invariant-loop-token l =
+    ((goal.iterator-loop-token).can_next l.token-iterator × (goal.iterator-loop-token).is_finite l.token-iterator)
+    × (place_from l.text l.sought l.equals l.left l.met (tokens_left l.token-iterator.text.now l.token-iterator.at) ≡ place_after l.text l.sought l.equals l.k)

@@ -1,34 +1,12 @@
-use mathlib.Core.Path.{ap, ◌∙◌}
-use mathlib.Core.List.{List}
-use Prim.Native.Nat.{ℕ, ◌≤◌}
-use lib.ListN.{length}
-use Rattle.smtlib.proofs.Searches.{within, part_is}
-use Rattle.assignments.specs.Tokens.{decimal_from}
+use mathlib.Core.Path.{sym, ◌∙◌}
+use Rattle.assignments.proofs.Ways.{decimal_all, decimal_none, decimal_on}
 use Rattle.assignments.proofs.tokens.decimal_of.Goals as goal
 
+pub returns-then-not-digit : goal.returns-then-not-digit
+returns-then-not-digit c = decimal_none c.args.word.now c.loop-b.value c.loop-b.b-index c.loop-b.invariant c.loop-b-test.true (sym c.digit.ensures ∙ c.if-not-digit.true)
+
+pub loop-b-preserved : goal.loop-b-preserved
+loop-b-preserved c = decimal_on c.args.word.now c.loop-b.value c.loop-b.b-index c.loop-b.invariant c.loop-b-test.true (sym c.digit.ensures ∙ c.if-not-digit.false) c.next_value-value.result c.next_value-value.ensures
+
 pub returns : goal.returns
-returns c = c.decimal_in.ensures ∙ ap (λ (l : List ℕ). decimal_from 0 l) (part_is c.args.text.now c.args.t.from c.args.t.to c.lower-to.result c.lower-from.result c.lower-to.ensures c.lower-from.ensures)
-
-pub lower-to-requires : goal.lower-to-requires
-lower-to-requires c = tt
-
-pub lower-from-requires : goal.lower-from-requires
-lower-from-requires c = tt
-
-pub slice_bounds-decimal_in-count : goal.slice_bounds-decimal_in-count
-slice_bounds-decimal_in-count c =
-    let inside : (c.lower-from.result ≤ c.lower-to.result) × (c.lower-to.result ≤ length c.args.text.now) = within c.args.text.now c.args.t.from c.args.t.to c.lower-to.result c.lower-from.result c.lower-to.ensures c.lower-from.ensures in
-    inside.0
-
-pub slice_bounds-decimal_in-start : goal.slice_bounds-decimal_in-start
-slice_bounds-decimal_in-start c =
-    let inside : (c.lower-from.result ≤ c.lower-to.result) × (c.lower-to.result ≤ length c.args.text.now) = within c.args.text.now c.args.t.from c.args.t.to c.lower-to.result c.lower-from.result c.lower-to.ensures c.lower-from.ensures in
-    inside.0
-
-pub slice_bounds-decimal_in-end : goal.slice_bounds-decimal_in-end
-slice_bounds-decimal_in-end c =
-    let inside : (c.lower-from.result ≤ c.lower-to.result) × (c.lower-to.result ≤ length c.args.text.now) = within c.args.text.now c.args.t.from c.args.t.to c.lower-to.result c.lower-from.result c.lower-to.ensures c.lower-from.ensures in
-    inside.1
-
-pub decimal_in-requires : goal.decimal_in-requires
-decimal_in-requires c = tt
+returns c = decimal_all c.args.word.now c.loop-b.value c.loop-b.b-index c.loop-b.invariant c.loop-b-test.false

@@ -1,34 +1,33 @@
 use mathlib.Core.Path.{sym, ap, ◌∙◌}
-use Prim.Native.Nat.{ℕ}
+use mathlib.Core.Bool.{false}
+use Prim.Native.Nat.{ℕ, ◌+◌}
 use native.Mathlib.Omega.{arith}
-use lib.ListN.{get_or}
-use Rattle.assignments.specs.Tokens.{bracket, token_at}
-use Rattle.assignments.proofs.Ways.{bracket-within}
+use lib.ListN.{drop, length-drop}
+use Rattle.std.specs.List.{prefix_len}
+use Rattle.std.proofs.lemmas.List.Sums.{prefix_len-le-length}
+use Rattle.assignments.specs.Tokens.{bracket, skipped_from, inside}
+use Rattle.assignments.proofs.Ways.{skipped-most, token_bracket, token_inside}
 use Rattle.assignments.proofs.tokens.token_at.Goals as goal
 
-pub overflow_add-result : goal.overflow_add-result
-overflow_add-result c = omega (arith, bracket-within c.args.text.now c.past_skipped-from.result (sym (c.bracket.ensures ∙ ap bracket c.byte_at.ensures) ∙ c.if-bracket.true))
+pub overflow_add-from : goal.overflow_add-from
+overflow_add-from c =
+    let e = c.skipped_length.ensures ∙ ap (skipped_from false) c.rest_of.ensures in
+    omega (arith, e, skipped-most false (drop c.args.at c.args.text.now), length-drop c.args.at c.args.text.now)
 
 pub returns-then-bracket : goal.returns-then-bracket
-unfolding token_at
 returns-then-bracket c =
-    let is = sym (c.bracket.ensures ∙ ap bracket (c.byte_at.ensures ∙ ap (λ (n : ℕ). get_or c.args.text.now n 0) c.past_skipped-from.ensures)) ∙ c.if-bracket.true in
-    rw (c.past_skipped-from.ensures, is)
+    token_bracket c.args.text.now c.args.at c.skipped_length.result (c.skipped_length.ensures ∙ ap (skipped_from false) c.rest_of.ensures)
+    (sym (c.bracket.ensures ∙ ap bracket c.byte_at.ensures) ∙ c.if-bracket.true)
+
+pub overflow_add-result-2 : goal.overflow_add-result-2
+overflow_add-result-2 c =
+    let s = c.skipped_length.ensures ∙ ap (skipped_from false) c.rest_of.ensures in
+    let e = c.inside_length.ensures ∙ ap (prefix_len inside) c.rest_of-2.ensures in
+    let n : ℕ = c.args.at + c.skipped_length.result in
+    omega (arith, s, e, skipped-most false (drop c.args.at c.args.text.now), length-drop c.args.at c.args.text.now, prefix_len-le-length inside (drop n c.args.text.now), length-drop n c.args.text.now)
 
 pub returns : goal.returns
-unfolding token_at
 returns c =
-    let is = sym (c.bracket.ensures ∙ ap bracket (c.byte_at.ensures ∙ ap (λ (n : ℕ). get_or c.args.text.now n 0) c.past_skipped-from.ensures)) ∙ c.if-bracket.false in
-    rw (c.past_inside.ensures, c.past_skipped-from.ensures, is)
-
-pub past_skipped-from-requires : goal.past_skipped-from-requires
-past_skipped-from-requires c = tt
-
-pub byte_at-requires : goal.byte_at-requires
-byte_at-requires c = tt
-
-pub bracket-requires : goal.bracket-requires
-bracket-requires c = tt
-
-pub past_inside-requires : goal.past_inside-requires
-past_inside-requires c = tt
+    token_inside c.args.text.now c.args.at c.skipped_length.result (c.skipped_length.ensures ∙ ap (skipped_from false) c.rest_of.ensures)
+    (sym (c.bracket.ensures ∙ ap bracket c.byte_at.ensures) ∙ c.if-bracket.false)
+    c.inside_length.result (c.inside_length.ensures ∙ ap (prefix_len inside) c.rest_of-2.ensures)

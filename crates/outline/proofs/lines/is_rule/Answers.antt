@@ -1,34 +1,17 @@
-use mathlib.Core.Path.{refl, sym}
-use native.Mathlib.Omega.{arith}
+use mathlib.Core.Path.{sym}
 use Rattle.outline.proofs.Ways.{rule_none, rule_found, rule_on}
 use Rattle.outline.proofs.lines.is_rule.Goals as goal
+use Rattle.outline.proofs.lines.is_rule.Goals.{else-not-white-via-then-not-white+else-not-noted, else-not-white-via-else-not-white}
 
-pub returns-then-not-white-noted : goal.returns-then-not-white-noted
-returns-then-not-white-noted c = rule_found c.args.text.now c.loop-i.s c.loop-i.i c.loop-i.invariant c.loop-i-test.true (rw (sym c.noted.ensures, sym c.white.ensures) c.if-not-white-noted.true)
+pub returns-then-not-noted : goal.returns-then-not-noted
+returns-then-not-noted c = rule_found c.args.text.now c.loop-b.stand c.loop-b.b-index c.loop-b.invariant c.loop-b-test.true (rw (sym c.white.ensures, sym c.noted.ensures, c.if-not-white.true, c.if-not-noted.true))
 
-pub loop-i-preserved : goal.loop-i-preserved
-loop-i-preserved c = rule_on c.args.text.now c.loop-i.s c.loop-i.i c.loop-i.invariant c.loop-i-test.true (rw (sym c.noted.ensures, sym c.white.ensures) c.if-not-white-noted.false) c.line_after-s.result c.line_after-s.ensures
+pub loop-b-preserved : goal.loop-b-preserved
+loop-b-preserved c =
+    rw c.after-stand.ensures (rule_on c.args.text.now c.loop-b.stand c.loop-b.b-index c.loop-b.invariant c.loop-b-test.true (elim c.else-not-white.branch [
+      | else-not-white-via-then-not-white+else-not-noted w ↦ rw (sym c.white.ensures, sym w.noted.ensures, w.if-not-white.true, w.if-not-noted.false)
+      | else-not-white-via-else-not-white w ↦ rw (sym c.white.ensures, w.if-not-white.false)
+    ]))
 
 pub returns : goal.returns
-returns c = rule_none c.args.text.now c.loop-i.s c.loop-i.i c.loop-i.invariant c.loop-i-test.false
-
-pub loop-i-init : goal.loop-i-init
-loop-i-init c = refl
-
-pub bounds-text-i : goal.bounds-text-i
-bounds-text-i c = c.loop-i-test.true
-
-pub white-requires : goal.white-requires
-white-requires c = tt
-
-pub noted-requires : goal.noted-requires
-noted-requires c = tt
-
-pub line_after-s-requires : goal.line_after-s-requires
-line_after-s-requires c = tt
-
-pub overflow_step-i : goal.overflow_step-i
-overflow_step-i c = omega (arith, c.loop-i-test.true)
-
-pub loop-i-smaller : goal.loop-i-smaller
-loop-i-smaller c = omega (arith, c.loop-i-test.true)
+returns c = rule_none c.args.text.now c.loop-b.stand c.loop-b.b-index c.loop-b.invariant c.loop-b-test.false

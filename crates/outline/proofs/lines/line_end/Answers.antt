@@ -1,28 +1,19 @@
-use mathlib.Core.Path.{refl, ap}
-use mathlib.Core.Bool.{not}
+use mathlib.Core.Path.{ap, ◌∙◌}
+use Prim.Native.Nat.{ℕ, ◌+◌}
 use native.Mathlib.Omega.{arith}
-use borrow.Author.Tests.{eq-eqb, ne_eqb}
-use Rattle.parser.proofs.Ahead.{found, ended, passed}
+use lib.ListN.{drop, length-drop}
+use Rattle.std.proofs.lemmas.List.Sums.{prefix_len-le-length}
+use Rattle.std.specs.List.{prefix_len}
 use Rattle.outline.specs.Lines.{unfed}
+use Rattle.outline.proofs.Lengths.{ahead_is, rest_is}
 use Rattle.outline.proofs.lines.line_end.Goals as goal
 
-pub returns-then-text-i-eq10 : goal.returns-then-text-i-eq10
-returns-then-text-i-eq10 c = found unfed c.args.text.now c.args.place c.loop-i.i c.loop-i.invariant c.loop-i-test.true (ap not (eq-eqb _ 10 c.if-text-i-eq10.true))
-
-pub loop-i-preserved : goal.loop-i-preserved
-loop-i-preserved c = passed unfed c.args.text.now c.args.place c.loop-i.i c.loop-i.invariant c.loop-i-test.true (ap not (ne_eqb _ 10 c.if-text-i-eq10.false))
+pub overflow_add-result : goal.overflow_add-result
+overflow_add-result c =
+    let e = c.line_length.ensures ∙ ap (prefix_len unfed) (rest_is c.args.text.now c.args.place c.min.result c.min.ensures) in
+    omega (arith, e, prefix_len-le-length unfed (drop c.args.place c.args.text.now), length-drop c.args.place c.args.text.now)
 
 pub returns : goal.returns
-returns c = ended unfed c.args.text.now c.args.place c.loop-i.i c.loop-i.invariant c.loop-i-test.false
-
-pub loop-i-init : goal.loop-i-init
-loop-i-init c = refl
-
-pub bounds-text-i : goal.bounds-text-i
-bounds-text-i c = c.loop-i-test.true
-
-pub overflow_add-i : goal.overflow_add-i
-overflow_add-i c = omega (arith, c.loop-i-test.true)
-
-pub loop-i-smaller : goal.loop-i-smaller
-loop-i-smaller c = omega (arith, c.loop-i-test.true)
+returns c =
+    let e = c.line_length.ensures ∙ ap (prefix_len unfed) (rest_is c.args.text.now c.args.place c.min.result c.min.ensures) in
+    ap (λ (n : ℕ). c.args.place + n) (e ∙ ahead_is unfed (drop c.args.place c.args.text.now))

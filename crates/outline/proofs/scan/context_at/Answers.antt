@@ -1,38 +1,26 @@
-use mathlib.Core.Path.{refl}
+use mathlib.Core.Path.{sym, ap, ◌∙◌}
+use Prim.Native.Nat.{ℕ}
 use native.Mathlib.Omega.{arith}
-use Rattle.outline.specs.Scanning.{scanned}
-use Rattle.outline.proofs.WordLists.{begun, through, stopped, onward}
+use lib.ListN.{length}
+use Rattle.outline.specs.Scanning.{scanned, start, words_from}
+use Rattle.outline.proofs.WordLists.{before_is, scan_none, scan_stop, scan_more}
 use Rattle.outline.proofs.scan.context_at.Goals as goal
 
-pub returns-then-stop-t : goal.returns-then-stop-t
-unfolding scanned
-returns-then-stop-t c = rw c.lower-stop.ensures at (stopped scanned c.args.text.now c.lower-stop.result c.loop.s c.loop.at c.loop.counter c.loop.invariant c.loop-test.true c.token_at-t.result c.token_at-t.ensures c.if-stop-t.true)
+pub loop-token-init : goal.loop-token-init
+loop-token-init c = (
+  (tt, tt),
+  rw (c.into_iter-token-iterator.ensures.into_iter_gives, c.new-token-items.ensures, c.start-scan.ensures) (
+      ap (scanned start) (
+      before_is (length c.args.text.now) c.args.text.now c.min-stop.result 0 (omega (arith, c.min-stop.ensures))
+      ∙ ap (λ (n : ℕ). words_from (length c.args.text.now) c.args.text.now n 0) c.min-stop.ensures)),
+)
 
-pub loop-preserved : goal.loop-preserved
-unfolding scanned
-loop-preserved c = onward scanned c.args.text.now c.lower-stop.result c.loop.s c.loop.at c.loop.counter c.loop.invariant c.loop-test.true c.token_at-t.result c.token_at-t.ensures c.if-stop-t.false c.step-s.result c.step-s.ensures (λ ts. refl)
+pub loop-token-preserved : goal.loop-token-preserved
+loop-token-preserved c =
+    ((tt, tt), rw c.step-scan.ensures (sym (scan_more c.min-stop.result c.loop-token.scan _ c.in-Some.token _ c.in-Some.ensures.steps c.if-stop-token.false) ∙ c.loop-token.invariant.1))
 
-pub returns : goal.returns
-unfolding scanned
-returns c = rw c.lower-stop.ensures at (through scanned c.args.text.now c.lower-stop.result c.loop.s c.loop.at c.loop.counter c.loop.invariant c.loop-test.false)
+pub returns-in-None : goal.returns-in-None
+returns-in-None c = sym (scan_none c.min-stop.result c.loop-token.scan _ c.in-None.ensures.steps.0) ∙ c.loop-token.invariant.1
 
-pub lower-stop-requires : goal.lower-stop-requires
-lower-stop-requires c = tt
-
-pub start-s-requires : goal.start-s-requires
-start-s-requires c = tt
-
-pub loop-init : goal.loop-init
-loop-init c = begun scanned c.args.text.now c.lower-stop.result c.start-s.result c.start-s.ensures
-
-pub token_at-t-requires : goal.token_at-t-requires
-token_at-t-requires c = tt
-
-pub step-s-requires : goal.step-s-requires
-step-s-requires c = tt
-
-pub overflow_step : goal.overflow_step
-overflow_step c = omega (arith, c.loop-test.true)
-
-pub loop-smaller : goal.loop-smaller
-loop-smaller c = omega (arith, c.loop-test.true)
+pub returns-then-stop-token : goal.returns-then-stop-token
+returns-then-stop-token c = sym (scan_stop c.min-stop.result c.loop-token.scan _ c.in-Some.token _ c.in-Some.ensures.steps c.if-stop-token.true) ∙ c.loop-token.invariant.1

@@ -1,11 +1,9 @@
-use Prim.Native.Nat.{◌-◌}
-use lib.ListN.{length}
-use Rattle.outline.specs.Scanning.{scanned}
-use Rattle.outline.proofs.WordLists.{Reached}
+use mathlib.Core.Path.{◌≡◌}
+use Rattle.outline.specs.Scanning.{scanned, words_left, context_at}
+use Rattle.outline.proofs.WordLists.{before}
 use Rattle.outline.proofs.scan.context_at.Given as goal
 
-abbrev pub invariant-loop : goal.invariant-loop
-invariant-loop l = Reached scanned l.text l.stop l.s l.at l.counter
-
-abbrev pub decreases-loop : goal.decreases-loop
-decreases-loop l = length l.text - l.counter
+abbrev pub invariant-loop-token : goal.invariant-loop-token
+invariant-loop-token l =
+    ((goal.iterator-loop-token).can_next l.token-iterator × (goal.iterator-loop-token).is_finite l.token-iterator)
+    × (scanned l.scan (before l.stop (words_left l.token-iterator.text.now l.token-iterator.at)) ≡ context_at l.text l.place)

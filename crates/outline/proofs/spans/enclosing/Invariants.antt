@@ -3,6 +3,3 @@ use Rattle.outline.proofs.spans.enclosing.Given as goal
 
 abbrev pub invariant-loop-k : goal.invariant-loop-k
 invariant-loop-k l = Back l.text l.place l.k l.depth
-
-abbrev pub decreases-loop-k : goal.decreases-loop-k
-decreases-loop-k l = l.k

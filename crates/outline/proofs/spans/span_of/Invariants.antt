@@ -1,11 +1,9 @@
-use Prim.Native.Nat.{◌-◌}
-use lib.ListN.{length}
-use Rattle.outline.specs.Spans.{span_in}
-use Rattle.outline.proofs.WordLists.{Reached}
+use mathlib.Core.Path.{◌≡◌}
+use Rattle.outline.specs.Scanning.{words_left}
+use Rattle.outline.specs.Spans.{span_in, span_of}
 use Rattle.outline.proofs.spans.span_of.Given as goal
 
-abbrev pub invariant-loop : goal.invariant-loop
-invariant-loop l = Reached (span_in l.text l.term) l.text (length l.text) l.s l.at l.counter
-
-abbrev pub decreases-loop : goal.decreases-loop
-decreases-loop l = length l.text - l.counter
+abbrev pub invariant-loop-token : goal.invariant-loop-token
+invariant-loop-token l =
+    ((goal.iterator-loop-token).can_next l.token-iterator × (goal.iterator-loop-token).is_finite l.token-iterator)
+    × (span_in l.text l.term l.scan (words_left l.token-iterator.text.now l.token-iterator.at) ≡ span_of l.text l.term)

@@ -1,8 +1,0 @@
-use borrow.Author.Tests.{lt-ltb, le-ltb}
-use Rattle.assignments.proofs.names.more.Goals as goal
-
-pub returns-then-n-lt4294967295 : goal.returns-then-n-lt4294967295
-returns-then-n-lt4294967295 c = rw (lt-ltb _ _ c.if-n-lt4294967295.true)
-
-pub returns-else-n-lt4294967295 : goal.returns-else-n-lt4294967295
-returns-else-n-lt4294967295 c = rw (le-ltb _ _ c.if-n-lt4294967295.false)

@@ -24,8 +24,7 @@ use Rattle.table.specs.declared.ranks.Rank.{Rank}
 use Rattle.table.specs.declared.ranks.Rank.TheVariants.{Literal, Input, BoolUnary, BoolBinary, Equality, Choice, BvUnary, BvBinary, BvCompare, Read, Write, Other}
 use Rattle.table.specs.declared.ranks.Fields.{Fields}
 use Rattle.table.specs.declared.ranks.Fields.TheVariants.{Value, Slot, One, Two, Three}
-use Rattle.table.specs.declared.Acceptance.{Acceptance}
-use Rattle.table.specs.declared.Acceptance.TheVariants.{Accepted}
+use Rattle.table.specs.Answers.{Acceptance, accepted}
 use Rattle.table.specs.Terms.{words, terms, term_at, sort_at, boolean, vector, scalar, array, vector_of, same_sort}
 use Rattle.table.specs.Ranks.{applied, rank_of, fields_of, slotted, immediate}
 use Rattle.table.specs.Faults.{rank, fields, is_variable, known, sorted, placed_as, typed_as, typed, valued_as, conflicts, clash, size, refuse_unless, fault_if, fault}
@@ -40,6 +39,7 @@ use Rattle.sheets.specs.Marks.{line_at, line_count, mark}
 use Rattle.sheets.specs.Check.{sound, line_fault, sheet_check}
 use Rattle.diagnosis.specs.Telling.{Line, tell, pass, FirstFails}
 use Rattle.diagnosis.specs.Asking.{asks}
+use Rattle.std.proofs.Common.{Some}
 use Rattle.diagnosis.specs.Reasons.{mark_lines, width_lines, uses, field_lines, sort_lines, clashing, clash_lines, first_clashing, table_reasons, term_reasons, setting_reasons, reasons}
 use Rattle.diagnosis.specs.Laws.{Told, Answered, TableTold, SettingTold, SheetTold, AllowanceTold}
 
@@ -49,7 +49,7 @@ first_fails [] e = never (sym e)
 first_fails (l ∷ ls) e = go l.ok refl (first_fails ls) e
   where
     go : (b : Bool) → l.ok ≡ b → (pass ls ≡ false → FirstFails ls (tell ls)) → (b && pass ls) ≡ false
-        → ((l.ok ≡ false) × (cond b (tell ls) l.told ≡ l.told)) ⊎ ((l.ok ≡ true) × FirstFails ls (cond b (tell ls) l.told))
+        → ((l.ok ≡ false) × (cond b (tell ls) (Some l.told) ≡ Some l.told)) ⊎ ((l.ok ≡ true) × FirstFails ls (cond b (tell ls) (Some l.told)))
     go true i later e = inr (i, later e)
     go false i later e = inl (i, refl)
 
@@ -238,7 +238,7 @@ setting_told t sheet values cells allowance =
     (λ e. told_of t sheet values cells allowance 11 0 _ refl (one (eqb (length cells % 3) 0) (not-true (eqb (length cells % 3) 0) e)))
     (λ _.
     scan-told t sheet values cells allowance (λ k. variable_fault values (term_at t k)) (variable_told t sheet values cells allowance) (terms t) 0 _
-    (scan-told t sheet values cells allowance (λ k. cell_fault t (cell_at cells k)) (cell-told t sheet values cells allowance) (cell_count cells) 0 Accepted tt))
+    (scan-told t sheet values cells allowance (λ k. cell_fault t (cell_at cells k)) (cell-told t sheet values cells allowance) (cell_count cells) 0 accepted tt))
 
 pub sheet_told : SheetTold
 unfolding sheet_check Fine reasons

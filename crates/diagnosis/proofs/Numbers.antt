@@ -10,48 +10,51 @@ use native.Mathlib.Omega.{arith}
 use lib.Dec.{eqb, ltb, leb}
 use lib.Pow.{pow_pos}
 use borrow.Author.Tests.{eqb-true, eqb-false, leb-true, leb-false, ltb-true, ltb-false, le-leb, lt-leb}
-use Rattle.ops.proofs.Booleans.{never}
 use Rattle.table.specs.declared.words.Term.{Term}
 use Rattle.table.specs.Terms.{term_at}
 use Rattle.table.specs.Faults.{rank, fields}
-use Rattle.diagnosis.specs.declared.told.Diagnosis.{Diagnosis}
+use Rattle.std.proofs.Common.{Option, Some, subst, ◌++◌}
+use Rattle.diagnosis.specs.declared.reason.Part.{Part}
+use Rattle.diagnosis.specs.declared.reason.Part.TheVariants.{P, Q, R}
+use Rattle.diagnosis.specs.declared.reason.Reason.{Reason}
 use Rattle.diagnosis.specs.declared.asking.Asking.{Asking}
-use Rattle.diagnosis.specs.declared.asking.Asking.TheVariants.{Anything, ABool, AVector, AnArray, NoArray, TermSort, FirstSort, TermIndex, TermElement, FirstIndex, FirstElement}
 use Rattle.diagnosis.specs.declared.terms.Use.{Use}
 use Rattle.diagnosis.specs.declared.terms.Use.TheVariants.{Number, Operand, Unused}
 use Rattle.diagnosis.specs.Telling.{Line, FirstFails}
-use Rattle.diagnosis.specs.Asking.{asks, sort_reason}
-use Rattle.diagnosis.specs.Reasons.{field_line, uses, table_reasons, term_reasons, setting_reasons, reasons}
+use Rattle.diagnosis.specs.Asking.{asks}
+use Rattle.diagnosis.specs.Reasons.{field_line, sort_lines, uses, table_reasons, term_reasons, setting_reasons, reasons}
 use Rattle.diagnosis.specs.Laws.{refusal_of, OwnReasons, MostFits}
 
 -- where a line's test fails, its reason is for this number
 Own : ℕ → List Line → Type 0
 Own number [] = Unit {0}
-Own number (l ∷ ls) = (l.ok ≡ false → refusal_of l.told.reason ≡ number) × Own number ls
+Own number (l ∷ ls) = (l.ok ≡ false → refusal_of (Some l.told) ≡ number) × Own number ls
 
-told-own : (number : ℕ) (ls : List Line) (d : Diagnosis) → Own number ls → FirstFails ls d → refusal_of d.reason ≡ number
+told-own : (number : ℕ) (ls : List Line) (d : Option Reason) → Own number ls → FirstFails ls d → refusal_of d ≡ number
 unfolding Own
 told-own number [] d h f = absurd f
-told-own number (l ∷ ls) d h (inl f) = ap (λ (x : Diagnosis). refusal_of x.reason) f.1 ∙ h.0 f.0
+told-own number (l ∷ ls) d h (inl f) = ap refusal_of f.1 ∙ h.0 f.0
 told-own number (l ∷ ls) d h (inr f) = told-own number ls d h.1 f.1
 
-sort_own : (asking : Asking) → refusal_of (sort_reason asking) ≡ 6
-sort_own Anything = refl
-sort_own ABool = refl
-sort_own AVector = refl
-sort_own AnArray = refl
-sort_own NoArray = refl
-sort_own TermSort = refl
-sort_own FirstSort = refl
-sort_own TermIndex = refl
-sort_own TermElement = refl
-sort_own FirstIndex = refl
-sort_own FirstElement = refl
+field_own : (u : Use) (part : Part) (i v : ℕ) → Own 5 (field_line u part i v)
+unfolding Own
+field_own Number part i v = tt
+field_own Operand part i v = (λ _. refl, tt)
+field_own Unused part i v = (λ _. refl, tt)
 
-field_own : (u : Use) (part i v : ℕ) → (field_line u part i v).ok ≡ false → refusal_of (field_line u part i v).told.reason ≡ 5
-field_own Number part i v e = never (sym e)
-field_own Operand part i v e = refl
-field_own Unused part i v e = refl
+own-append : (number : ℕ) (xs ys : List Line) → Own number xs → Own number ys → Own number (xs ++ ys)
+unfolding Own
+own-append number [] ys h g = g
+own-append number (x ∷ xs) ys h g = (h.0, own-append number xs ys h.1 g)
+
+sort_own : (asks : List (Part × Asking)) (t : List ℕ) (i : ℕ) (x : Term) → Own 6 (sort_lines asks t i x)
+unfolding Own
+sort_own [] t i x = tt
+sort_own (ask ∷ asks) t i x = (λ _. refl, sort_own asks t i x)
+
+-- of a number that is this one
+along : {k number : ℕ} (ls : List Line) → k ≡ number → Own k ls → Own number ls
+along ls e h = subst (λ (n : ℕ). Own n ls) e h
 
 -- by the number that is asked for
 pick : (number : ℕ) (b : Bool) (x y : List Line) → (b ≡ true → Own number x) → (b ≡ false → Own number y) → Own number (cond b x y)
@@ -81,8 +84,8 @@ module _ (t sheet values cells : List ℕ) (allowance number i : ℕ) where
       let asked = asks (rank x) in
       at number 3 _ _ (λ e. (λ _. e, tt))
       (λ n3. at number 4 _ _ (λ e. (λ _. e, (λ _. e, (λ _. e, tt))))
-      (λ n4. at number 5 _ _ (λ e. (λ f. field_own used.p 1 i x.p f ∙ e, (λ f. field_own used.q 2 i x.q f ∙ e, (λ f. field_own used.r 3 i x.r f ∙ e, tt))))
-      (λ n5. at number 6 _ _ (λ e. (λ _. sort_own asked.first.asking ∙ e, (λ _. sort_own asked.second.asking ∙ e, (λ _. sort_own asked.third.asking ∙ e, (λ _. sort_own asked.fourth.asking ∙ e, tt)))))
+      (λ n4. at number 5 _ _ (λ e. along _ e (own-append 5 (field_line used.0 P i x.p ++ field_line used.1 Q i x.q) _ (own-append 5 (field_line used.0 P i x.p) _ (field_own used.0 P i x.p) (field_own used.1 Q i x.q)) (field_own used.2 R i x.r)))
+      (λ n5. at number 6 _ _ (λ e. along _ e (sort_own asked t i x))
       (λ n6. at number 7 _ _ (λ e. (λ _. e, (λ _. e, (λ _. e, tt))))
       (λ n7. at number 8 _ _ (λ e. (λ _. e, (λ _. e, tt)))
       (λ n8. at number 9 _ _ (λ e. (λ _. e, tt))

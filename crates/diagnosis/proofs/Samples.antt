@@ -9,9 +9,15 @@ use Rattle.table.specs.Admission.{refused, scan, admission_within, admission}
 use Rattle.setting.specs.Arrays.{array_entry, slot_sort}
 use Rattle.setting.specs.Check.{check}
 use Rattle.sheets.specs.Check.{sheet_check}
-use Rattle.diagnosis.specs.Telling.{vector_sort, boolean_sort, of_field, plain, sized}
+use Rattle.std.proofs.Common.{Some}
+use Rattle.diagnosis.specs.declared.reason.Asked.TheVariants.{Exactly}
+use Rattle.diagnosis.specs.declared.reason.Part.TheVariants.{P, Q}
+use Rattle.diagnosis.specs.declared.reason.Reason.TheVariants.{LateOperand, WrongSort, SlotTooLarge, OtherSort, ValueTooLarge, CellValueTooLarge, CutLine, UnknownKind, ReversedSlots, LineSlotTooLarge}
+use Rattle.diagnosis.specs.declared.spots.Section.TheVariants.{Values, Sheet}
+use Rattle.diagnosis.specs.declared.spots.Spot.TheVariants.{Number}
+use Rattle.diagnosis.specs.Telling.{vector_sort, boolean_sort}
 use Rattle.diagnosis.specs.Reasons.{term_reasons, setting_reasons, reasons, diagnosis}
-use Rattle.diagnosis.specs.Spots.{number_of, spot_at, spot}
+use Rattle.diagnosis.specs.Spots.{spot_at, spot}
 
 -- a variable of slot 300
 slot : List ℕ
@@ -21,7 +27,7 @@ slot-refused : admission slot ≡ refused 7 0
 unfolding slot admission_within scan fault fault_if typed clash any_below size_within
 slot-refused = refl
 
-slot-told : diagnosis slot [] [] [] 0 7 0 ≡ plain 15 300 0
+slot-told : diagnosis slot [] [] [] 0 7 0 ≡ Some (SlotTooLarge 300)
 unfolding slot reasons term_reasons
 slot-told = refl
 
@@ -33,12 +39,12 @@ sorts_refused : admission sorts ≡ refused 6 1
 unfolding sorts admission_within scan fault fault_if typed clash any_below size_within
 sorts_refused = refl
 
-sorts_told : diagnosis sorts [] [] [] 0 6 1 ≡ record { reason = 10; part = 1; a = 0; b = 0; c = 0; d = 0; found = vector_sort 8; asked = boolean_sort }
+sorts_told : diagnosis sorts [] [] [] 0 6 1 ≡ Some (WrongSort P 0 (vector_sort 8) (Exactly boolean_sort))
 unfolding sorts reasons term_reasons
 sorts_told = refl
 
 -- q is term 5
-later_told : diagnosis (3 ∷ 0 ∷ 0 ∷ 0 ∷ 0 ∷ 0 ∷ 3 ∷ 0 ∷ 0 ∷ 0 ∷ 5 ∷ 0 ∷ []) [] [] [] 0 5 1 ≡ of_field 8 2 5 1
+later_told : diagnosis (3 ∷ 0 ∷ 0 ∷ 0 ∷ 0 ∷ 0 ∷ 3 ∷ 0 ∷ 0 ∷ 0 ∷ 5 ∷ 0 ∷ []) [] [] [] 0 5 1 ≡ Some (LateOperand Q 5 1)
 unfolding reasons term_reasons
 later_told = refl
 
@@ -50,7 +56,7 @@ clashing-refused : admission clashing ≡ refused 8 2
 unfolding clashing admission_within scan fault fault_if typed clash any_below size_within
 clashing-refused = refl
 
-clashing-told : diagnosis clashing [] [] [] 0 8 2 ≡ record { reason = 17; part = 0; a = 0; b = 2; c = 0; d = 0; found = vector_sort 8; asked = boolean_sort }
+clashing-told : diagnosis clashing [] [] [] 0 8 2 ≡ Some (OtherSort 0 2 (vector_sort 8) boolean_sort)
 unfolding clashing reasons term_reasons first_from
 clashing-told = refl
 
@@ -59,16 +65,16 @@ wide_refused : check (1 ∷ 0 ∷ 0 ∷ 1 ∷ 0 ∷ 0 ∷ []) (0 ∷ 2 ∷ []) [
 unfolding check scan
 wide_refused = refl
 
-wide_told : diagnosis (1 ∷ 0 ∷ 0 ∷ 1 ∷ 0 ∷ 0 ∷ []) [] (0 ∷ 2 ∷ []) [] 0 13 0 ≡ sized 23 1 2 1 boolean_sort
+wide_told : diagnosis (1 ∷ 0 ∷ 0 ∷ 1 ∷ 0 ∷ 0 ∷ []) [] (0 ∷ 2 ∷ []) [] 0 13 0 ≡ Some (ValueTooLarge 1 2 1 boolean_sort)
 unfolding reasons setting_reasons
 wide_told = refl
 
-wide_spot : spot (1 ∷ 0 ∷ 0 ∷ 1 ∷ 0 ∷ 0 ∷ []) 13 0 ≡ number_of 2 1
+wide_spot : spot (1 ∷ 0 ∷ 0 ∷ 1 ∷ 0 ∷ 0 ∷ []) 13 0 ≡ Some (Number Values 1)
 unfolding spot_at
 wide_spot = refl
 
 -- an array of 8 bits by 4 bits; the cell's value 20 is too large
-cell-told : diagnosis (1 ∷ 8 ∷ 4 ∷ 0 ∷ 0 ∷ 0 ∷ []) [] (0 ∷ []) (0 ∷ 200 ∷ 20 ∷ []) 0 15 0 ≡ sized 26 20 15 0 (vector_sort 4)
+cell-told : diagnosis (1 ∷ 8 ∷ 4 ∷ 0 ∷ 0 ∷ 0 ∷ []) [] (0 ∷ []) (0 ∷ 200 ∷ 20 ∷ []) 0 15 0 ≡ Some (CellValueTooLarge 20 15 (vector_sort 4))
 unfolding reasons setting_reasons slot_sort array_entry
 cell-told = refl
 
@@ -80,15 +86,15 @@ reversed_refused : sheet_check reversed ≡ refused 16 1
 unfolding reversed sheet_check scan
 reversed_refused = refl
 
-reversed_told : diagnosis slot reversed [] [] 0 16 1 ≡ plain 30 300 299
+reversed_told : diagnosis slot reversed [] [] 0 16 1 ≡ Some (ReversedSlots 300 299)
 unfolding slot reversed reasons
 reversed_told = refl
 
-reversed_spot : spot slot 16 1 ≡ number_of 5 3
+reversed_spot : spot slot 16 1 ≡ Some (Number Sheet 3)
 unfolding spot_at
 reversed_spot = refl
 
 lines_told : diagnosis slot (2 ∷ 9 ∷ 300 ∷ []) [] [] 0 16 0 ∷ diagnosis slot (1 ∷ 9 ∷ 300 ∷ []) [] [] 0 16 0 ∷ diagnosis slot (1 ∷ 0 ∷ 3 ∷ 0 ∷ 7 ∷ []) [] [] 0 16 1 ∷ []
-    ≡ plain 29 2 0 ∷ plain 31 300 0 ∷ plain 28 2 0 ∷ []
+    ≡ Some (UnknownKind 2) ∷ Some (LineSlotTooLarge 300) ∷ Some (CutLine 2) ∷ []
 unfolding slot reasons
 lines_told = refl

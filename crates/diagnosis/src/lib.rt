@@ -3,53 +3,45 @@
 
 mod asking; // refusal 6
 mod marks; // refusal 16
+mod reason; // a reason with what is seen
 mod settings; // refusals 11 to 15 and 23
 mod spots; // where in the case
 mod terms; // refusals 3 to 10
-mod told; // a reason with its numbers
 
-ghost use Rattle.std.specs.Prelude.{◌≡◌, not, ◌%◌, eqb, ltb};
-ghost use Rattle.diagnosis.specs.Telling.{tell, unless, plain, nothing};
+ghost use Rattle.std.specs.Prelude.{◌≡◌};
+ghost use Rattle.diagnosis.specs.Telling.{tell};
 ghost use Rattle.diagnosis.specs.Reasons.{length_lines, count_lines, table_reasons, small, diagnosis};
 ghost use Rattle.diagnosis.specs.Spots.{spot};
 
-pub use spots::Spot;
-pub use told::Diagnosis;
-use told::{nothing, plain, unless};
+pub use reason::{Asked, Part, Reason};
+pub use spots::{Section, Spot};
 
 // 1
-fn length_told(len: usize) -> Diagnosis
-    ensures { result ≡ unless (not (eqb len 0)) (plain 1 0 0) (unless (eqb (len % 6) 0) (plain 2 len 0) nothing) }
+fn length_told(numbers: usize) -> Option<Reason>
+    ensures { result ≡ tell (length_lines numbers) }
 {
-    let rest = unless(len % 6 == 0, plain(2, len as u64, 0), nothing());
-    unless(len != 0, plain(1, 0, 0), rest)
+    if numbers == 0 {
+        Some(Reason::EmptyTable)
+    } else if numbers % 6 != 0 {
+        Some(Reason::UnevenTable { numbers })
+    } else {
+        None
+    }
 }
 
 // 2
-fn count_told(terms: usize) -> Diagnosis
-    ensures { result ≡ unless (not (ltb 512 terms)) (plain 3 terms 0) nothing }
+fn count_told(terms: usize) -> Option<Reason>
+    ensures { result ≡ tell (count_lines terms) }
 {
-    unless(!(512 < terms), plain(3, terms as u64, 0), nothing())
-}
-
-// Of a table, by the number that refuses it.
-fn table_told(table: &[u32], number: u32) -> Diagnosis
-    ensures { result ≡ tell (table_reasons table.now number) }
-{
-    if number == 1 {
-        return length_told(table.len());
+    if 512 < terms {
+        Some(Reason::TooManyTerms { terms })
+    } else {
+        None
     }
-    count_told(table.len() / 6)
 }
 
-// Whether the numbers are small enough to be looked at.
-fn small(table: &[u32], place: u64) -> bool
-    ensures { result ≡ small table.now place }
-{
-    (place < 4294967296) & (table.len() / 6 < 4294967296)
-}
-
-// The reason for a refusal by this number at this place, 0 where there is none.
+// The reason for a refusal by this number at this place.
+#[tactic(auto, unfolding(crate::specs::Reasons::reasons, crate::specs::Reasons::table_reasons))]
 pub fn diagnose(
     table: &[u32],
     sheet: &[u32],
@@ -58,34 +50,26 @@ pub fn diagnose(
     allowance: u64,
     number: u32,
     place: u64,
-) -> Diagnosis
+) -> Option<Reason>
     ensures { result ≡ diagnosis table.now sheet.now values.now
         cells.now allowance number place }
 {
-    if !small(table, place) {
-        return nothing();
+    let i = u32::try_from(place).ok()?;
+    let terms = table.len() / table::WORDS;
+    u32::try_from(terms).ok()?;
+    match number {
+        0 => None,
+        1 => length_told(table.len()),
+        2 => count_told(terms),
+        3..=10 => terms::term_told(table, number, i),
+        16 => marks::sheet_told(sheet, i),
+        _ => settings::setting_told(table, values, cells, allowance, number, i),
     }
-    if number == 0 {
-        return nothing();
-    }
-    if number <= 2 {
-        return table_told(table, number);
-    }
-    if number <= 10 {
-        return terms::term_told(table, number, place as u32);
-    }
-    if number == 16 {
-        return marks::sheet_told(sheet, place as u32);
-    }
-    settings::setting_told(table, values, cells, allowance, number, place as u32)
 }
 
 // Where a refusal by this number at this place points.
-pub fn spot(table: &[u32], number: u32, place: u64) -> Spot
+pub fn spot(table: &[u32], number: u32, place: u64) -> Option<Spot>
     ensures { result ≡ spot table.now number place }
 {
-    if place < 4294967296 {
-        return spots::spot_at(table, number, place as u32);
-    }
-    spots::number_of(0, 0)
+    spots::spot_at(table, number, u32::try_from(place).ok()?)
 }

@@ -3,28 +3,37 @@ ghost use Rattle.std.specs.Prelude.{◌≡◌};
 ghost use Rattle.diagnosis.specs.Telling.{tell};
 ghost use Rattle.diagnosis.specs.Reasons.{mark_lines, sheet_lines};
 
-use crate::settings::entry;
-use crate::told::{Diagnosis, nothing, plain, unless};
+use crate::reason::Reason;
+use sheets::Line;
 
 // Of a line that is whole.
-fn line_told(kind: u32, lowest: u32, highest: u32) -> Diagnosis
-    ensures { result ≡ tell (mark_lines kind lowest highest) }
+fn line_told(line: Line) -> Option<Reason>
+    ensures { result ≡ tell (mark_lines line.kind line.lowest line.highest) }
 {
-    let slot = unless(highest <= 255, plain(31, highest as u64, 0), nothing());
-    let order = plain(30, lowest as u64, highest as u64);
-    unless(
-        kind <= 1,
-        plain(29, kind as u64, 0),
-        unless(lowest <= highest, order, slot),
-    )
+    if 1 < line.kind {
+        Some(Reason::UnknownKind { kind: line.kind })
+    } else if line.highest < line.lowest {
+        Some(Reason::ReversedSlots {
+            lowest: line.lowest,
+            highest: line.highest,
+        })
+    } else if 255 < line.highest {
+        Some(Reason::LineSlotTooLarge { slot: line.highest })
+    } else {
+        None
+    }
 }
 
 // Of line `k`, which may be the last and cut.
-pub fn sheet_told(sheet: &[u32], k: u32) -> Diagnosis
+pub fn sheet_told(sheet: &[u32], k: u32) -> Option<Reason>
     ensures { result ≡ tell (sheet_lines sheet.now k) }
 {
-    let at = (k as usize) * 3;
-    let rest = line_told(entry(sheet, at), entry(sheet, at + 1), entry(sheet, at + 2));
-    let cut = plain(28, (sheet.len() % 3) as u64, 0);
-    unless((k as usize) < sheet.len() / 3, cut, rest)
+    let k = k as usize;
+    if k < sheets::count(sheet) {
+        line_told(sheets::line_at(sheet, k))
+    } else {
+        Some(Reason::CutLine {
+            numbers: sheet.len() % 3,
+        })
+    }
 }

@@ -7,47 +7,60 @@ ghost use Rattle.diagnosis.specs.Telling.{tell};
 ghost use Rattle.diagnosis.specs.Reasons.{row_lines, slot_lines, given_lines, array_lines, cell_lines, step_lines};
 ghost use Rattle.diagnosis.specs.Reasons.{setting_reasons};
 
+use crate::reason::{BOOLEAN, Reason, vector_sort};
 use crate::terms::most;
-use crate::told::{Diagnosis, nothing, plain, sized, unless, vector_sort};
 use setting::Cell;
-use table::{Sort, Term, is_variable, number_at, sort_at, term_at};
+use table::{Sort, Term, is_variable, number_at, term_at};
 
 // 11
-fn row_told(cells: &[u32]) -> Diagnosis
+fn row_told(cells: &[u32]) -> Option<Reason>
     ensures { result ≡ tell (row_lines cells.now) }
 {
-    let len = cells.len();
-    unless(len % 3 == 0, plain(21, len as u64, 0), nothing())
+    let numbers = cells.len();
+    if numbers % 3 != 0 {
+        Some(Reason::UnevenCells { numbers })
+    } else {
+        None
+    }
 }
 
 // 12
-fn slot_told(values: &[u32], x: Term) -> Diagnosis
+fn slot_told(values: &[u32], x: Term) -> Option<Reason>
     ensures { result ≡ tell (slot_lines values.now x) }
 {
-    let len = values.len();
-    let inside = (x.p as usize) < len;
-    unless(
-        !is_variable(x) | inside,
-        plain(22, x.p as u64, len as u64),
-        nothing(),
-    )
+    if is_variable(x) && values.len() <= x.p as usize {
+        Some(Reason::NoValue {
+            slot: x.p,
+            values: values.len(),
+        })
+    } else {
+        None
+    }
 }
 
 // 13
-fn given_told(values: &[u32], x: Term) -> Diagnosis
+fn given_told(values: &[u32], x: Term) -> Option<Reason>
     ensures { result ≡ tell (given_lines values.now x) }
 {
     let n = x.sort.n;
-    let v = number_at(values, x.p);
-    let told = sized(23, x.p as u64, v as u64, most(n), vector_sort(n));
-    unless(!is_variable(x) | ops::fits(n, v), told, nothing())
+    let value = number_at(values, x.p);
+    if is_variable(x) && !ops::fits(n, value) {
+        Some(Reason::ValueTooLarge {
+            slot: x.p,
+            value,
+            most: most(n),
+            sort: vector_sort(n),
+        })
+    } else {
+        None
+    }
 }
 
 // A number of a row, 0 past its end.
-pub fn entry(row: &[u32], at: usize) -> u32
+fn entry(row: &[u32], at: usize) -> u32
     ensures { result ≡ get_or row.now at 0 }
 {
-    if at < row.len() { row[at] } else { 0 }
+    row.get(at).copied().unwrap_or(0)
 }
 
 // Cell `k` of a row.
@@ -66,50 +79,69 @@ fn cell_at(cells: &[u32], k: u32) -> Cell
 fn array_of(x: Term, slot: u32) -> bool
     ensures { result ≡ (array_variable x && eqb x.p slot) }
 {
-    is_variable(x) & table::array(x.sort) & (x.p <= 255) & (x.p == slot)
+    is_variable(x) && table::array(x.sort) && x.p <= 255 && x.p == slot
 }
 
 // The sort of a slot's array variable, (0, 0) where it has none.
+// A loop, since of `rev().find(..)` over the range the check proves no `returns` (`search` gives up).
 fn slot_sort(table: &[u32], slot: u32) -> Sort
     requires { terms table.now < 4294967296 }
     ensures { result ≡ slot_sort table.now slot }
 {
-    let mut k = table::count(table);
-    while 0 < k {
-        if array_of(term_at(table, k - 1), slot) {
-            return sort_at(table, k - 1);
+    for k in (0..table::count(table)).rev() {
+        let x = term_at(table, k);
+        if array_of(x, slot) {
+            return x.sort;
         }
-        k -= 1;
     }
-    Sort { m: 0, n: 0 }
+    BOOLEAN
 }
 
 // 14
-fn array_told(s: Sort, c: Cell) -> Diagnosis
+fn array_told(s: Sort, c: Cell) -> Option<Reason>
     ensures { result ≡ tell (array_lines s c) }
 {
-    unless(table::array(s), plain(24, c.slot as u64, 0), nothing())
+    if table::array(s) {
+        None
+    } else {
+        Some(Reason::NotAnArray { slot: c.slot })
+    }
 }
 
 // 15
-fn cell_told(s: Sort, c: Cell) -> Diagnosis
+fn cell_told(s: Sort, c: Cell) -> Option<Reason>
     ensures { result ≡ tell (cell_lines s c) }
 {
-    let value = sized(26, c.value as u64, most(s.n), 0, vector_sort(s.n));
-    let index = sized(25, c.index as u64, most(s.m), 0, vector_sort(s.m));
-    let rest = unless(ops::fits(s.n, c.value), value, nothing());
-    unless(ops::fits(s.m, c.index), index, rest)
+    if !ops::fits(s.m, c.index) {
+        Some(Reason::CellIndexTooLarge {
+            index: c.index,
+            most: most(s.m),
+            sort: vector_sort(s.m),
+        })
+    } else if !ops::fits(s.n, c.value) {
+        Some(Reason::CellValueTooLarge {
+            value: c.value,
+            most: most(s.n),
+            sort: vector_sort(s.n),
+        })
+    } else {
+        None
+    }
 }
 
 // 23
-fn steps_told(allowance: u64, steps: u32) -> Diagnosis
-    ensures { result ≡ tell (step_lines allowance steps) }
+fn steps_told(allowance: u64, needed: u32) -> Option<Reason>
+    ensures { result ≡ tell (step_lines allowance needed) }
 {
-    let needed = steps as u64;
-    unless(needed <= allowance, plain(27, allowance, needed), nothing())
+    if allowance < u64::from(needed) {
+        Some(Reason::AllowanceTooSmall { allowance, needed })
+    } else {
+        None
+    }
 }
 
 // Of a setting, by the number that refuses it: at term or cell `i`, or `i` steps are needed.
+#[tactic(auto, unfolding(crate::specs::Reasons::setting_reasons))]
 pub fn setting_told(
     table: &[u32],
     values: &[u32],
@@ -117,30 +149,19 @@ pub fn setting_told(
     allowance: u64,
     number: u32,
     i: u32,
-) -> Diagnosis
+) -> Option<Reason>
     requires { terms table.now < 4294967296 }
     ensures { result ≡ tell (setting_reasons table.now values.now cells.now
         allowance number i) }
 {
-    if number == 11 {
-        return row_told(cells);
+    let c = cell_at(cells, i);
+    match number {
+        11 => row_told(cells),
+        12 => slot_told(values, term_at(table, i)),
+        13 => given_told(values, term_at(table, i)),
+        14 => array_told(slot_sort(table, c.slot), c),
+        15 => cell_told(slot_sort(table, c.slot), c),
+        23 => steps_told(allowance, i),
+        _ => None,
     }
-    if number == 12 {
-        return slot_told(values, term_at(table, i));
-    }
-    if number == 13 {
-        return given_told(values, term_at(table, i));
-    }
-    if number == 14 {
-        let c = cell_at(cells, i);
-        return array_told(slot_sort(table, c.slot), c);
-    }
-    if number == 15 {
-        let c = cell_at(cells, i);
-        return cell_told(slot_sort(table, c.slot), c);
-    }
-    if number == 23 {
-        return steps_told(allowance, i);
-    }
-    nothing()
 }

@@ -1,59 +1,38 @@
 // Where in a case a refusal points.
 ghost use Rattle.std.specs.Prelude.{◌≡◌};
-ghost use Rattle.diagnosis.specs.Spots.{word, number_of, spot_at};
+ghost use Rattle.diagnosis.specs.Spots.{spot_at};
 
-// A number of a part (1 table, 2 values, 3 cells, 4 allowance, 5 sheet; 0: none), or the word that begins the part.
-#[derive(Clone, Copy)]
-pub struct Spot {
-    pub part: u32,
-    pub heading: bool,
-    pub number: usize,
+// A section of a case's text, by its number (crate cases).
+#[derive(Clone, Copy, PartialEq, Eq, Debug, Drop)]
+pub enum Section {
+    Table = 1,
+    Values = 2,
+    Cells = 3,
+    Allowance = 4,
+    Sheet = 5,
 }
 
-fn word(part: u32) -> Spot
-    ensures { result ≡ word part }
-{
-    Spot {
-        part,
-        heading: true,
-        number: 0,
-    }
-}
-
-pub fn number_of(part: u32, number: usize) -> Spot
-    ensures { result ≡ number_of part number }
-{
-    Spot {
-        part,
-        heading: false,
-        number,
-    }
+// The word that begins a section, or one of its numbers.
+#[derive(Clone, Copy, PartialEq, Eq, Debug, Drop)]
+pub enum Spot {
+    Heading(Section),
+    Number(Section, usize),
 }
 
 // Of term, cell or line `i`, by the number that refuses it.
-pub fn spot_at(table: &[u32], number: u32, i: u32) -> Spot
+#[tactic(auto, unfolding(crate::specs::Spots::spot_at))]
+pub fn spot_at(table: &[u32], number: u32, i: u32) -> Option<Spot>
     ensures { result ≡ spot_at table.now number i }
 {
-    if (number == 1) | (number == 2) {
-        return word(1);
+    let k = i as usize;
+    match number {
+        1 | 2 => Some(Spot::Heading(Section::Table)),
+        11 => Some(Spot::Heading(Section::Cells)),
+        3..=12 => Some(Spot::Number(Section::Table, k * 6)),
+        13 => Some(Spot::Number(Section::Values, table::term_at(table, i).p as usize)),
+        14 | 15 => Some(Spot::Number(Section::Cells, k * 3)),
+        16 => Some(Spot::Number(Section::Sheet, k * 3)),
+        23 => Some(Spot::Number(Section::Allowance, 0)),
+        _ => None,
     }
-    if number == 11 {
-        return word(3);
-    }
-    if number == 13 {
-        return number_of(2, table::term_at(table, i).p as usize);
-    }
-    if (number == 14) | (number == 15) {
-        return number_of(3, (i as usize) * 3);
-    }
-    if number == 16 {
-        return number_of(5, (i as usize) * 3);
-    }
-    if number == 23 {
-        return number_of(4, 0);
-    }
-    if (3 <= number) & (number <= 12) {
-        return number_of(1, (i as usize) * 6);
-    }
-    number_of(0, 0)
 }

@@ -1,91 +1,30 @@
 -- What a read comes from along its array, and one of it, as each way of the code has found it.
 -- Assumes nothing.
-use mathlib.Core.Path.{◌≡◌, refl, sym, ap, ap₂, ◌∙◌}
+use mathlib.Core.Path.{◌≡◌, refl, sym, ap, ◌∙◌}
 use mathlib.Core.Bool.{Bool, true, false, cond, not, ◌&&◌, ◌||◌}
 use mathlib.Core.Logic.{⊎_elim}
 use mathlib.Core.List.{List, [], ◌∷◌}
-use Prim.Native.Nat.{ℕ, zero, suc, ◌-◌, ◌<◌}
+use Prim.Native.Nat.{ℕ, zero, suc, ◌-◌, ◌≤◌, ◌<◌}
 use native.Mathlib.Omega.{arith}
 use lib.Dec.{eqb, ltb}
 use lib.ListN.{get_or}
-use borrow.Author.Tests.{ltb-true, eqb-true, lt-ltb}
+use borrow.Author.Tests.{ltb-true}
+use Rattle.std.proofs.Common.{Some, slice_get}
 use Rattle.ops.specs.Meaning.{holds}
 use Rattle.ops.proofs.Booleans.{never, and_parts, or_parts, or_open}
 use Rattle.table.specs.declared.words.Term.{Term}
 use Rattle.table.specs.Terms.{term_at}
-use Rattle.table.specs.Faults.{rank, is_store, is_choice}
+use Rattle.table.specs.Faults.{is_store, is_choice}
 use Rattle.table.proofs.Stacks.{choice_no-store}
-use Rattle.explain.specs.declared.answers.Shape.{Shape}
 use Rattle.explain.specs.declared.answers.Source.{Source}
-use Rattle.explain.specs.declared.answers.Source.TheVariants.{Nothing, Array}
-use Rattle.explain.specs.Sources.{stacked, branched, past, picked, goes, next, index, stored, test, here, passing, along_within, along, shape_of, support_by, support}
+use Rattle.explain.specs.declared.answers.Source.TheVariants.{Array}
+use Rattle.explain.specs.Sources.{stacked, branched, past, picked, goes, next, index, stored, test, here, passing, along_within, along}
 use Rattle.explain.proofs.Walks.{walk_stopped, walk_on}
 
--- Number i of a list
-
-pub nth_first : {A : Type 0} (x : A) (l : List A) (d : A) (i : ℕ) → i ≡ 0 → x ≡ get_or (x ∷ l) i d
-nth_first x l d zero e = refl
-nth_first x l d (suc i) e = absurd (omega arith)
-
-pub nth_rest : {A : Type 0} (x : A) (l : List A) (d : A) (i : ℕ) → (i ≡ 0 → ⊥) → get_or l (i - 1) d ≡ get_or (x ∷ l) i d
-nth_rest x l d zero e = absurd (e refl)
-nth_rest x l d (suc i) e = let same : suc i - 1 ≡ i = omega arith in ap (λ (k : ℕ). get_or l k d) same
-
-pub nth_none : {A : Type 0} (x d : A) (i : ℕ) → (i ≡ 0 → ⊥) → d ≡ get_or (x ∷ []) i d
-nth_none x d zero e = absurd (e refl)
-nth_none x d (suc i) e = refl
-
--- By a term's shape
-
-pub supported : (w values : List ℕ) (x : Term) (h : Shape) (i : ℕ) → shape_of (rank x) ≡ h → get_or (support_by w values x h) i Nothing ≡ get_or (support w values x) i Nothing
-unfolding support
-supported w values x h i e = sym (ap (λ (y : Shape). get_or (support_by w values x y) i Nothing) e)
-
--- At one term of the array
-module _ (w values : List ℕ) (a j i : ℕ) (x : Term) (is : x ≡ term_at w a) where
-  abbrev hit : Term → Bool
-  hit y = eqb (get_or values y.q 0) j
-
-  abbrev list : Bool → Bool → Bool → Term → List Source
-  list s h b y = cond s (index y a ∷ cond h (stored y a ∷ []) []) (cond b (test y a ∷ []) (Array a ∷ []))
-
-  at_term : (s h b : Bool) → stacked x a ≡ s → hit x ≡ h → branched x a ≡ b → get_or (list s h b x) i Nothing ≡ get_or (here w values a j) i Nothing
-  at_term s h b e g k =
-      sym (λ z. get_or (list (e z) (g z) (k z) x) i Nothing)
-      ∙ ap (λ (y : Term). get_or (list (stacked y a) (hit y) (branched y a) y) i Nothing) is
-
-  pub here-stored : (stacked x a && (eqb i 1 && hit x)) ≡ true → stored x a ≡ get_or (here w values a j) i Nothing
-  here-stored g =
-      let parts = and_parts (stacked x a) (eqb i 1 && hit x) g in
-      let more = and_parts (eqb i 1) (hit x) parts.1 in
-      let one : i ≡ 1 = eqb-true i 1 more.0 in
-      sym (ap (λ (k : ℕ). get_or (list true true (branched x a) x) k Nothing) one)
-      ∙ at_term true true (branched x a) parts.0 more.1 refl
-
-  pub here_no-more : (stacked x a && (eqb i 1 && hit x)) ≡ false → (i ≡ 0 → ⊥) → Nothing ≡ get_or (here w values a j) i Nothing
-  here_no-more g z = go i z (stacked x a) (hit x) (branched x a) g ∙ at_term (stacked x a) (hit x) (branched x a) refl refl refl
-    where
-      go : (k : ℕ) → (k ≡ 0 → ⊥) → (s h b : Bool) → (s && (eqb k 1 && h)) ≡ false → Nothing ≡ get_or (list s h b x) k Nothing
-      go zero n s h b f = absurd (n refl)
-      go (suc zero) n true true b f = never (sym f)
-      go (suc (suc k)) n true true b f = refl
-      go (suc k) n true false b f = refl
-      go (suc k) n false h true f = refl
-      go (suc k) n false h false f = refl
-
-  -- the first
-  module _ (z : i ≡ 0) where
-    first_of_lem : (s h b : Bool) → stacked x a ≡ s → hit x ≡ h → branched x a ≡ b → get_or (list s h b x) 0 Nothing ≡ get_or (here w values a j) i Nothing
-    first_of_lem s h b e g k = sym (ap (λ (n : ℕ). get_or (list s h b x) n Nothing) z) ∙ at_term s h b e g k
-
-    pub here-index : stacked x a ≡ true → index x a ≡ get_or (here w values a j) i Nothing
-    here-index e = first_of_lem true (hit x) (branched x a) e refl refl
-
-    pub here-test : stacked x a ≡ false → branched x a ≡ true → test x a ≡ get_or (here w values a j) i Nothing
-    here-test e g = first_of_lem false (hit x) true e refl g
-
-    pub here-array : stacked x a ≡ false → branched x a ≡ false → Array a ≡ get_or (here w values a j) i Nothing
-    here-array e g = first_of_lem false (hit x) false e refl g
+-- Number i of a list, from 1 on
+pub nth_rest : {A : Type 0} (x : A) (l : List A) (i : ℕ) → 0 < i → slice_get l (i - 1) ≡ slice_get (x ∷ l) i
+nth_rest x l zero b = absurd (omega arith)
+nth_rest x l (suc i) b = let same : suc i - 1 ≡ i = omega arith in ap (slice_get l) same
 
 -- Of the branch that is picked holds what holds of both, and what is made of both is made of it
 pub of-picked : (P : ℕ → Type 0) (z : Bool) {q r : ℕ} → P q → P r → P (cond z q r)
@@ -172,25 +111,24 @@ module _ (w values : List ℕ) (j : ℕ) where
         sym (along_on a (ap (λ (b : Bool). past w values a j || b) e ∙ or_open (past w values a j))) ∙ rw s
 
   -- number left of it, as the walk goes on and where it stops
-  pub onward : (a left : ℕ) → (ltb 0 left && goes w values a j) ≡ true → get_or (along w values (next w values a) j) (left - 1) Nothing ≡ get_or (along w values a j) left Nothing
-  onward a left e =
-      let parts = and_parts (ltb 0 left) (goes w values a j) e in
-      let some : 0 < left = ltb-true 0 left parts.0 in
-      nth_rest (passing (term_at w a) a) (along w values (next w values a) j) Nothing left (λ z. omega arith)
-      ∙ ap (λ (l : List Source). get_or l left Nothing) (along_on a parts.1)
+  pub onward : (a left : ℕ) → 0 < left → goes w values a j ≡ true → slice_get (along w values (next w values a) j) (left - 1) ≡ slice_get (along w values a j) left
+  onward a left some e = nth_rest (passing (term_at w a) a) (along w values (next w values a) j) left some ∙ ap (λ (l : List Source). slice_get l left) (along_on a e)
 
-  pub stopped : (a left : ℕ) → (ltb 0 left && goes w values a j) ≡ false → get_or (here w values a j) left Nothing ≡ get_or (along w values a j) left Nothing
-  stopped a left = go left (goes w values a j) refl
+  pub stopped : (a left : ℕ) → goes w values a j ≡ false → slice_get (here w values a j) left ≡ slice_get (along w values a j) left
+  stopped a left e = ap (λ (l : List Source). slice_get l left) (along_stopped a e)
+
+  pub first_along : (a left : ℕ) → left ≤ 0 → slice_get (here w values a j) left ≡ slice_get (along w values a j) left
+  first_along a (suc left) b = absurd (omega arith)
+  first_along a zero b = go (goes w values a j) refl
     where
       -- where it goes on, what it comes from here begins with that which it passes
-      first : goes w values a j ≡ true → get_or (here w values a j) 0 Nothing ≡ passing (term_at w a) a
+      first : goes w values a j ≡ true → slice_get (here w values a j) 0 ≡ Some (passing (term_at w a) a)
       first e =
           ⊎_elim
           (λ p. let s = past-stacked a p in rw (s, (stacked_parts (term_at w a) a s).0))
           (λ b. rw ((branched_parts (term_at w a) a b).0, b))
           (or_parts (past w values a j) (branched (term_at w a) a) e)
 
-      go : (left : ℕ) (p : Bool) → goes w values a j ≡ p → (ltb 0 left && goes w values a j) ≡ false → get_or (here w values a j) left Nothing ≡ get_or (along w values a j) left Nothing
-      go left false e h = ap (λ (l : List Source). get_or l left Nothing) (along_stopped a e)
-      go zero true e h = first e ∙ ap (λ (l : List Source). get_or l 0 Nothing) (along_on a e)
-      go (suc left) true e h = never (sym h ∙ ap₂ ◌&&◌ (lt-ltb 0 (suc left) (omega arith)) e)
+      go : (p : Bool) → goes w values a j ≡ p → slice_get (here w values a j) 0 ≡ slice_get (along w values a j) 0
+      go false e = stopped a 0 e
+      go true e = first e ∙ ap (λ (l : List Source). slice_get l 0) (along_on a e)

@@ -1,7 +1,7 @@
 -- The way down, a term at a time.
 -- Assumes nothing.
 use mathlib.Core.Path.{◌≡◌, sym, ap, ◌∙◌}
-use mathlib.Core.Bool.{not, ◌&&◌}
+use mathlib.Core.Bool.{Bool, not, ◌&&◌}
 use mathlib.Core.List.{List}
 use Prim.Native.Nat.{ℕ, zero, suc, pred, ◌-◌, ◌≤◌, ◌<◌}
 use native.Mathlib.Nat.{not-suc-le-zero}
@@ -9,7 +9,7 @@ use native.Mathlib.Omega.{arith}
 use lib.Dec.{ltb}
 use lib.ListN.{length, replicate, length-replicate}
 use Rattle.judge.specs.Code.Labelled.{truth_in}
-use Rattle.explain.specs.Ways.{looked_at, way_down, begun, way_of}
+use Rattle.explain.specs.Ways.{marked, looked_at, way_down, begun, way_of}
 use Rattle.explain.proofs.Rows.{length_marked}
 use Rattle.explain.proofs.Looks.{length_looked}
 
@@ -20,6 +20,13 @@ pub record Downward (w values truths : List ℕ) (n : ℕ) (marks : List ℕ) (k
 
 pub length-begun : (truths : List ℕ) (n : ℕ) → length (begun truths n) ≡ 512
 length-begun truths n = length_marked (ltb 0 n && not (truth_in truths (pred n))) (pred n) (replicate 512 0) ∙ length-replicate {A = ℕ} 512 0
+
+-- the rule is marked, where there is one that is not free
+pub begun_as : (truths : List ℕ) (n k : ℕ) (on : Bool) → k ≡ n - 1 → on ≡ (ltb 0 n && not (truth_in truths k)) → marked on k (replicate 512 0) ≡ begun truths n
+begun_as truths zero k on e h = ap (λ (b : Bool). marked b k (replicate 512 0)) h
+begun_as truths (suc n) k on e h =
+    let same : k ≡ n = omega arith in
+    ap (λ (b : Bool). marked b k (replicate 512 0)) h ∙ ap (λ (i : ℕ). marked (ltb 0 (suc n) && not (truth_in truths i)) i (replicate 512 0)) same
 
 module _ (w values truths : List ℕ) (n : ℕ) (marks : List ℕ) where
   pub down_begun : marks ≡ begun truths n → Downward w values truths n marks n

@@ -1,5 +1,6 @@
 -- The slots of the variables on the way mend the rule.
 -- Assumes nothing.
+use Rattle.std.specs.Prelude.{Ok, Err}
 use mathlib.Core.Path.{◌≡◌, refl, sym, ap, ap₂, ◌∙◌}
 use mathlib.Core.Bool.{Bool, true, false, not, ◌&&◌}
 use mathlib.Core.List.{List}
@@ -18,12 +19,10 @@ use Rattle.table.proofs.Admitted.{admission-sound}
 use Rattle.table.proofs.TermFaults.{slot-valued}
 use Rattle.setting.specs.Cells.{look}
 use Rattle.setting.specs.Interpretation.{Interpretation, interpret}
-use Rattle.evaluate.specs.declared.Evaluation.{Evaluation}
-use Rattle.evaluate.specs.declared.Evaluation.TheVariants.{Evaluated, NotEvaluated}
+use Rattle.evaluate.specs.Evaluation.{Evaluation}
 use Rattle.evaluate.specs.Evaluation.{evaluates, ready}
 use Rattle.evaluate.proofs.Answers.{passed}
-use Rattle.judge.specs.declared.Judgement.{Judgement}
-use Rattle.judge.specs.declared.Judgement.TheVariants.{Judged, NotJudged}
+use Rattle.judge.specs.Judgement.{Judgement}
 use Rattle.judge.specs.Judgement.{rule_in, rule_condition, verdict}
 use Rattle.judge.specs.Conditions.{condition_at}
 use Rattle.judge.specs.Marks.{Fewer}
@@ -113,8 +112,8 @@ repair w marked I f =
 
 -- what a judgement says of the rule; nothing is said by a refusal
 abbrev said : Judgement → Bool
-said (Judged v) = v.rule
-said (NotJudged r) = false
+said (Ok v) = v.rule
+said (Err r) = false
 
 pub repair_passes : RepairPasses
 repair_passes w marked values cells allowance room v judged holds =
@@ -123,7 +122,7 @@ repair_passes w marked values cells allowance room v judged holds =
   where
     go : (e : Evaluation) → (evaluates e ≡ true → WellFormed 512 w) → ready 512 w values cells 2 allowance room ≡ e → said (verdict e w marked (interpret values (look cells))) ≡ true
         → Passing w (left_marked marked (repair_in w marked (interpret values (look cells)))) values cells allowance room
-    go (Evaluated s) formed is rule =
+    go (Ok s) formed is rule =
         let I = interpret values (look cells) in
         let left = left_marked marked (repair_in w marked I) in
         record {
@@ -131,4 +130,4 @@ repair_passes w marked values cells allowance room v judged holds =
           judged = ap (λ (e : Evaluation). verdict e w left I) is;
           passed = ap₂ ◌&&◌ rule (repair w marked I (formed refl)).condition;
         }
-    go (NotEvaluated r) formed is rule = never rule
+    go (Err r) formed is rule = never rule

@@ -36,13 +36,14 @@ use Rattle.judge.specs.Conditions.{Condition, condition_by, condition_in, condit
 use Rattle.judge.specs.Code.Labelled.{truth_in}
 use Rattle.judge.proofs.Alike.{condition_below}
 use Rattle.explain.specs.declared.answers.Settled.{Settled}
-use Rattle.explain.specs.declared.answers.Settled.TheVariants.{Untold, Alone, Picked, Equal, AtIndex, EqualBeneath, EqualBranches, Unmarked}
+use Rattle.explain.specs.declared.answers.Settled.TheVariants.{Alone, Picked, Equal, AtIndex, EqualBeneath, EqualBranches, Unmarked}
 use Rattle.explain.specs.declared.answers.Shape.{Shape}
 use Rattle.explain.specs.declared.answers.Shape.TheVariants.{Binary, Branches, Cell}
-use Rattle.explain.specs.declared.answers.Source.TheVariants.{Nothing, Operand}
-use Rattle.explain.specs.Sources.{there, stacked, branched, picked, shape_of}
+use Rattle.explain.specs.declared.answers.Source.TheVariants.{Operand}
+use Rattle.std.proofs.Common.{Option, None, Some, is_some}
+use Rattle.explain.specs.Sources.{stacked, branched, picked, shape_of}
 use Rattle.explain.specs.Settlers.{unfree_by, unfree_at, some_unfree, settles_alone, freely_past, freely_picked, freely, stop_at, settled_here, settled_by, settler_of}
-use Rattle.explain.specs.SettlerLaws.{Reaches, arrived, onward, inward, SaysAtIndex, SaysEqualBeneath, SaysEqualBranches, SaysUnmarked, Says, told, SettlerTrue, SettlerTold}
+use Rattle.explain.specs.SettlerLaws.{Reaches, arrived, onward, inward, SaysAtIndex, SaysEqualBeneath, SaysEqualBranches, SaysUnmarked, Says, SettlerTrue, SettlerTold}
 use Rattle.explain.proofs.Alongs.{of-picked, picked_as, store_unbranched, next-store, next-choice}
 use Rattle.explain.proofs.Supports.{and_open, num_of, StoreAt, ChoiceAt, array_at, variable_plain, choice_is, Lower}
 use Rattle.explain.proofs.Supports.{Made, literal, input, function, choice, read, store, fork, made, free_of, variable_read, store-read, choice-read, condition_as, fork_unfree}
@@ -153,10 +154,9 @@ module _ (limit : ℕ) (w : List ℕ) (marked : Term → Bool) (I : Interpretati
 
     -- what is said of a read of array term a, which gives number
     abbrev ReadSays : ℕ → ℕ → Settled → Type 0
-    ReadSays a number Untold = ⊥
     ReadSays a number (Alone i) = ⊥
-    ReadSays a number (Picked pair) = ⊥
-    ReadSays a number (Equal pair) = ⊥
+    ReadSays a number (Picked i c) = ⊥
+    ReadSays a number (Equal i c) = ⊥
     ReadSays a number (AtIndex held) = SaysAtIndex w marked I j a number held
     ReadSays a number (EqualBeneath held) = SaysEqualBeneath w marked I j a number held
     ReadSays a number (EqualBranches b) = SaysEqualBranches w marked I j a number b
@@ -164,10 +164,9 @@ module _ (limit : ℕ) (w : List ℕ) (marked : Term → Bool) (I : Interpretati
 
     -- past a store, into a branch, and by another name of the number, nothing changes
     moved : (a a' number number' : ℕ) → ((b : ℕ) → Reaches w vs ts j a b → Reaches w vs ts j a' b) → number' ≡ number → (x : Settled) → ReadSays a number x → ReadSays a' number' x
-    moved a a' number number' on e Untold h = h
     moved a a' number number' on e (Alone i) h = h
-    moved a a' number number' on e (Picked pair) h = h
-    moved a a' number number' on e (Equal pair) h = h
+    moved a a' number number' on e (Picked i c) h = h
+    moved a a' number number' on e (Equal i c) h = h
     moved a a' number number' on e (AtIndex held) h =
         record { reached = on held.store h.reached; store = h.store; its = h.its; index-free = h.index-free; index = h.index; is_free = h.is_free; same = e ∙ h.same }
     moved a a' number number' on e (EqualBeneath held) h =
@@ -192,7 +191,7 @@ module _ (limit : ℕ) (w : List ℕ) (marked : Term → Bool) (I : Interpretati
       found b s c = cond b (EqualBranches a) (cond s (cond c (AtIndex (record { store = a; term = x.r })) (EqualBeneath (record { store = a; term = x.r }))) (Unmarked a))
 
       stops : (s h b c d : Bool) → stacked x a ≡ s → eqb (get_or vs x.q 0) j ≡ h → truth_in ts x.q ≡ c → branched x a ≡ b → truth_in ts x.p ≡ d → (((s && not h) && c) || (b && d)) ≡ false → found b s c ≡ stop a
-      stops s h b c d es eh ec eb ed e = settled_as w ts a x refl b s c eb es ec ∙ ap (settled_here w ts) (stop_here w vs ts j a (freely_as s h b c d es eh ec eb ed ∙ e))
+      stops s h b c d es eh ec eb ed e = settled_as w ts a b s c eb es ec ∙ ap (settled_here w ts) (stop_here w vs ts j a (freely_as s h b c d es eh ec eb ed ∙ e))
 
       at_variable : op_of x.op ≡ Variable → (K a).read_free j true ≡ true → ReadSays a ((W a).cell j) (stop a)
       unfolding condition_by
@@ -334,20 +333,20 @@ module _ (limit : ℕ) (w : List ℕ) (marked : Term → Bool) (I : Interpretati
     abbrev ck : ℕ → Condition
     ck = condition_in (conditions w marked I k)
 
-    abbrev by : Shape → Settled
+    abbrev by : Shape → Option Settled
     by h = settled_by w vs ts t h
 
     taken : (i : ℕ) → i < k → (ck i).free ≡ truth_in ts i
     taken i c = free_of limit w I f marked k i c ∙ sym (free_at i (omega arith))
 
-    abbrev Claim : Settled → Type 0
+    abbrev Claim : Option Settled → Type 0
     Claim = Says w marked I k
 
     shape_as : (op : Op) → op_of t.op ≡ op → shape_of (rank_of op) ≡ shape_of (rank t)
     shape_as op e = sym (ap (λ (o : Op). shape_of (rank_of o)) e)
 
     -- a function of two operands
-    alone : (y z : Bool) → settles_alone w vs ts t false ≡ y → settles_alone w vs ts t true ≡ z → Claim (cond y (Alone t.p) (cond z (Alone t.q) Untold))
+    alone : (y z : Bool) → settles_alone w vs ts t false ≡ y → settles_alone w vs ts t true ≡ z → Claim (cond y (Some (Alone t.p)) (cond z (Some (Alone t.q)) None))
     alone true z e g =
         let parts = and_parts (truth_in ts t.p) _ e in
         record { second = false; its = refl; is_free = parts.0; settles = parts.1 }
@@ -388,9 +387,9 @@ module _ (limit : ℕ) (w : List ℕ) (marked : Term → Bool) (I : Interpretati
 
         go : (c : Bool) → truth_in ts t.p ≡ c → chosen (truth_in ts t.p) (holds (get_or vs t.p 0)) (truth_in ts t.q) (truth_in ts t.r) (eqb (get_or vs t.q 0) (get_or vs t.r 0)) ≡ true
             → get_or vs k 0 ≡ cond (holds (get_or vs t.p 0)) (get_or vs t.q 0) (get_or vs t.r 0)
-            → Claim (cond (truth_in ts t.p) (Picked (record { first = t.p; second = picked vs t })) (Equal (record { first = t.q; second = t.r })))
+            → Claim (Some (cond (truth_in ts t.p) (Picked t.p (picked vs t)) (Equal t.q t.r)))
         go true ec g n =
-            subst (λ (z : Bool). Claim (cond z (Picked (record { first = t.p; second = picked vs t })) (Equal (record { first = t.q; second = t.r })))) (sym ec)
+            subst (λ (z : Bool). Claim (Some (cond z (Picked t.p (picked vs t)) (Equal t.q t.r)))) (sym ec)
             (record {
               test = refl;
               branch = refl;
@@ -401,7 +400,7 @@ module _ (limit : ℕ) (w : List ℕ) (marked : Term → Bool) (I : Interpretati
         go false ec g n =
             let parts = chosen-equal (holds (get_or vs t.p 0)) (truth_in ts t.q) (truth_in ts t.r) (eqb (get_or vs t.q 0) (get_or vs t.r 0)) (sym (ap (λ (z : Bool). chosen z (holds (get_or vs t.p 0)) (truth_in ts t.q) (truth_in ts t.r) (eqb (get_or vs t.q 0) (get_or vs t.r 0))) ec) ∙ g) in
             let equal : get_or vs t.q 0 ≡ get_or vs t.r 0 = eqb-true (get_or vs t.q 0) (get_or vs t.r 0) parts.2 in
-            subst (λ (z : Bool). Claim (cond z (Picked (record { first = t.p; second = picked vs t })) (Equal (record { first = t.q; second = t.r })))) (sym ec)
+            subst (λ (z : Bool). Claim (Some (cond z (Picked t.p (picked vs t)) (Equal t.q t.r)))) (sym ec)
             (record {
               branches = (refl, refl);
               first-free = parts.0;
@@ -411,11 +410,10 @@ module _ (limit : ℕ) (w : List ℕ) (marked : Term → Bool) (I : Interpretati
             })
 
     -- a read
-    of-read : (x : Settled) → ReadSays (get_or vs t.q 0) t.p (get_or vs k 0) x → Claim x
-    of-read Untold h = tt
+    of-read : (x : Settled) → ReadSays (get_or vs t.q 0) t.p (get_or vs k 0) x → Claim (Some x)
     of-read (Alone i) h = absurd h
-    of-read (Picked pair) h = absurd h
-    of-read (Equal pair) h = absurd h
+    of-read (Picked i c) h = absurd h
+    of-read (Equal i c) h = absurd h
     of-read (AtIndex held) h = h
     of-read (EqualBeneath held) h = h
     of-read (EqualBranches c) h = h
@@ -429,9 +427,10 @@ module _ (limit : ℕ) (w : List ℕ) (marked : Term → Bool) (I : Interpretati
         let cp = condition_below w marked I k t.p pb in
         let vp = value-below w I k t.p pb in
         let g : (K t.p).read_free (get_or vs t.q 0) (truth_in ts t.q) ≡ true = sym (λ i. (cp i).read_free (nq i) (tq i)) ∙ sym (condition_as limit w I f marked k b Select e) ∙ h in
-        of-read (by Cell)
+        let stop = settled_here w ts (stop_at w vs ts (get_or vs t.q 0) t.p) in
+        of-read stop
         (moved (get_or vs t.q 0) t.p t.p ((W t.p).cell (get_or vs t.q 0)) (get_or vs k 0) (λ i r. r)
-        (number_at k b ∙ ap (λ (o : Op). (value_by I vk (sort_at w t.p).n t o).num) e ∙ (λ i. (vp i).cell (nq i))) (by Cell)
+        (number_at k b ∙ ap (λ (o : Op). (value_by I vk (sort_at w t.p).n t o).num) e ∙ (λ i. (vp i).cell (nq i))) stop
         (read-says (get_or vs t.q 0) (suc t.p) t.p (omega arith) (omega arith) ps (opened (truth_in ts t.q) g)))
       where
         opened : (c : Bool) → (K t.p).read_free (get_or vs t.q 0) c ≡ true → (K t.p).read_free (get_or vs t.q 0) true ≡ true
@@ -447,7 +446,7 @@ module _ (limit : ℕ) (w : List ℕ) (marked : Term → Bool) (I : Interpretati
     says_by (store s) h = subst (λ (z : Shape). Claim (by z)) (shape_as Store s.is) tt
     says_by (fork c) h = never (sym (fork_unfree limit w I f marked k b c) ∙ h)
 
-    settler_says : (z : Bool) → (truth_in ts k && some_unfree w ts t) ≡ z → Claim (cond z (by (shape_of (rank t))) Untold)
+    settler_says : (z : Bool) → (truth_in ts k && some_unfree w ts t) ≡ z → Claim (cond z (by (shape_of (rank t))) None)
     settler_says true e = says_by (made limit w I f k b) (sym (free_at k b) ∙ (and_parts (truth_in ts k) (some_unfree w ts t) e).0)
     settler_says false e = tt
 
@@ -455,16 +454,16 @@ module _ (limit : ℕ) (w : List ℕ) (marked : Term → Bool) (I : Interpretati
 
     -- some operand is not free, by the shape
     abbrev some : Shape → Bool
-    some h = there (get_or (unfree_by w ts t h) 0 Nothing) || there (get_or (unfree_by w ts t h) 1 Nothing) || there (get_or (unfree_by w ts t h) 2 Nothing)
+    some h = is_some (get_or (unfree_by w ts t h) 0 None) || is_some (get_or (unfree_by w ts t h) 1 None) || is_some (get_or (unfree_by w ts t h) 2 None)
 
     some_as : some_unfree w ts t ≡ some (shape_of (rank t))
     unfolding unfree_at
     some_as = refl
 
-    abbrev lone : Bool → Bool → Settled
-    lone y z = cond y (Alone t.p) (cond z (Alone t.q) Untold)
+    abbrev lone : Bool → Bool → Option Settled
+    lone y z = cond y (Some (Alone t.p)) (cond z (Some (Alone t.q)) None)
 
-    lone_told : (y z : Bool) → (y ≡ true) ⊎ (z ≡ true) → told (lone y z) ≡ true
+    lone_told : (y z : Bool) → (y ≡ true) ⊎ (z ≡ true) → is_some (lone y z) ≡ true
     lone_told true z h = refl
     lone_told false true h = refl
     lone_told false false (inl h) = never h
@@ -496,54 +495,41 @@ module _ (limit : ℕ) (w : List ℕ) (marked : Term → Bool) (I : Interpretati
           let i = cond second t.q t.p in
           ap (λ (o : Op). truth_in ts i && settles o n (get_or vs i 0) (get_or vs i 0) (get_or vs i 0) (not second) second false) e
 
-      binary-told : (t.p < k) × (t.q < k) × (t.r < k) → (c && d) ≡ false → told (by Binary) ≡ true
+      binary-told : (t.p < k) × (t.q < k) × (t.r < k) → (c && d) ≡ false → is_some (by Binary) ≡ true
       binary-told places shut =
           lone_told (settles_alone w vs ts t false) (settles_alone w vs ts t true)
           (⊎_elim (λ a. inl (alone_as false ∙ a)) (λ a. inr (alone_as true ∙ a))
           (alone_by (operation g) n (get_or vs t.p 0) (get_or vs t.q 0) c d (by_operands places) shut))
 
-      not_both : (y z : Bool) → (there (cond y Nothing (Operand t.p)) || there (cond z Nothing (Operand t.q)) || false) ≡ true → (y && z) ≡ false
+      not_both : (y z : Bool) → (is_some (cond y None (Some (Operand t.p))) || is_some (cond z None (Some (Operand t.q))) || false) ≡ true → (y && z) ≡ false
       not_both true true u = never u
       not_both true false u = refl
       not_both false z u = refl
 
-      not_one : (y : Bool) → (there (cond y Nothing (Operand t.p)) || false || false) ≡ true → y ≡ true → ⊥
+      not_one : (y : Bool) → (is_some (cond y None (Some (Operand t.p))) || false || false) ≡ true → y ≡ true → ⊥
       not_one true u v = never u
       not_one false u v = never v
 
-      two_told : (r : FunctionRank two_operands) → (t.p < k) × (t.q < k) × (t.r < k) → some (shape_of (applied r)) ≡ true → told (by (shape_of (applied r))) ≡ true
+      two_told : (r : FunctionRank two_operands) → (t.p < k) × (t.q < k) × (t.r < k) → some (shape_of (applied r)) ≡ true → is_some (by (shape_of (applied r))) ≡ true
       two_told bool_binary places u = binary-told places (not_both c d u)
       two_told equality places u = binary-told places (not_both c d u)
       two_told bv_binary places u = binary-told places (not_both c d u)
       two_told bv_compare places u = binary-told places (not_both c d u)
 
-      one_told : (r : FunctionRank one_operand) → c ≡ true → some (shape_of (applied r)) ≡ true → told (by (shape_of (applied r))) ≡ true
+      one_told : (r : FunctionRank one_operand) → c ≡ true → some (shape_of (applied r)) ≡ true → is_some (by (shape_of (applied r))) ≡ true
       one_told bool_unary v u = absurd (not_one c u v)
       one_told bv_unary v u = absurd (not_one c u v)
 
       function_told : (o : Operation) (r : FunctionRank (arity o)) → operation_condition o n (get_or vs t.p 0) (get_or vs t.q 0) c d ≡ true → (t.p < k) × (t.q < k) × (t.r < k)
-          → some (shape_of (applied r)) ≡ true → told (by (shape_of (applied r))) ≡ true
+          → some (shape_of (applied r)) ≡ true → is_some (by (shape_of (applied r))) ≡ true
       function_told (unary o) r v places u = one_told r v u
       function_told (strict o) r v places u = two_told r places u
       function_told (absorbing o x y) r v places u = two_told r places u
       function_told (shift o y) r v places u = two_told r places u
       function_told (fixed o x y) r v places u = two_told r places u
 
-    told-choice : (z : Bool) → told (cond z (Picked (record { first = t.p; second = picked vs t })) (Equal (record { first = t.q; second = t.r }))) ≡ true
-    told-choice true = refl
-    told-choice false = refl
-
-    told_here : (a : ℕ) → told (settled_here w ts a) ≡ true
-    told_here a = go (branched (term_at w a) a) (stacked (term_at w a) a) (truth_in ts (term_at w a).q)
-      where
-        go : (b s f : Bool) → told (cond b (EqualBranches a) (cond s (cond f (AtIndex (record { store = a; term = (term_at w a).r })) (EqualBeneath (record { store = a; term = (term_at w a).r }))) (Unmarked a))) ≡ true
-        go true s f = refl
-        go false true true = refl
-        go false true false = refl
-        go false false f = refl
-
     abbrev Tells : Shape → Type 0
-    Tells z = some z ≡ true → told (by z) ≡ true
+    Tells z = some z ≡ true → is_some (by z) ≡ true
 
     tells_by : Made limit w I f k b → (K k).free ≡ true → Tells (shape_of (rank t))
     tells_by (literal e) h = subst Tells (shape_as Constant e) (λ u. never u)
@@ -551,8 +537,8 @@ module _ (limit : ℕ) (w : List ℕ) (marked : Term → Bool) (I : Interpretati
     tells_by (function g e o) h =
         let places = rank_below (function_rank g) k t (placing_as w k (f.sound k b) (Apply g) e) in
         subst Tells (shape_as (Apply g) e) (function_told g e h (operation g) (function_rank g) (by_operands g e h places) places)
-    tells_by (choice e flat l p q r) h = subst Tells (shape_as Ite e) (λ u. told-choice (truth_in ts t.p))
-    tells_by (read e l pb ps q) h = subst Tells (shape_as Select e) (λ u. told_here (stop_at w vs ts (get_or vs t.q 0) t.p))
+    tells_by (choice e flat l p q r) h = subst Tells (shape_as Ite e) (λ u. refl)
+    tells_by (read e l pb ps q) h = subst Tells (shape_as Select e) (λ u. refl)
     tells_by (store s) h = subst Tells (shape_as Store s.is) (λ u. never u)
     tells_by (fork c) h = never (sym (fork_unfree limit w I f marked k b c) ∙ h)
 
@@ -562,5 +548,5 @@ settler_true limit w marked I f k b = settler_says limit w marked I f k b (truth
 
 pub settler_told : SettlerTold
 settler_told limit w marked I f k b h u =
-    ap told (sym (told_as w (vs limit w marked I f) (ts limit w marked I f) k (term_at w k) refl (ap₂ ◌&&◌ h u)))
+    ap is_some (sym (told_as w (vs limit w marked I f) (ts limit w marked I f) k (ap₂ ◌&&◌ h u)))
     ∙ tells_by limit w marked I f k b (made limit w I f k b) (sym (free_at limit w marked I f k b) ∙ h) (sym (some_as limit w marked I f k b) ∙ u)

@@ -1,6 +1,6 @@
 -- The way down, the repair and the settler in examples of paper 01, by computation.
 -- Assumes nothing.
-use Rattle.std.specs.Prelude.{◌≡◌, refl, cond, List, [], ◌∷◌, ℕ, zero, suc}
+use Rattle.std.specs.Prelude.{◌≡◌, refl, cond, List, [], ◌∷◌, ℕ, zero, suc, Option, None, Some}
 use Rattle.ops.specs.Meaning.{apply}
 use Rattle.ops.specs.Condition.{settles}
 use Rattle.table.specs.Bench.{term, rule_g, rule_h}
@@ -12,7 +12,7 @@ use Rattle.evaluate.specs.Values.{value_by, numbers}
 use Rattle.judge.specs.Conditions.{condition_by, truths}
 use Rattle.sheets.specs.Marks.{own_marks}
 use Rattle.explain.specs.declared.answers.Settled.{Settled}
-use Rattle.explain.specs.declared.answers.Settled.TheVariants.{Untold, Alone, Picked, Equal, AtIndex, EqualBeneath, EqualBranches, Unmarked}
+use Rattle.explain.specs.declared.answers.Settled.TheVariants.{Alone, Picked, Equal, AtIndex, EqualBeneath, EqualBranches, Unmarked}
 use Rattle.explain.specs.declared.answers.Source.{Source}
 use Rattle.explain.specs.declared.answers.Source.TheVariants.{Operand, Index, Stored, Test, Array}
 use Rattle.explain.specs.Sources.{along_within, support}
@@ -65,8 +65,8 @@ down_in w values =
 
 -- what settled term k of a table in a setting, and its operand i that is not free
 pub record Told : Type 0 where
-  pub by : Settled
-  pub though : Source
+  pub by : Option Settled
+  pub though : Option Source
 
 pub told_in : List ℕ → List ℕ → ℕ → ℕ → Told
 told_in w values k i =
@@ -125,17 +125,17 @@ settlers =
     ∷ []
 
 pub settlers_are : settlers
-    ≡ record { by = Alone 0; though = Operand 1 }
-    ∷ record { by = Untold; though = Operand 1 }
-    ∷ record { by = AtIndex (record { store = 4; term = 3 }); though = Array 0 }
-    ∷ record { by = Equal (record { first = 1; second = 2 }); though = Operand 0 }
-    ∷ record { by = Untold; though = Operand 0 }
-    ∷ record { by = Picked (record { first = 0; second = 1 }); though = Operand 2 }
-    ∷ record { by = EqualBeneath (record { store = 4; term = 3 }); though = Index (record { store = 4; term = 1 }) }
-    ∷ record { by = Unmarked 0; though = Stored (record { store = 4; term = 3 }) }
-    ∷ record { by = EqualBranches 3; though = Test (record { store = 3; term = 0 }) }
-    ∷ record { by = Untold; though = Test (record { store = 3; term = 0 }) }
-    ∷ record { by = Unmarked 1; though = Array 2 }
+    ≡ record { by = Some (Alone 0); though = Some (Operand 1) }
+    ∷ record { by = None; though = Some (Operand 1) }
+    ∷ record { by = Some (AtIndex (record { store = 4; term = 3 })); though = Some (Array 0) }
+    ∷ record { by = Some (Equal 1 2); though = Some (Operand 0) }
+    ∷ record { by = None; though = Some (Operand 0) }
+    ∷ record { by = Some (Picked 0 1); though = Some (Operand 2) }
+    ∷ record { by = Some (EqualBeneath (record { store = 4; term = 3 })); though = Some (Index (record { store = 4; term = 1 })) }
+    ∷ record { by = Some (Unmarked 0); though = Some (Stored (record { store = 4; term = 3 })) }
+    ∷ record { by = Some (EqualBranches 3); though = Some (Test (record { store = 3; term = 0 })) }
+    ∷ record { by = None; though = Some (Test (record { store = 3; term = 0 })) }
+    ∷ record { by = Some (Unmarked 1); though = Some (Array 2) }
     ∷ []
 unfolding settlers told_in fold value_by condition_by apply settles look_from stop_within unfree_within unfree_at settler_of
 settlers_are = refl

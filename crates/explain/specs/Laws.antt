@@ -1,7 +1,7 @@
 -- What is proved of operands, of what a value comes from, of the way down and of a repair, as named statements. The
 -- proofs are in proofs/.
 -- Assumes nothing.
-use Rattle.std.specs.Prelude.{◌≡◌, Bool, true, false, cond, List, ◌⊎◌, ℕ, pred, ◌≤◌, ◌<◌, length}
+use Rattle.std.specs.Prelude.{Ok, ◌≡◌, Bool, true, false, cond, List, ◌⊎◌, ℕ, pred, ◌≤◌, ◌<◌, length}
 use Rattle.ops.specs.declared.Op.{Op}
 use Rattle.ops.specs.Condition.{settles}
 use Rattle.table.specs.declared.words.Term.{Term}
@@ -12,7 +12,6 @@ use Rattle.setting.specs.Interpretation.{Interpretation, interpret}
 use Rattle.setting.specs.Cells.{look}
 use Rattle.evaluate.specs.Values.{numbers}
 use Rattle.judge.specs.declared.Verdict.{Verdict}
-use Rattle.judge.specs.declared.Judgement.TheVariants.{Judged}
 use Rattle.judge.specs.Conditions.{condition_at, truths}
 use Rattle.judge.specs.Judgement.{rule_condition, judgement_under, passes}
 use Rattle.judge.specs.Marks.{Fewer}
@@ -110,11 +109,11 @@ Repair = (w : List ℕ) (marked : Term → Bool) (I : Interpretation) → WellFo
 -- A setting passes.
 pub record Passing (w : List ℕ) (marked : Term → Bool) (values cells : List ℕ) (allowance room : ℕ) : Type 0 where
   pub verdict : Verdict
-  pub judged : judgement_under marked w values cells allowance room ≡ Judged verdict
+  pub judged : judgement_under marked w values cells allowance room ≡ Ok verdict
   pub passed : passes verdict ≡ true
 
 -- So a setting that is judged, and in which the rule is true, passes without the marks of the named slots.
 abbrev pub RepairPasses : Type 0
 RepairPasses =
-    (w : List ℕ) (marked : Term → Bool) (values cells : List ℕ) (allowance room : ℕ) (v : Verdict) → judgement_under marked w values cells allowance room ≡ Judged v → v.rule ≡ true
+    (w : List ℕ) (marked : Term → Bool) (values cells : List ℕ) (allowance room : ℕ) (v : Verdict) → judgement_under marked w values cells allowance room ≡ Ok v → v.rule ≡ true
     → Passing w (left_marked marked (repair_in w marked (interpret values (look cells)))) values cells allowance room

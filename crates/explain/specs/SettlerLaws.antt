@@ -1,6 +1,6 @@
 -- What is proved of the settler, as named statements. The proofs are in proofs/.
 -- Assumes nothing.
-use Rattle.std.specs.Prelude.{◌≡◌, Bool, true, false, cond, List, ℕ, ◌<◌, get_or}
+use Rattle.std.specs.Prelude.{◌≡◌, Bool, true, false, cond, List, ℕ, ◌<◌, get_or, Option, None, Some, is_some}
 use Rattle.ops.specs.Numbers.{op_of}
 use Rattle.table.specs.declared.words.Term.{Term}
 use Rattle.table.specs.Terms.{terms, term_at, sort_at}
@@ -11,9 +11,8 @@ use Rattle.evaluate.specs.Values.{value_at, numbers}
 use Rattle.judge.specs.Conditions.{condition_at, truths}
 use Rattle.judge.specs.Code.Labelled.{truth_in}
 use Rattle.explain.specs.declared.answers.Held.{Held}
-use Rattle.explain.specs.declared.answers.Pair.{Pair}
 use Rattle.explain.specs.declared.answers.Settled.{Settled}
-use Rattle.explain.specs.declared.answers.Settled.TheVariants.{Untold, Alone, Picked, Equal, AtIndex, EqualBeneath, EqualBranches, Unmarked}
+use Rattle.explain.specs.declared.answers.Settled.TheVariants.{Alone, Picked, Equal, AtIndex, EqualBeneath, EqualBranches, Unmarked}
 use Rattle.explain.specs.Operands.{would_settle}
 use Rattle.explain.specs.Sources.{picked}
 use Rattle.explain.specs.Settlers.{some_unfree, freely_past, freely_picked, settler_of}
@@ -43,20 +42,20 @@ module _ (w : List ℕ) (marked : Term → Bool) (I : Interpretation) where
     pub settles : would_settle (op_of (term_at w k).op) (sort_at w (term_at w k).p).n (value i) second ≡ true
 
   -- the test is free, and so is the branch that it picks: the value is the branch's
-  pub record SaysPicked (k : ℕ) (pair : Pair) : Type 0 where
-    pub test : pair.first ≡ (term_at w k).p
-    pub branch : pair.second ≡ picked (numbers w I (terms w)) (term_at w k)
-    pub test-free : free pair.first ≡ true
-    pub branch-free : free pair.second ≡ true
-    pub same : value k ≡ value pair.second
+  pub record SaysPicked (k i b : ℕ) : Type 0 where
+    pub test : i ≡ (term_at w k).p
+    pub branch : b ≡ picked (numbers w I (terms w)) (term_at w k)
+    pub test-free : free i ≡ true
+    pub branch-free : free b ≡ true
+    pub same : value k ≡ value b
 
   -- both branches are free and equal: the value is theirs
-  pub record SaysEqual (k : ℕ) (pair : Pair) : Type 0 where
-    pub branches : (pair.first ≡ (term_at w k).q) × (pair.second ≡ (term_at w k).r)
-    pub first-free : free pair.first ≡ true
-    pub second-free : free pair.second ≡ true
-    pub equal : value pair.first ≡ value pair.second
-    pub same : value k ≡ value pair.first
+  pub record SaysEqual (k b c : ℕ) : Type 0 where
+    pub branches : (b ≡ (term_at w k).q) × (c ≡ (term_at w k).r)
+    pub first-free : free b ≡ true
+    pub second-free : free c ≡ true
+    pub equal : value b ≡ value c
+    pub same : value k ≡ value b
 
   -- Of a read of array term a at index j, which gives number:
 
@@ -99,26 +98,15 @@ module _ (w : List ℕ) (marked : Term → Bool) (I : Interpretation) where
     pub same : number ≡ (value_at w I b).cell j
 
   -- What the settler of term k says.
-  abbrev pub Says : ℕ → Settled → Type 0
-  Says k Untold = Unit {0}
-  Says k (Alone i) = SaysAlone k i
-  Says k (Picked pair) = SaysPicked k pair
-  Says k (Equal pair) = SaysEqual k pair
-  Says k (AtIndex held) = SaysAtIndex (value (term_at w k).q) (term_at w k).p (value k) held
-  Says k (EqualBeneath held) = SaysEqualBeneath (value (term_at w k).q) (term_at w k).p (value k) held
-  Says k (EqualBranches b) = SaysEqualBranches (value (term_at w k).q) (term_at w k).p (value k) b
-  Says k (Unmarked b) = SaysUnmarked (value (term_at w k).q) (term_at w k).p (value k) b
-
--- something is told
-abbrev pub told : Settled → Bool
-told Untold = false
-told (Alone i) = true
-told (Picked pair) = true
-told (Equal pair) = true
-told (AtIndex held) = true
-told (EqualBeneath held) = true
-told (EqualBranches b) = true
-told (Unmarked b) = true
+  abbrev pub Says : ℕ → Option Settled → Type 0
+  Says k None = Unit {0}
+  Says k (Some (Alone i)) = SaysAlone k i
+  Says k (Some (Picked i b)) = SaysPicked k i b
+  Says k (Some (Equal b c)) = SaysEqual k b c
+  Says k (Some (AtIndex held)) = SaysAtIndex (value (term_at w k).q) (term_at w k).p (value k) held
+  Says k (Some (EqualBeneath held)) = SaysEqualBeneath (value (term_at w k).q) (term_at w k).p (value k) held
+  Says k (Some (EqualBranches b)) = SaysEqualBranches (value (term_at w k).q) (term_at w k).p (value k) b
+  Says k (Some (Unmarked b)) = SaysUnmarked (value (term_at w k).q) (term_at w k).p (value k) b
 
 -- What the settler says is so: of each term of a well-formed table, by the values and truths of any interpretation
 -- under any marks.
@@ -132,4 +120,4 @@ abbrev pub SettlerTold : Type 0
 SettlerTold =
     (limit : ℕ) (w : List ℕ) (marked : Term → Bool) (I : Interpretation) → WellFormed limit w
     → (k : ℕ) → k < terms w → free w marked I k ≡ true → some_unfree w (truths w marked I (terms w)) (term_at w k) ≡ true
-    → told (settler_of w (numbers w I (terms w)) (truths w marked I (terms w)) k) ≡ true
+    → is_some (settler_of w (numbers w I (terms w)) (truths w marked I (terms w)) k) ≡ true

@@ -1,6 +1,6 @@
 -- What a term's value comes from in a setting: the operands that make it, by the values alone.
 -- Assumes nothing.
-use Rattle.std.specs.Prelude.{Bool, true, false, cond, not, ◌&&◌, ◌||◌, List, [], ◌∷◌, ℕ, zero, suc, eqb, ltb, get_or}
+use Rattle.std.specs.Prelude.{Bool, false, cond, not, ◌&&◌, ◌||◌, List, [], ◌∷◌, ℕ, zero, suc, eqb, ltb, get_or}
 use Rattle.ops.specs.Meaning.{holds}
 use Rattle.table.specs.declared.ranks.Rank.{Rank}
 use Rattle.table.specs.declared.ranks.Rank.TheVariants.{Literal, Input, BoolUnary, BoolBinary, Equality, Choice, BvUnary, BvBinary, BvCompare, Read, Write, Other}
@@ -11,24 +11,15 @@ use Rattle.judge.specs.Code.Labelled.{truth_in}
 use Rattle.explain.specs.declared.answers.Shape.{Shape}
 use Rattle.explain.specs.declared.answers.Shape.TheVariants.{Leaf, Unary, Binary, Branches, Cell}
 use Rattle.explain.specs.declared.answers.Source.{Source}
-use Rattle.explain.specs.declared.answers.Source.TheVariants.{Nothing, Operand, Index, Stored, Test, Array}
+use Rattle.explain.specs.declared.answers.Source.TheVariants.{Operand, Index, Stored, Test, Array}
 
--- the term that a source names, where there is one
+-- the term that a source names
 abbrev pub term_of : Source → ℕ
-term_of Nothing = 0
 term_of (Operand k) = k
 term_of (Index held) = held.term
 term_of (Stored held) = held.term
 term_of (Test held) = held.term
 term_of (Array a) = a
-
-abbrev pub there : Source → Bool
-there Nothing = false
-there (Operand k) = true
-there (Index held) = true
-there (Stored held) = true
-there (Test held) = true
-there (Array a) = true
 
 -- a store over an earlier term
 abbrev pub stacked : Term → ℕ → Bool

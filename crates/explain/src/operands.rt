@@ -1,8 +1,9 @@
 // An operand: whether it is free, and whether its value settles the operator.
 ghost use Rattle.std.specs.Prelude.{◌≡◌};
 ghost use Rattle.judge.specs.Code.Labelled.{truth_in};
-ghost use Rattle.explain.specs.Operands.{would_settle, state_of, operand_state};
+ghost use Rattle.explain.specs.Operands.{would_settle, operand_state};
 
+use crate::Judged;
 use ops::Op;
 use table::{Term, number_at};
 
@@ -30,33 +31,19 @@ pub fn would_settle(op: Op, n: u32, x: u32, second: bool) -> bool
     ops::settles(op, n, x, x, x, !second, second, false)
 }
 
-fn state_of(free: bool, settles: bool) -> Operand
-    ensures { result ≡ state_of free settles }
-{
-    if free {
-        if settles {
-            return Operand::Settles;
+impl Judged<'_> {
+    // The state of operand p of term `x`, of q where second.
+    pub fn operand_state(self, x: Term, second: bool) -> Operand
+        ensures { result ≡ operand_state self.entry.table.now self.entry.values.now self.entry.truths.now x second }
+    {
+        let k = if second { x.q } else { x.p };
+        let width = table::sort_at(self.table, x.p).n;
+        let settles = would_settle(ops::op_of(x.op), width, number_at(self.values, k), second);
+        match (free_at(self.truths, k), settles) {
+            (true, true) => Operand::Settles,
+            (true, false) => Operand::Free,
+            (false, true) => Operand::WouldSettle,
+            (false, false) => Operand::Unfree,
         }
-        return Operand::Free;
     }
-    if settles {
-        return Operand::WouldSettle;
-    }
-    Operand::Unfree
-}
-
-// The state of operand p of term `x`, of q where second.
-pub fn operand_state(
-    table: &[u32],
-    values: &[u32],
-    truths: &[u32],
-    x: Term,
-    second: bool,
-) -> Operand
-    ensures { result ≡ operand_state table.now values.now truths.now x second }
-{
-    let k = ops::ite(second, x.q, x.p);
-    let first = table::sort_at(table, x.p);
-    let settles = would_settle(ops::op_of(x.op), first.n, number_at(values, k), second);
-    state_of(free_at(truths, k), settles)
 }

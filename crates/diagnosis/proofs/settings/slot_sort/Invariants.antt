@@ -1,10 +1,7 @@
-use mathlib.Core.Path.{◌≡◌}
+use Rattle.std.proofs.Common.{◌≡◌}
 use Rattle.table.specs.Terms.{terms}
 use Rattle.setting.specs.Arrays.{array_entry}
 use Rattle.diagnosis.proofs.settings.slot_sort.Given as goal
 
 abbrev pub invariant-loop-k : goal.invariant-loop-k
 invariant-loop-k l = array_entry l.table (terms l.table) l.slot ≡ array_entry l.table l.k l.slot
-
-abbrev pub decreases-loop-k : goal.decreases-loop-k
-decreases-loop-k l = l.k

@@ -1,37 +1,20 @@
-use mathlib.Core.Path.{refl, sym, ap, ◌∙◌}
-use mathlib.Core.Bool.{Bool, ◌&&◌}
-use Prim.Native.Nat.{ℕ, ◌-◌}
-use native.Mathlib.Omega.{arith}
-use lib.Dec.{ltb}
-use lib.ListN.{get_or}
-use borrow.Author.Tests.{ltb-true}
-use Rattle.ops.proofs.Booleans.{and_parts}
-use Rattle.explain.specs.declared.answers.Source.TheVariants.{Nothing}
+use Rattle.std.proofs.Common.{sym, ap, ◌∙◌, ℕ, slice_get, ◌-◌}
 use Rattle.explain.specs.Sources.{along}
-use Rattle.explain.proofs.Alongs.{onward, stopped}
+use Rattle.explain.proofs.Alongs.{onward, stopped, first_along}
 use Rattle.explain.proofs.sources.along.Goals as goal
-
-pub overflow_sub-left : goal.overflow_sub-left
-overflow_sub-left c =
-    let some = ltb-true 0 c.loop-left.left (and_parts (ltb 0 c.loop-left.left) c.goes.result c.loop-left-test.true).0 in
-    omega arith
-
-pub loop-left-smaller : goal.loop-left-smaller
-loop-left-smaller c =
-    let some = ltb-true 0 c.loop-left.left (and_parts (ltb 0 c.loop-left.left) c.goes.result c.loop-left-test.true).0 in
-    omega arith
+use Rattle.explain.proofs.sources.along.Goals.{then-loop-left-test+else-goes, else-loop-left-test}
 
 pub loop-left-preserved : goal.loop-left-preserved
 loop-left-preserved c =
-    ap (λ (n : ℕ). get_or (along c.args.table.now c.args.values.now n c.args.j) (c.loop-left.left - 1) Nothing) c.next-at.ensures
-    ∙ onward c.args.table.now c.args.values.now c.args.j c.loop-left.at c.loop-left.left (sym (ap (λ (b : Bool). ltb 0 c.loop-left.left && b) c.goes.ensures) ∙ c.loop-left-test.true)
+    ap (λ (n : ℕ). slice_get (along c.args.table.now c.args.values.now n c.args.j) (c.loop-left.left - 1)) c.next-at.ensures
+    ∙ onward c.args.table.now c.args.values.now c.args.j c.loop-left.at c.loop-left.left c.loop-left-test.true (sym c.goes.ensures ∙ c.if-goes.true)
     ∙ c.loop-left.invariant
 
 pub returns : goal.returns
 returns c =
     c.here.ensures
-    ∙ stopped c.args.table.now c.args.values.now c.args.j c.loop-left.at c.loop-left.left (sym (ap (λ (b : Bool). ltb 0 c.loop-left.left && b) c.goes.ensures) ∙ c.loop-left-test.false)
+    ∙ elim c.loop-left-test.branch [
+      | then-loop-left-test+else-goes w ↦ stopped c.args.table.now c.args.values.now c.args.j c.loop-left.at c.loop-left.left (sym w.goes.ensures ∙ w.if-goes.false)
+      | else-loop-left-test w ↦ first_along c.args.table.now c.args.values.now c.args.j c.loop-left.at c.loop-left.left w.loop-left-test.false
+    ]
     ∙ c.loop-left.invariant
-
-pub loop-left-init : goal.loop-left-init
-loop-left-init c = refl

@@ -1,4 +1,0 @@
-use Rattle.diagnosis.proofs.settings.array_of.Goals as goal
-
-pub returns : goal.returns
-returns c = rw (c.array.ensures, c.is_variable.ensures)

@@ -1,4 +1,0 @@
-use Rattle.diagnosis.proofs.settings.slot_told.Goals as goal
-
-pub returns : goal.returns
-returns c = rw (c.unless.ensures, c.nothing.ensures, c.plain.ensures, c.is_variable.ensures)

@@ -1,23 +1,21 @@
-// A page: a row of bytes that is written to its stream whenever it is full. A place in it is how many of its bytes are
-// filled, or BROKEN once a write has failed; whatever is put there stays unwritten, and the place stays BROKEN.
+// A page: a row of bytes that is written to its stream whenever it is full. A write that fails is kept, and whatever was
+// put on the page answers an error.
 #![tactic(auto)]
 
 mod failures; // errors of the system
-mod numbers; // the numbers of a message
-mod texts; // messages: lines of a text, with numbers
+mod words; // text that is kept as bytes
 
+ghost use Rattle.std.specs.Prelude.{◌≡◌, ℕ, ◌+◌, ◌<◌, ◌≤◌, List, [], ◌∷◌, ◌++◌, length, take, min, IfOk};
 ghost use Rattle.io.specs.Counts.{IsPrefixLen};
 
 pub use failures::{fail, is_closed};
-pub use numbers::{
-    DASH, NULL, Numbers, five, none, one, push, push_if, push_long, three, truth, two, value,
-};
+use std::fmt;
+use std::fmt::{Display, Write as _};
 use std::io::{Error, ErrorKind, Print, Result, Stderr, Stdout};
-pub use texts::{fill, name_width};
+use std::marker::Model;
+pub use words::{Ascii, Short};
 
 const SIZE: usize = 4096;
-
-const BROKEN: usize = 18446744073709551615;
 
 // Where a page is written. A draft is not: what was put there is read back.
 #[derive(Clone, Copy)]
@@ -30,113 +28,155 @@ enum Stream {
 #[derive(Drop)]
 pub struct Page {
     row: [u8; SIZE],
+    at: usize,
     stream: Stream,
     failure: Option<Error>,
 }
 
-fn new(stream: Stream) -> Page {
-    Page {
-        row: io::buffer(),
-        stream: stream,
-        failure: None,
+// In contracts a page is the bytes that it holds.
+impl Model for Page {
+    ghost Value = { List ℕ };
+
+    ghost view = { λ p. take p.at p.row };
+
+    ghost invariant = { λ p. p.at ≤ 4096 };
+}
+
+impl Page {
+    fn new(stream: Stream) -> Page
+        ensures { result ≡ [] }
+    {
+        Page {
+            row: io::buffer(),
+            at: 0,
+            stream,
+            failure: None,
+        }
     }
-}
 
-// A page for standard output.
-pub fn for_output(output: Stdout) -> Page {
-    new(Stream::Output(output))
-}
-
-// A page for standard error.
-pub fn for_errors(errors: Stderr) -> Page {
-    new(Stream::Errors(errors))
-}
-
-pub fn draft() -> Page {
-    new(Stream::Draft)
-}
-
-fn write(stream: Stream, bytes: &[u8]) -> Result<()> {
-    match stream {
-        Stream::Output(output) => output.write_all(bytes),
-        Stream::Errors(errors) => errors.write_all(bytes),
-        Stream::Draft => Err(Error::from(ErrorKind::StorageFull)),
+    // A page for standard output.
+    pub fn output(output: Stdout) -> Page
+        ensures { result ≡ [] }
+    {
+        Page::new(Stream::Output(output))
     }
-}
 
-// The start of a page, where a write succeeded; else the failure is kept.
-fn anew(page: &mut Page, written: Result<()>) -> usize {
-    match written {
-        Ok(()) => 0,
-        Err(e) => {
-            page.failure = Some(e);
-            BROKEN
+    // A page for standard error.
+    pub fn errors(errors: Stderr) -> Page
+        ensures { result ≡ [] }
+    {
+        Page::new(Stream::Errors(errors))
+    }
+
+    pub fn draft() -> Page
+        ensures { result ≡ [] }
+    {
+        Page::new(Stream::Draft)
+    }
+
+    // What it holds.
+    pub fn text(&self) -> &[u8]
+        ensures { result.now ≡ self.now }
+    {
+        &self.row[..self.at]
+    }
+
+    // Writes what it holds.
+    fn write_out(&self) -> Result<()> {
+        match self.stream {
+            Stream::Output(output) => output.write_all(self.text()),
+            Stream::Errors(errors) => errors.write_all(self.text()),
+            Stream::Draft => Err(Error::from(ErrorKind::StorageFull)),
+        }
+    }
+
+    // Begins it anew, once it is written; a failure is kept.
+    fn flush(&mut self) -> fmt::Result
+        ensures { IfOk result (λ _. self.new ≡ []) }
+    {
+        match self.write_out() {
+            Ok(()) => {
+                self.at = 0;
+                Ok(())
+            }
+            Err(e) => {
+                self.failure = Some(e);
+                Err(fmt::Error)
+            }
+        }
+    }
+
+    // One byte more. A page that is full is written first.
+    pub fn put(&mut self, byte: u8) -> fmt::Result
+        ensures more { length self.old < 4096 → IfOk result (λ _. self.new ≡ self.old ++ byte ∷ []) }
+        ensures anew { length self.old ≡ 4096 → IfOk result (λ _. self.new ≡ byte ∷ []) }
+    {
+        if self.at == SIZE {
+            self.flush()?;
+        }
+        self.row[self.at] = byte;
+        self.at += 1;
+        Ok(())
+    }
+
+    // Bytes as they are.
+    pub fn put_all(&mut self, bytes: &[u8]) -> fmt::Result
+        ensures { length self.old + length bytes.now ≤ 4096 → IfOk result (λ _. self.new ≡ self.old ++ bytes.now) }
+    {
+        for b in bytes {
+            self.put(*b)?;
+        }
+        Ok(())
+    }
+
+    // A column of so many places: what is shown, and spaces, one at least.
+    pub fn put_column<T: Display>(&mut self, width: usize, shown: &T) -> fmt::Result {
+        write!(self, "{shown}")?;
+        let spaces = width.saturating_sub(width_of(shown)).max(1);
+        write!(self, "{:spaces$}", "")
+    }
+
+    // Writes what is left; an error where not all that was ever put was written.
+    pub fn end(&self, told: fmt::Result) -> Result<()> {
+        match (told, self.failure) {
+            (_, Some(e)) => Err(e),
+            (Ok(()), None) => self.write_out(),
+            (Err(_), None) => Err(Error::from(ErrorKind::Other)),
         }
     }
 }
 
-// Where the next byte goes: a page that is full is written, and begun anew.
-fn room(page: &mut Page, at: usize) -> usize {
-    if at < SIZE {
-        at
-    } else if at == SIZE {
-        let written = write(page.stream, &page.row);
-        anew(page, written)
-    } else {
-        BROKEN
+impl fmt::Write for Page {
+    ghost write_str_gives = { λ p text q. length p + length text ≤ 4096 → q ≡ p ++ text };
+
+    fn write_str(&mut self, text: &str) -> fmt::Result {
+        self.put_all(text.as_bytes())
     }
 }
 
-// One byte more.
-pub fn put(page: &mut Page, at: usize, byte: u8) -> usize {
-    let place = room(page, at);
-    if place < SIZE {
-        page.row[place] = byte;
-        place + 1
-    } else {
-        BROKEN
+// Counts the bytes that are written.
+#[derive(Drop)]
+struct Count(usize);
+
+impl fmt::Write for Count {
+    fn write_str(&mut self, text: &str) -> fmt::Result {
+        self.0 = self.0.saturating_add(text.len());
+        Ok(())
     }
 }
 
-pub fn put_all(page: &mut Page, at: usize, bytes: &[u8]) -> usize {
-    let mut to = at;
-    for i in 0..bytes.len() {
-        to = put(page, to, bytes[i]);
+// How many bytes it takes to show something; 0 where it cannot be shown.
+pub fn width_of<T: Display>(shown: &T) -> usize {
+    let mut count = Count(0);
+    match write!(count, "{shown}") {
+        Ok(()) => count.0,
+        Err(_) => 0,
     }
-    to
-}
-
-fn put_spaces(page: &mut Page, at: usize, count: usize) -> usize {
-    let mut to = at;
-    for _i in 0..count {
-        to = put(page, to, b' ');
-    }
-    to
-}
-
-fn put_number(page: &mut Page, at: usize, n: u64) -> usize {
-    let mut digits = [0u8; 20];
-    let count = io::decimal(n, &mut digits);
-    put_all(page, at, &digits[..count])
 }
 
 // So many of some bytes, or all.
 pub fn filled(bytes: &[u8], at: usize) -> usize
     ensures { IsPrefixLen result bytes.now }
 {
-    if at < bytes.len() { at } else { bytes.len() }
-}
-
-// What is filled.
-pub fn text(page: &Page, at: usize) -> &[u8] {
-    let count = filled(&page.row, at);
-    &page.row[..count]
-}
-
-// Writes what is filled; an error where not all that was ever put was written.
-pub fn end(page: &Page, at: usize) -> Result<()> {
-    match page.failure {
-        Some(e) => Err(e),
-        None => write(page.stream, text(page, at)),
-    }
+    at.min(bytes.len())
 }

@@ -1,80 +1,119 @@
 -- Which reason is told for a rule that is refused: by what is expected where it is refused, and what stands there.
 -- Assumes nothing.
-use Rattle.std.specs.Prelude.{ℕ, Bool, cond, not, ◌&&◌, ◌||◌, ◌==◌, nat_le}
+use Rattle.std.specs.Prelude.{ℕ, Bool, true, false, cond, not, ◌&&◌, ◌||◌, ◌==◌, nat_le}
+use Rattle.parser.specs.declared.words.Keyword.TheVariants as keyword
 use Rattle.parser.specs.declared.words.Word.{Word}
-use Rattle.parser.specs.declared.words.Word.TheVariants.{Open, Close, Keyword, Operator, Literal, Width, Name, Other, End}
+use Rattle.parser.specs.declared.words.Word.TheVariants.{Open, Close, Keyword, Operator as OperatorWord, Literal, Width as WidthWord, Name as NameWord, Other, End}
+use Rattle.outline.specs.declared.scan.Command.{Command}
+use Rattle.outline.specs.declared.scan.Command.TheVariants.{Outside, Begun, DeclareConst, Assert, CheckSat}
+use Rattle.errors.specs.declared.kinds.Expected.{Expected}
+use Rattle.errors.specs.declared.kinds.Expected.TheVariants.{Opening, Command as CommandWord, Symbol, Sort, Width, DeclarationEnd, Expression, AssertEnd, Operator, Operand, CheckSatEnd, Nothing}
+use Rattle.errors.specs.declared.kinds.Found.{Found}
+use Rattle.errors.specs.declared.kinds.Found.TheVariants.{TextEnd, Semicolon, LeftParenthesis, RightParenthesis, DeclareConst as DeclareConstWord, OtherKeyword, OperatorName, Constant, Reserved, Numeric, Name, Unknown, CheckSat as CheckSatWord}
+use Rattle.errors.specs.declared.kinds.Reason.{Reason}
+use Rattle.errors.specs.declared.kinds.Reason.TheVariants.{NotExpected, Comment, EndsEarly, LateDeclaration, ReservedForName, OperatorForName, ConstantForName, BadConstant, OperatorForOperand}
+use Rattle.errors.specs.declared.kinds.Reason.TheVariants.{ReservedForOperand, NameForOperator, NotDeclared, DeclaredTwice, TooDeep, TooFewOperands, TooManyOperands, NoAssert, TooManyTerms, TooManyNames}
 
--- What is expected: 0 a command, 1 its word, 2 a name, 3 a sort, 4 a width, 5 the end of a declaration or of its sort, 6 an
--- expression, 7 the end of an assert, 8 an operator, 9 an operand, 10 the end of check-sat, 11 nothing
+-- What is expected: a command, its word, a name, a sort, a width, the end of a declaration or of its sort, an expression, the end of an
+-- assert, an operator, an operand, the end of check-sat, nothing
 
 -- in a declaration, by how many parentheses are open and how many words of it were read, the first "(" too
-abbrev pub in_declaration : ℕ → ℕ → ℕ
+abbrev pub in_declaration : ℕ → ℕ → Expected
 in_declaration depth words =
-    cond (words == 2) 2
-    (cond ((depth == 2 && words == 6) || (depth == 3 && (words == 8 || words == 13))) 4
-    (cond ((depth == 1 && not (words == 3)) || (depth == 2 && (words == 7 || words == 15)) || (depth == 3 && (words == 9 || words == 14))) 5 3))
+    cond (words == 2) Symbol
+    (cond ((depth == 2 && words == 6) || (depth == 3 && (words == 8 || words == 13))) Width
+    (cond ((depth == 1 && not (words == 3)) || (depth == 2 && (words == 7 || words == 15)) || (depth == 3 && (words == 9 || words == 14))) DeclarationEnd Sort))
 
 -- in an assert, after a parenthesis or another word
-abbrev pub in_assert : ℕ → ℕ → Bool → ℕ
-in_assert depth words opened = cond (depth == 1) (cond (words == 2) 6 7) (cond opened 8 9)
+abbrev pub in_assert : ℕ → ℕ → Bool → Expected
+in_assert depth words opened = cond (depth == 1) (cond (words == 2) Expression AssertEnd) (cond opened Operator Operand)
 
--- in a command: 0 between two, 1 after its parenthesis, 2 declaration, 3 assert, 4 check-sat; or after the last
-abbrev pub expected : ℕ → ℕ → ℕ → Bool → Bool → ℕ
-expected command depth words opened ended =
-    cond (command == 0) (cond ended 11 0)
-    (cond (command == 1) 1
-    (cond (command == 2) (in_declaration depth words)
-    (cond (command == 3) (in_assert depth words opened) 10)))
+-- in a command, or after the last
+abbrev pub expected : Command → ℕ → ℕ → Bool → Bool → Expected
+expected Outside depth words opened ended = cond ended Nothing Opening
+expected Begun depth words opened ended = CommandWord
+expected DeclareConst depth words opened ended = in_declaration depth words
+expected Assert depth words opened ended = in_assert depth words opened
+expected CheckSat depth words opened ended = CheckSatEnd
 
--- What stands there: 0 the end, 1 a comment, 2 "(", 3 ")", 4 declare-const, 5 assert or _, 6 an operator, 7 a constant,
--- 8 a reserved word, 9 a word that begins like a number or a constant, 10 a name, 11 any other word, 12 check-sat
+-- What stands there: the end, a comment, "(", ")", declare-const, assert or _, an operator, a constant, a reserved word, a word that
+-- begins like a number or a constant, a name, any other word, check-sat
 
 -- a word that is none of the language: by its first byte, and whether it has a symbol's bytes alone
-abbrev pub found_other : ℕ → Bool → ℕ
+abbrev pub found_other : ℕ → Bool → Found
 found_other first symbolic =
-    cond (first == 59) 1 (cond (first == 35 || (nat_le 48 first && nat_le first 57)) 9 (cond symbolic 8 11))
+    cond (first == 59) Semicolon (cond (first == 35 || (nat_le 48 first && nat_le first 57)) Numeric (cond symbolic Reserved Unknown))
 
-abbrev pub found : Word → ℕ → Bool → ℕ
-found Open first symbolic = 2
-found Close first symbolic = 3
-found (Keyword k) first symbolic = cond (k == 0) 4 (cond (k == 2) 12 5)
-found (Operator op) first symbolic = 6
-found (Literal n v) first symbolic = 7
-found (Width n) first symbolic = 9
-found (Name k) first symbolic = 10
+abbrev pub found : Word → ℕ → Bool → Found
+found Open first symbolic = LeftParenthesis
+found Close first symbolic = RightParenthesis
+found (Keyword keyword.DeclareConst) first symbolic = DeclareConstWord
+found (Keyword keyword.Assert) first symbolic = OtherKeyword
+found (Keyword keyword.CheckSat) first symbolic = CheckSatWord
+found (Keyword keyword.Underscore) first symbolic = OtherKeyword
+found (OperatorWord op) first symbolic = OperatorName
+found (Literal n v) first symbolic = Constant
+found (WidthWord n) first symbolic = Numeric
+found (NameWord k) first symbolic = Name
 found Other first symbolic = found_other first symbolic
-found End first symbolic = 0
+found End first symbolic = TextEnd
 
-abbrev pub taken : ℕ → Bool
-taken f = f == 4 || f == 5 || f == 8 || f == 12
+abbrev pub taken : Found → Bool
+taken DeclareConstWord = true
+taken OtherKeyword = true
+taken Reserved = true
+taken CheckSatWord = true
+taken f = false
 
--- Reasons: the number of a line of the text in src/messages.rt. 0 to 11: what is expected, and nothing else is to be said
+abbrev pub is_opening : Found → Bool
+is_opening LeftParenthesis = true
+is_opening f = false
+
+abbrev pub is_closing : Found → Bool
+is_closing RightParenthesis = true
+is_closing f = false
+
+abbrev pub is_check_sat : Found → Bool
+is_check_sat CheckSatWord = true
+is_check_sat f = false
+
+-- Reasons
 
 -- a name is expected
-abbrev pub for_name : ℕ → ℕ
-for_name f = cond (taken f) 15 (cond (f == 6) 16 (cond (f == 7) 17 2))
+abbrev pub for_name : Found → Reason
+for_name OperatorName = OperatorForName
+for_name Constant = ConstantForName
+for_name f = cond (taken f) ReservedForName (NotExpected Symbol)
 
 -- an expression or an operand is expected
-abbrev pub for_operand : ℕ → ℕ → ℕ
-for_operand e f = cond (f == 9) 18 (cond (f == 6) 19 (cond (taken f) 20 e))
+abbrev pub for_operand : Expected → Found → Reason
+for_operand e Numeric = BadConstant
+for_operand e OperatorName = OperatorForOperand
+for_operand e f = cond (taken f) ReservedForOperand (NotExpected e)
 
 -- 31
-abbrev pub for_word : ℕ → ℕ → ℕ
-for_word e f =
-    cond (f == 1) 12
-    (cond (e == 11) 11
-    (cond (f == 0) 13
-    (cond (e == 1 && f == 4) 14
-    (cond (e == 2) (for_name f)
-    (cond (e == 6 || e == 9) (for_operand e f)
-    (cond (e == 8 && f == 10) 21 e))))))
+abbrev pub for_word : Expected → Found → Reason
+for_word e Semicolon = Comment
+for_word Nothing f = NotExpected Nothing
+for_word e TextEnd = EndsEarly e
+for_word CommandWord DeclareConstWord = LateDeclaration
+for_word Symbol f = for_name f
+for_word Expression f = for_operand Expression f
+for_word Operand f = for_operand Operand f
+for_word Operator Name = NameForOperator
+for_word e f = NotExpected e
+
+-- a name is expected
+abbrev pub is_symbol : Expected → Bool
+is_symbol Symbol = true
+is_symbol e = false
 
 -- a refusal of the text, 31 to 35, or of its table: 2, or 7
-abbrev pub reason : ℕ → ℕ → ℕ → ℕ
+abbrev pub reason : ℕ → Expected → Found → Reason
 reason number e f =
     cond (number == 31) (for_word e f)
-    (cond (number == 32) (cond (e == 2) 23 22)
-    (cond (number == 33) 24
-    (cond (number == 34) (cond (f == 3) 25 26)
-    (cond (number == 35) 27
-    (cond (number == 2) 28 29)))))
+    (cond (number == 32) (cond (is_symbol e) DeclaredTwice NotDeclared)
+    (cond (number == 33) TooDeep
+    (cond (number == 34) (cond (is_closing f) TooFewOperands TooManyOperands)
+    (cond (number == 35) NoAssert
+    (cond (number == 2) TooManyTerms TooManyNames)))))

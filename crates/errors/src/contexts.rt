@@ -4,6 +4,7 @@ ghost use Rattle.smtlib.specs.Bytes.{part};
 ghost use Rattle.errors.specs.Contexts.{kind, checked, expected_by, found_by, reason_at, place_of};
 
 use crate::choices::{expected, found, reason};
+use crate::kinds::{Expected, Found, Reason};
 use outline::Scan;
 use parser::{Token, Word, token_at};
 
@@ -11,13 +12,12 @@ use parser::{Token, Word, token_at};
 pub fn between(text: &[u8], from: usize, to: usize) -> &[u8]
     ensures { result.now ≡ part text.now from to }
 {
-    let end = smtlib::lower(to, text.len());
-    let start = smtlib::lower(from, end);
-    &text[start..end]
+    let end = to.min(text.len());
+    &text[from.min(end)..end]
 }
 
 // A word by itself.
-pub fn kind(word: Word) -> u32
+fn kind(word: Word) -> Found
     ensures { result ≡ kind word }
 {
     found(word, 0, false)
@@ -27,36 +27,26 @@ pub fn kind(word: Word) -> u32
 fn checked(text: &[u8], s: Scan) -> bool
     ensures { result ≡ checked text.now s }
 {
-    let previous = s.previous;
-    let open = token_at(text, s.begun);
-    let second = token_at(text, open.next);
-    let word = second.word;
-    (kind(previous) == 3) & (kind(word) == 12)
+    let second = token_at(text, token_at(text, s.begun).next);
+    (kind(s.previous) == Found::RightParenthesis) & (kind(second.word) == Found::CheckSat)
 }
 
-fn expected_by(text: &[u8], s: Scan) -> u32
+fn expected_by(text: &[u8], s: Scan) -> Expected
     ensures { result ≡ expected_by text.now s }
 {
-    let previous = s.previous;
-    let opened = kind(previous) == 2;
+    let opened = kind(s.previous) == Found::LeftParenthesis;
     expected(s.command, s.depth, s.words, opened, checked(text, s))
 }
 
-fn found_by(text: &[u8], t: Token) -> u32
+fn found_by(text: &[u8], t: Token) -> Found
     ensures { result ≡ found_by text.now t }
 {
-    let word = t.word;
     let symbolic = parser::all_symbolic(between(text, t.from, t.next));
-    found(word, cases::byte_at(text, t.from), symbolic)
-}
-
-// What is expected at a byte of the text.
-pub fn expected_at(text: &[u8], at: usize) -> u32 {
-    expected_by(text, outline::context_at(text, at))
+    found(t.word, cases::byte_at(text, t.from), symbolic)
 }
 
 // The reason for a refusal at a byte of the text.
-pub fn reason_at(text: &[u8], number: u32, at: usize) -> u32
+pub fn reason_at(text: &[u8], number: u32, at: usize) -> Reason
     ensures { result ≡ reason_at text.now number at }
 {
     let e = expected_by(text, outline::context_at(text, at));

@@ -1,109 +1,113 @@
 // What stands in a text: a line with a caret under a place, a term as it was typed.
 use crate::contexts::between;
-use page::{Page, put, put_all};
+use page::Page;
+use std::fmt;
+use std::fmt::{Display, Formatter, Write as _};
 
-// A byte as it is shown, or a blank in its place.
-pub fn shown(b: u8, blank: bool) -> u8 {
-    if b == 9 {
-        9
-    } else if blank {
-        32
-    } else if (b < 32) | (126 < b) {
-        b'?'
-    } else {
-        b
+// Bytes as they are shown: a question mark for each that is not printed.
+#[derive(Clone, Copy)]
+struct Visible<'a>(&'a [u8]);
+
+impl Display for Visible<'_> {
+    fn fmt<W: fmt::Write>(&self, f: &mut Formatter<W>) -> fmt::Result {
+        for b in self.0 {
+            let shown = matches!(b, b'\t' | b' '..=b'~');
+            f.write_char(char::from(if shown { *b } else { b'?' }))?;
+        }
+        Ok(())
     }
 }
 
-fn put_shown(page: &mut Page, at: usize, bytes: &[u8], blank: bool) -> usize {
-    let mut to = at;
-    for i in 0..bytes.len() {
-        to = put(page, to, shown(bytes[i], blank));
+// A blank for each of some bytes, a tab for a tab.
+#[derive(Clone, Copy)]
+struct Blank<'a>(&'a [u8]);
+
+impl Display for Blank<'_> {
+    fn fmt<W: fmt::Write>(&self, f: &mut Formatter<W>) -> fmt::Result {
+        for b in self.0 {
+            f.write_char(if *b == b'\t' { '\t' } else { ' ' })?;
+        }
+        Ok(())
     }
-    to
+}
+
+// A word; of a longer one the first 64 bytes, and three dots.
+#[derive(Clone, Copy)]
+pub struct Shown<'a>(pub &'a [u8]);
+
+impl Display for Shown<'_> {
+    fn fmt<W: fmt::Write>(&self, f: &mut Formatter<W>) -> fmt::Result {
+        let word = self.0;
+        match word.get(..64) {
+            Some(front) if 64 < word.len() => write!(f, "{}...", Visible(front)),
+            _ => Visible(word).fmt(f),
+        }
+    }
 }
 
 // Where a line's part that is shown begins: of a line of over 120 bytes at most 60 before the place.
 fn begins(start: usize, end: usize, place: usize) -> usize {
-    let short = end.wrapping_sub(start) <= 120;
-    let near = place.wrapping_sub(start) <= 60;
-    if short | near {
+    if end.wrapping_sub(start) <= 120 || place.wrapping_sub(start) <= 60 {
         start
     } else {
         place.wrapping_sub(60)
     }
 }
 
-// Whether the last byte of a line is a carriage return.
-fn returned(bytes: &[u8]) -> bool {
-    let n = bytes.len();
-    if n == 0 {
-        return false;
-    }
-    bytes[n - 1] == 13
-}
-
 // Where it ends: after 120 bytes at most, before the line feed and a carriage return.
 fn ends(text: &[u8], from: usize, end: usize) -> usize {
-    let whole = between(text, from, end);
-    if returned(whole) {
-        return smtlib::lower(end.wrapping_sub(1), from.wrapping_add(120));
-    }
-    smtlib::lower(end, from.wrapping_add(120))
+    let line = between(text, from, end);
+    let kept = line.strip_suffix(b"\r").unwrap_or(line);
+    from.saturating_add(kept.len().min(120))
 }
 
 // The line of a place, and a caret under it.
-pub fn put_excerpt(page: &mut Page, at: usize, text: &[u8], place: usize) -> usize {
+pub fn put_excerpt(page: &mut Page, text: &[u8], place: usize) -> fmt::Result {
     let end = outline::line_end(text, place);
     let from = begins(outline::line_start(text, place), end, place);
     let to = ends(text, from, end);
-    let line = put_shown(page, at, between(text, from, to), false);
-    let next = put(page, line, 10);
-    let blank = put_shown(page, next, between(text, from, place), true);
-    put_all(page, blank, b"^\n")
+    writeln!(page, "{}", Visible(between(text, from, to)))?;
+    writeln!(page, "{}^", Blank(between(text, from, place)))
 }
 
-// Some bytes after others, white space as one space, up to one more than `most` in all.
-fn squeeze(own: &mut Page, at: usize, bytes: &[u8], most: usize) -> usize {
-    let mut to = at;
+// Some bytes more, white space as one space, up to one more than `most` in all.
+fn squeeze(draft: &mut Page, bytes: &[u8], most: usize) -> fmt::Result {
     let mut before = false;
-    for i in 0..bytes.len() {
-        let blank = parser::white(bytes[i]);
-        if (most < to) | (blank & before) {
-            continue;
+    for b in bytes {
+        let white = parser::white(*b);
+        if draft.text().len() <= most && !(white && before) {
+            draft.put(if white { b' ' } else { *b })?;
+            before = white;
         }
-        before = blank;
-        to = put(own, to, if blank { 32 } else { bytes[i] });
     }
-    to
+    Ok(())
 }
 
 // So many bytes, up to `most`; of more the first, and three dots.
-fn put_cut(page: &mut Page, at: usize, own: &[u8], count: usize, most: usize) -> usize {
-    if count <= most {
-        return put_all(page, at, between(own, 0, count));
+fn put_cut(page: &mut Page, bytes: &[u8], most: usize) -> fmt::Result {
+    if bytes.len() <= most {
+        return page.put_all(bytes);
     }
-    let start = put_all(page, at, between(own, 0, most.wrapping_sub(3)));
-    put_all(page, start, b"...")
+    page.put_all(between(bytes, 0, most.saturating_sub(3)))?;
+    page.put_all(b"...")
 }
 
 // A term as it was typed, white space as one space, in up to 200 bytes.
-pub fn put_expression(page: &mut Page, at: usize, text: &[u8], term: u32) -> usize {
-    let mut own = page::draft();
+pub fn put_expression(page: &mut Page, text: &[u8], term: u32) -> fmt::Result {
+    let mut draft = Page::draft();
     let span = outline::span_of(text, term);
-    let count = squeeze(&mut own, 0, between(text, span.from, span.to), 200);
-    put_cut(page, at, page::text(&own, count), count, 200)
+    squeeze(&mut draft, span.of(text), 200)?;
+    put_cut(page, draft.text(), 200)
 }
 
 // A term with its number, its line and column, and as it was typed, in a line of up to 80 bytes.
-pub fn put_typed(page: &mut Page, at: usize, text: &[u8], term: u32) -> usize {
-    let mut own = page::draft();
+pub fn put_typed(page: &mut Page, text: &[u8], term: u32) -> fmt::Result {
+    let mut draft = Page::draft();
     let span = outline::span_of(text, term);
     let line = outline::line_of(text, span.from);
     let column = outline::column_of(text, span.from);
-    let numbers = page::five(term as u64, line, column, 0, 0);
-    let start = page::fill(&mut own, 0, b"", b"    t#  #:#  ", b"", 0, numbers);
-    let count = squeeze(&mut own, start, between(text, span.from, span.to), 80);
-    let line_end = put_cut(page, at, page::text(&own, count), count, 80);
-    put(page, line_end, 10)
+    write!(draft, "    t{term}  {line}:{column}  ")?;
+    squeeze(&mut draft, span.of(text), 80)?;
+    put_cut(page, draft.text(), 80)?;
+    page.put(b'\n')
 }

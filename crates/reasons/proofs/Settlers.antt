@@ -1,7 +1,6 @@
 -- What the program names as settling an operator does.
 -- Assumes nothing.
-use Rattle.std.proofs.Common.{◌≡◌, ℕ, ◌≤◌, Bool, true, false, cond, ◌&&◌, ◌||◌, ltb, sym, refl, ap, ◌∙◌, le_refl, le-ltb, eq-eqb, le-leb}
-use Rattle.ops.specs.declared.Op.{Op}
+use Rattle.std.proofs.Common.{◌≡◌, ℕ, ◌≤◌, Bool, true, false, cond, ◌&&◌, ◌||◌, ltb, refl, le_refl, le-ltb, eq-eqb, le-leb}
 use Rattle.ops.specs.Numbers.{op_of}
 use Rattle.ops.specs.Meaning.{ones}
 use Rattle.ops.specs.Signed.{greatest, least}
@@ -52,34 +51,3 @@ settling_settles n h =
     (first_does (by 19 true n) n h (rw second-bound (or_open ((((by 19 true n 0 || by 19 true n 1) || by 19 true n n) || by 19 true n (ones n)) || by 19 true n (greatest n))))))
     (both _ _ (first_does (by 13 true n) n h (rw (width, or_open (by 13 true n 0 || by 13 true n 1))))
     (zero-or-one 20 false refl)))))))))
-
--- The code, way by way
-
-module _ (test : ℕ → Bool) (n : ℕ) where
-  pub zero-first : test 0 ≡ true → 0 ≡ first_of test n
-  zero-first e = rw e
-
-  pub one_first : test 0 ≡ false → test 1 ≡ true → 1 ≡ first_of test n
-  one_first e f = rw (e, f)
-
-  pub width-first : test 0 ≡ false → test 1 ≡ false → (test n || ltb 32 n) ≡ true → n ≡ first_of test n
-  width-first e f g = rw (e, f, g)
-
-  -- none of the first three
-  module _ (e : test 0 ≡ false) (f : test 1 ≡ false) (g : (test n || ltb 32 n) ≡ false) where
-    pub ones-first : test (ones n) ≡ true → ones n ≡ first_of test n
-    ones-first h = rw (e, f, g, h)
-
-    pub greatest-first : test (ones n) ≡ false → test (greatest n) ≡ true → greatest n ≡ first_of test n
-    greatest-first h k = rw (e, f, g, h, k)
-
-    pub least_first : test (ones n) ≡ false → test (greatest n) ≡ false → least n ≡ first_of test n
-    least_first h k = rw (e, f, g, h, k)
-
--- what a call answered of the operator of a number
-pub told : {o o' : Op} {z b : Bool} (n v : ℕ) (second : Bool) → o ≡ o' → z ≡ would_settle o n v second → z ≡ b → would_settle o' n v second ≡ b
-told n v second e is h = sym (ap (λ (o : Op). would_settle o n v second) e) ∙ sym is ∙ h
-
--- of a value that was computed
-pub told_at : {o o' : Op} {z b : Bool} (n : ℕ) {v u : ℕ} (second : Bool) → o ≡ o' → v ≡ u → z ≡ would_settle o n v second → z ≡ b → would_settle o' n u second ≡ b
-told_at {o' = o'} n {v} second e same is h = sym (ap (λ (w : ℕ). would_settle o' n w second) same) ∙ told n v second e is h

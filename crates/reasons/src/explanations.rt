@@ -1,79 +1,32 @@
 // What explain tells of a judgement below its verdict.
-use crate::sections;
+use crate::reasons::explained;
+use crate::sections::{put_all_settled, put_way};
 use page::Page;
+use show::Judged;
+use std::fmt;
+use std::fmt::Write as _;
 
 // Why the condition is false, and what would mend it.
-fn put_false(
-    page: &mut Page,
-    at: usize,
-    names: &[u8],
-    table: &[u32],
-    values: &[u32],
-    truths: &[u32],
-    terms: u32,
-    rule: bool,
-) -> usize {
-    let way = explain::way(table, values, truths, terms);
-    let slots = explain::repair(table, &way, terms);
-    let start = sections::put_way_heading(page, at);
-    let to = sections::put_way(page, start, names, table, values, truths, &way, terms);
-    phrases::put_repair(page, to, names, &slots, rule)
+fn put_false(page: &mut Page, judged: &Judged, rule: bool) -> fmt::Result {
+    let way = explained(judged).way(judged.terms);
+    let slots = explain::repair(judged.table, &way, judged.terms);
+    writeln!(page, "\nWhy the condition is false, from the rule down:")?;
+    put_way(page, judged, &way)?;
+    phrases::put_repair(page, judged.names, &slots, rule)
 }
 
-fn put_all(
-    page: &mut Page,
-    at: usize,
-    names: &[u8],
-    table: &[u32],
-    values: &[u32],
-    truths: &[u32],
-    terms: u32,
-    rule: bool,
-    condition: bool,
-) -> usize {
-    let to = sections::put_all_settled(page, at, names, table, values, truths, terms);
+// What settled its terms, and why its condition is false where it is.
+pub fn put_reasons(page: &mut Page, judged: &Judged, rule: bool, condition: bool) -> fmt::Result {
+    put_all_settled(page, judged)?;
     if condition {
-        return to;
+        return Ok(());
     }
-    put_false(page, to, names, table, values, truths, terms, rule)
-}
-
-// Of a judgement whose room is the values, then the conditions' truths: what settled its terms, and why its condition
-// is false where it is.
-pub fn put_reasons(
-    page: &mut Page,
-    at: usize,
-    names: &[u8],
-    table: &[u32],
-    room: &[u32],
-    rule: bool,
-    condition: bool,
-) -> usize {
-    let terms = show::terms_within(table, 512);
-    let middle = show::front(terms, room);
-    let values = &room[..middle];
-    let truths = &room[middle..];
-    put_all(
-        page, at, names, table, values, truths, terms, rule, condition,
-    )
+    put_false(page, judged, rule)
 }
 
 // In JSON its terms and the repair, the rest of an object that is open.
-pub fn put_json_reasons(
-    page: &mut Page,
-    at: usize,
-    names: &[u8],
-    table: &[u32],
-    sheet: &[u32],
-    room: &[u32],
-) -> usize {
-    let terms = show::terms_within(table, 512);
-    let middle = show::front(terms, room);
-    let values = &room[..middle];
-    let truths = &room[middle..];
-    let way = explain::way(table, values, truths, terms);
-    let slots = explain::repair(table, &way, terms);
-    phrases::put_json_terms(
-        page, at, names, table, sheet, values, truths, terms, &way, &slots,
-    )
+pub fn put_json_reasons(page: &mut Page, judged: &Judged, sheet: &[u32]) -> fmt::Result {
+    let way = explained(judged).way(judged.terms);
+    let slots = explain::repair(judged.table, &way, judged.terms);
+    phrases::put_json_terms(page, judged, sheet, &way, &slots)
 }

@@ -1,295 +1,255 @@
 // Why a term is not free: what of that which its value comes from is not, and what would have settled it all the same.
-// What is told of a term is lines, each by numbers for &: the first is a line of the text, 0 where there is none.
 use crate::settling::{settled, settling};
-use explain::{Held, Operand, Source};
-use page::{Numbers, Page, none, one, push, push_if, push_long, three, two};
-use table::{Term, number_at};
+use explain::{Operand, Source};
+use page::Page;
+use show::{Judged, Names, Operator, OrDash, Value};
+use std::fmt;
+use std::fmt::{Display, Formatter, Write as _};
+use table::{Rank, Term};
 
-pub fn say(page: &mut Page, at: usize, names: &[u8], n: u32, numbers: Numbers) -> usize {
-    show::put(
-        page,
-        at,
-        names,
-        b"t# @: 
-this input is marked.
-&.
-+ is not free
-+ and + are not free
-+, + and + are not free
-A free operand would have settled it.
-No value of one operand settles !: both must be free.
-+ is ?.
-+ is free, but it is ?: a free & would have settled it.
-+ is ?, and not free: a free & would have settled it.
-+ is ?, but not free: only a free & settles it.
-?
-? or more
-+, the test, is not free.
-+, which the test picks, is not free.
-+, the index, is not free.
-+, the index of store +, is not free.
-+, which store + holds there, is not free.
-+, the array beneath, is marked.
-&$
-    &$
-Branches free and equal would have settled it:
-+ is ? and &, + is ? and &.
-not free
-free
-$Free though an operand is not:$
-&, but + is free and ?.$
-&, but the test + is free and picks +, which is free.$
-&, but + and + are free and equal (?).$
-&, but store + holds + there, which is free.$
-&, but +, which store + holds, is free and equal to what is beneath.$
-&, but the read comes to +, which is not marked.$
-&, but both branches of choice + are free and equal there.$
-&,$    but + is free and ?.$
-&,$    but the test + is free and picks +, which is free.$
-&,$    but + and + are free and equal (?).$
-&,$    but store + holds + there, which is free.$
-&,$    but +, which store + holds, is free and equal to what is beneath.$
-&,$    but the read comes to +, which is not marked.$
-&,$    but both branches of choice + are free and equal there.$
-$Why the condition is false, from the rule down:$
-? or -1
-+, the test of choice +, is not free: it picks +.
-",
-        n,
-        numbers,
-    )
+// The operands of a term that are not free, each once: "t1 and t2 are not free".
+#[derive(Clone, Copy)]
+pub struct Unfree<'a> {
+    names: Names<'a>,
+    p: Option<u32>,
+    q: Option<u32>,
+    r: Option<u32>,
 }
 
-// The line of so many operands that are not free.
-fn line_for(first: bool, second: bool, third: bool) -> u32 {
-    let some = ops::bit(first).wrapping_add(ops::bit(second));
-    2u32.wrapping_add(some).wrapping_add(ops::bit(third))
-}
-
-fn same(a: Source, b: Source) -> bool {
-    explain::term_of(a) == explain::term_of(b)
-}
-
-// Terms that are not free, each once, for &.
-fn listed(p: Source, q: Source, r: Source, rest: Numbers) -> Numbers {
-    let first = explain::there(p);
-    let second = explain::there(q) & !(first & same(p, q));
-    let third = explain::there(r) & !(first & same(p, r)) & !(second & same(q, r));
-    let late = push_if(
-        second,
-        explain::term_of(q),
-        push_if(third, explain::term_of(r), rest),
-    );
-    let all = push_if(first, explain::term_of(p), late);
-    push(line_for(first, second, third), all)
-}
-
-// The operands of term `k` that are not free, for &.
-pub fn unfree(table: &[u32], truths: &[u32], k: u32, rest: Numbers) -> Numbers {
-    let p = explain::unfree_operand(table, truths, k, 0);
-    let q = explain::unfree_operand(table, truths, k, 1);
-    let r = explain::unfree_operand(table, truths, k, 2);
-    listed(p, q, r, rest)
-}
-
-// The value of term `k`, for ?.
-pub fn value_of(table: &[u32], values: &[u32], k: u32) -> u64 {
-    show::value(table::sort_at(table, k), number_at(values, k), page::DASH)
-}
-
-// The line of an operand's state.
-fn line_of(state: Operand) -> u32 {
-    match state {
-        Operand::Settles => 8,
-        Operand::Free => 9,
-        Operand::Unfree => 10,
-        Operand::WouldSettle => 11,
+impl<'a> Unfree<'a> {
+    // Those of term `k`.
+    pub fn of(judged: &Judged<'a>, k: u32) -> Unfree<'a> {
+        let p = unfree_operand(judged, k, 0);
+        let q = unfree_operand(judged, k, 1);
+        let r = unfree_operand(judged, k, 2);
+        Unfree {
+            names: judged.names,
+            p,
+            q: if q == p { None } else { q },
+            r: if r == p || r == q { None } else { r },
+        }
     }
 }
 
-// All ones of a width, as far as there is such a number.
-fn all_ones(width: u32) -> u32 {
-    if width <= 32 { ops::ones(width) } else { 0 }
+impl Display for Unfree<'_> {
+    fn fmt<W: fmt::Write>(&self, f: &mut Formatter<W>) -> fmt::Result {
+        let names = self.names;
+        match (self.p, self.q, self.r) {
+            (None, None, None) => Ok(()),
+            (Some(a), None, None) | (None, Some(a), None) | (None, None, Some(a)) => {
+                write!(f, "{} is not free", names.term(a))
+            }
+            (Some(a), Some(b), None) | (Some(a), None, Some(b)) | (None, Some(a), Some(b)) => {
+                write!(f, "{} and {} are not free", names.term(a), names.term(b))
+            }
+            (Some(a), Some(b), Some(c)) => {
+                let last = names.term(c);
+                write!(
+                    f,
+                    "{}, {} and {last} are not free",
+                    names.term(a),
+                    names.term(b)
+                )
+            }
+        }
+    }
 }
 
-// For &: the value that would have settled a term; where 0 and all ones would, both, the ones as -1; where more would, the
-// least.
-fn settling_words(op: u32, second: bool, width: u32) -> Numbers {
+// Operand `i` of term `k`, where it is not free.
+fn unfree_operand(judged: &Judged, k: u32, i: u32) -> Option<u32> {
+    let source = explain::unfree_operand(judged.table, judged.truths, k, i)?;
+    Some(source.term())
+}
+
+// A judgement as its parts are explained.
+pub fn explained<'a>(judged: &Judged<'a>) -> explain::Judged<'a> {
+    explain::Judged {
+        table: judged.table,
+        values: judged.values,
+        truths: judged.truths,
+    }
+}
+
+// All ones of a width, where there is such a number.
+fn all_ones(width: u32) -> Option<u32> {
+    if 0 < width && width <= 32 {
+        Some(ops::ones(width))
+    } else {
+        None
+    }
+}
+
+// The value that would have settled a term, and what is said after it: where all ones would too, that they would, as -1;
+// where more would, that it is the least.
+fn settling_words(op: u32, second: bool, width: u32) -> (Value, &'static str) {
     let f = ops::op_of(op);
     let least = settling(op, second, width);
-    let more = explain::would_settle(f, width, least.wrapping_add(1), second);
-    let all = all_ones(width);
-    let both = (least == 0) & (all != 0) & explain::would_settle(f, width, all, second);
-    let boolean = width == 0;
-    let line = ops::ite(both, 42, ops::ite(more, 13, 12));
-    page::five(line as u64, page::value(boolean, least), 0, 0, 0)
+    let settles = |v: u32| explain::would_settle(f, width, v, second);
+    let more = if least == 0 && all_ones(width).is_some_and(settles) {
+        " or -1"
+    } else if settles(least.wrapping_add(1)) {
+        " or more"
+    } else {
+        ""
+    };
+    (Value::of_width(width, least), more)
 }
 
-// What an operand is, and the value that would have settled its term, or the least of those that would.
-fn operand_told(op: u32, second: bool, width: u32, k: u64, value: u32, state: Operand) -> Numbers {
-    let boolean = width == 0;
-    let asked = settling_words(op, second, width);
-    push(
-        line_of(state),
-        push_long(k, push_long(page::value(boolean, value), asked)),
-    )
-}
-
-// Operand p of term `x`, or q where second.
-fn operand(table: &[u32], values: &[u32], truths: &[u32], x: Term, second: bool) -> Numbers {
-    let width = table::sort_at(table, x.p).n;
-    let k = ops::ite(second, x.q, x.p);
-    let state = explain::operand_state(table, values, truths, x, second);
-    operand_told(x.op, second, width, k as u64, number_at(values, k), state)
+// What an operand of term `x` is, p or where second q, and what would have settled the term.
+fn put_operand(page: &mut Page, judged: &Judged, x: Term, second: bool) -> fmt::Result {
+    let width = table::sort_at(judged.table, x.p).n;
+    let k = if second { x.q } else { x.p };
+    let (least, more) = settling_words(x.op, second, width);
+    let value = Value::of_width(width, judged.value(k));
+    write!(page, "    {} is ", judged.names.term(k))?;
+    match explained(judged).operand_state(x, second) {
+        Operand::Settles => writeln!(page, "{value}."),
+        Operand::Free => {
+            write!(page, "free, but it is {value}: ")?;
+            writeln!(page, "a free {least}{more} would have settled it.")
+        }
+        Operand::Unfree => {
+            write!(page, "{value}, and not free: ")?;
+            writeln!(page, "a free {least}{more} would have settled it.")
+        }
+        Operand::WouldSettle => {
+            write!(page, "{value}, but not free: ")?;
+            writeln!(page, "only a free {least}{more} settles it.")
+        }
+    }
 }
 
 // Whether the first operand is told of beside the second: one that is both is told once, but where its two sides
 // settle by different values, as those of an implication do.
 fn apart(x: Term, width: u32) -> bool {
     let twice = settling(x.op, false, width) != settling(x.op, true, width);
-    settled(x.op, false, width) & ((x.p != x.q) | twice)
+    settled(x.op, false, width) && (x.p != x.q || twice)
 }
 
-// Line `i` of an operator that an operand's value can settle: its operands.
-fn settling_told(
-    table: &[u32],
-    values: &[u32],
-    truths: &[u32],
-    x: Term,
-    width: u32,
-    i: u32,
-) -> Numbers {
-    if (i == 1) & !apart(x, width) {
-        return none();
+// An operator that an operand's value can settle: its operands.
+fn put_operands(page: &mut Page, judged: &Judged, x: Term, width: u32) -> fmt::Result {
+    if apart(x, width) {
+        put_operand(page, judged, x, false)?;
     }
-    if (i == 2) & !settled(x.op, true, width) {
-        return none();
+    if settled(x.op, true, width) {
+        put_operand(page, judged, x, true)?;
     }
-    if (i == 1) | (i == 2) {
-        return operand(table, values, truths, x, i == 2);
-    }
-    none()
+    Ok(())
 }
 
-// Line `i`, after the first, of a function.
-fn function_told(table: &[u32], values: &[u32], truths: &[u32], x: Term, i: u32) -> Numbers {
-    let width = table::sort_at(table, x.p).n;
-    let unary = show::operands(x.op) == 1;
-    if !unary & (settled(x.op, false, width) | settled(x.op, true, width)) {
-        return settling_told(table, values, truths, x, width, i);
+// A function, term `k`.
+fn put_function(page: &mut Page, judged: &Judged, k: u32, x: Term) -> fmt::Result {
+    let width = table::sort_at(judged.table, x.p).n;
+    writeln!(page, "{}.", Unfree::of(judged, k))?;
+    if show::operands(x.op) == 1 {
+        return writeln!(page, "    A free operand would have settled it.");
     }
-    if i != 1 {
-        return none();
+    if settled(x.op, false, width) || settled(x.op, true, width) {
+        return put_operands(page, judged, x, width);
     }
-    two(ops::ite(unary, 6, 7), x.op)
+    write!(
+        page,
+        "    No value of one operand settles {}: ",
+        Operator(x.op)
+    )?;
+    writeln!(page, "both must be free.")
 }
 
-// The branches of a choice, with their values.
-fn branches(table: &[u32], values: &[u32], truths: &[u32], x: Term) -> Numbers {
-    let other = explain::free_at(truths, x.r);
-    let r = value_of(table, values, x.r);
-    let second = page::five(
-        freedom(explain::free_at(truths, x.q)),
-        x.r as u64,
-        r,
-        freedom(other),
-        0,
-    );
-    push(
-        23,
-        push(x.q, push_long(value_of(table, values, x.q), second)),
+// A branch of a choice, with its value.
+fn put_branch(page: &mut Page, judged: &Judged, k: u32) -> fmt::Result {
+    let value = OrDash(judged.shown_value(k));
+    let free = if judged.is_free(k) {
+        "free"
+    } else {
+        "not free"
+    };
+    write!(page, "{} is {value} and {free}", judged.names.term(k))
+}
+
+// The test of a choice, and its branches with their values.
+fn put_test(page: &mut Page, judged: &Judged, x: Term) -> fmt::Result {
+    writeln!(page, "{}, the test, is not free.", judged.names.term(x.p))?;
+    write!(
+        page,
+        "    Branches free and equal would have settled it:\n    "
+    )?;
+    put_branch(page, judged, x.q)?;
+    write!(page, ", ")?;
+    put_branch(page, judged, x.r)?;
+    writeln!(page, ".")
+}
+
+// A choice: its test, and the branch that it picks.
+fn put_choice(page: &mut Page, judged: &Judged, x: Term) -> fmt::Result {
+    let tested = judged.is_free(x.p);
+    if !tested {
+        put_test(page, judged, x)?;
+    }
+    let picked = explain::picked(judged.values, x);
+    if judged.is_free(picked) {
+        return Ok(());
+    }
+    let indent = if tested { "" } else { "    " };
+    writeln!(
+        page,
+        "{indent}{}, which the test picks, is not free.",
+        judged.names.term(picked)
     )
 }
 
-fn freedom(free: bool) -> u64 {
-    if free { 25 } else { 24 }
-}
-
-// The test of a choice between arrays, which is not free.
-fn test_told(table: &[u32], values: &[u32], held: Held) -> Numbers {
-    let picked = explain::picked(values, table::term_at(table, held.store));
-    push(43, three(held.term, held.store, picked))
-}
-
 // A source that is not free.
-fn source_told(table: &[u32], values: &[u32], s: Source) -> Numbers {
-    match s {
-        Source::Nothing => none(),
-        Source::Operand(k) => two(16, k),
-        Source::Index(held) => three(17, held.term, held.store),
-        Source::Stored(held) => three(18, held.term, held.store),
-        Source::Test(held) => test_told(table, values, held),
-        Source::Array(k) => two(19, k),
+fn put_source(page: &mut Page, judged: &Judged, source: Source) -> fmt::Result {
+    let names = judged.names;
+    match source {
+        Source::Operand(k) => writeln!(page, "{}, the index, is not free.", names.term(k)),
+        Source::Index(held) => {
+            write!(page, "{}, the index of ", names.term(held.term))?;
+            writeln!(page, "store {}, is not free.", names.term(held.store))
+        }
+        Source::Stored(held) => {
+            write!(page, "{}, which store ", names.term(held.term))?;
+            writeln!(page, "{} holds there, is not free.", names.term(held.store))
+        }
+        Source::Test(held) => {
+            let picked = explain::picked(judged.values, judged.term(held.store));
+            write!(page, "{}, the test of ", names.term(held.term))?;
+            write!(page, "choice {}, is not free: ", names.term(held.store))?;
+            writeln!(page, "it picks {}.", names.term(picked))
+        }
+        Source::Array(k) => writeln!(page, "{}, the array beneath, is marked.", names.term(k)),
     }
 }
 
-// Line `i` of a read: its source `i`, where that is not free.
-fn read_told(table: &[u32], values: &[u32], truths: &[u32], x: Term, i: u32) -> Numbers {
-    let s = explain::source_at(table, values, x, i as usize);
-    if explain::free_at(truths, explain::term_of(s)) {
-        return none();
+// A read: its sources that are not free, a line each. An array has at most 16 stores and choices, so a read comes from at
+// most 18 things: an index or a test of each, what it ends at, and its own index.
+fn put_read(page: &mut Page, judged: &Judged, x: Term) -> fmt::Result {
+    let mut indent = "";
+    for i in 0..18 {
+        match explain::source_at(judged.table, judged.values, x, i) {
+            Some(source) if !judged.is_free(source.term()) => {
+                write!(page, "{indent}")?;
+                put_source(page, judged, source)?;
+                indent = "    ";
+            }
+            _ => (),
+        }
     }
-    source_told(table, values, s)
-}
-
-// Line `i` of a choice: the test, the two lines about its branches, the branch that it picks.
-fn choice_told(table: &[u32], values: &[u32], truths: &[u32], x: Term, i: u32) -> Numbers {
-    let tested = explain::free_at(truths, x.p);
-    let picked = explain::picked(values, x);
-    if (i == 3) & !explain::free_at(truths, picked) {
-        return two(15, picked);
-    }
-    if tested | (2 < i) {
-        return none();
-    }
-    if i == 2 {
-        return branches(table, values, truths, x);
-    }
-    two(ops::ite(i == 0, 14, 22), x.p)
-}
-
-// Line `i` of what is told of term `k`, `x`, which is on the way.
-fn told(table: &[u32], values: &[u32], truths: &[u32], k: u32, x: Term, i: u32) -> Numbers {
-    if x.op == 7 {
-        return choice_told(table, values, truths, x, i);
-    }
-    if x.op == 15 {
-        return read_told(table, values, truths, x, i);
-    }
-    if x.op == 1 {
-        return one(ops::ite(i == 0, 1, 0));
-    }
-    if i == 0 {
-        return push(2, unfree(table, truths, k, none()));
-    }
-    function_told(table, values, truths, x, i)
+    Ok(())
 }
 
 // The term that is told of: "t3 (bvmul t0 t1): ".
-pub fn put_subject(page: &mut Page, at: usize, names: &[u8], k: u32, x: Term) -> usize {
-    say(page, at, names, 0, push(k, show::operator(x, none())))
+pub fn put_subject(page: &mut Page, judged: &Judged, k: u32) -> fmt::Result {
+    write!(page, "t{k} {}: ", judged.names.applied(judged.term(k)))
 }
 
 // A term on the way, with its lines.
-pub fn put_why(
-    page: &mut Page,
-    at: usize,
-    names: &[u8],
-    table: &[u32],
-    values: &[u32],
-    truths: &[u32],
-    k: u32,
-) -> usize {
-    let x = table::term_at(table, k);
-    let mut to = put_subject(page, at, names, k, x);
-    let mut line = 20;
-    for i in 0..18u32 {
-        let numbers = told(table, values, truths, k, x, i);
-        if numbers.a == 0 {
-            continue;
-        }
-        to = say(page, to, names, line, numbers);
-        line = 21;
+pub fn put_why(page: &mut Page, judged: &Judged, k: u32) -> fmt::Result {
+    let x = judged.term(k);
+    put_subject(page, judged, k)?;
+    match table::rank_of(x.op) {
+        Rank::Input => writeln!(page, "this input is marked."),
+        Rank::Choice => put_choice(page, judged, x),
+        Rank::Read => put_read(page, judged, x),
+        _ => put_function(page, judged, k, x),
     }
-    to
 }

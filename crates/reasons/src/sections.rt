@@ -1,123 +1,105 @@
 // The sections of an explanation below the verdict.
-use crate::reasons::{put_subject, put_why, say, unfree, value_of};
+use crate::reasons::{Unfree, explained, put_subject, put_why};
 use explain::Settled;
-use page::{Numbers, Page, none, one, push, two};
-use table::{Term, number_at};
+use page::Page;
+use show::{Judged, OrDash};
+use std::fmt;
+use std::fmt::Write as _;
+use table::number_at;
 
-// The line of what is told; 0 where there is nothing to tell.
-fn line_of(s: Settled) -> u32 {
-    match s {
-        Settled::Untold => 0,
-        Settled::Alone(_) => 27,
-        Settled::Picked(_) => 28,
-        Settled::Equal(_) => 29,
-        Settled::AtIndex(_) => 30,
-        Settled::EqualBeneath(_) => 31,
-        Settled::EqualBranches(_) => 33,
-        Settled::Unmarked(_) => 32,
+// What settled a term.
+fn put_settler(page: &mut Page, judged: &Judged, settled: Settled) -> fmt::Result {
+    let names = judged.names;
+    match settled {
+        Settled::Alone(k) => {
+            let value = OrDash(judged.shown_value(k));
+            write!(page, "{} is free and {value}.", names.term(k))
+        }
+        Settled::Picked { test, branch } => {
+            write!(page, "the test {} is free ", names.term(test))?;
+            write!(page, "and picks {}, which is free.", names.term(branch))
+        }
+        Settled::Equal { first, second } => {
+            let value = OrDash(judged.shown_value(first));
+            write!(page, "{} and {} ", names.term(first), names.term(second))?;
+            write!(page, "are free and equal ({value}).")
+        }
+        Settled::AtIndex(held) => {
+            write!(page, "store {} holds ", names.term(held.store))?;
+            write!(page, "{} there, which is free.", names.term(held.term))
+        }
+        Settled::EqualBeneath(held) => {
+            write!(page, "{}, which store ", names.term(held.term))?;
+            write!(page, "{} holds, is free ", names.term(held.store))?;
+            write!(page, "and equal to what is beneath.")
+        }
+        Settled::EqualBranches(k) => {
+            write!(page, "both branches of choice {} ", names.term(k))?;
+            write!(page, "are free and equal there.")
+        }
+        Settled::Unmarked(k) => {
+            write!(
+                page,
+                "the read comes to {}, which is not marked.",
+                names.term(k)
+            )
+        }
     }
 }
 
-// Its numbers.
-fn numbers_of(table: &[u32], values: &[u32], s: Settled) -> Numbers {
-    match s {
-        Settled::Untold => none(),
-        Settled::Alone(k) => push(k, valued(table, values, k)),
-        Settled::Picked(p) => two(p.first, p.second),
-        Settled::Equal(p) => push(p.first, push(p.second, valued(table, values, p.first))),
-        Settled::AtIndex(h) => two(h.store, h.term),
-        Settled::EqualBeneath(h) => two(h.term, h.store),
-        Settled::EqualBranches(k) => one(k),
-        Settled::Unmarked(k) => one(k),
-    }
+// Term `k`, its operands that are not free and, after a gap, what settled it.
+fn put_settled(
+    page: &mut Page,
+    judged: &Judged,
+    k: u32,
+    settled: Settled,
+    gap: &str,
+) -> fmt::Result {
+    put_subject(page, judged, k)?;
+    write!(page, "{},{gap}but ", Unfree::of(judged, k))?;
+    put_settler(page, judged, settled)?;
+    page.put(b'\n')
 }
 
-fn valued(table: &[u32], values: &[u32], k: u32) -> Numbers {
-    page::five(value_of(table, values, k), 0, 0, 0, 0)
+// The same; a line of over 80 columns is broken after its comma.
+fn put_broken(page: &mut Page, judged: &Judged, k: u32, settled: Settled) -> fmt::Result {
+    let mut draft = Page::draft();
+    put_settled(&mut draft, judged, k, settled, " ")?;
+    let gap = if 81 < draft.text().len() {
+        "\n    "
+    } else {
+        " "
+    };
+    put_settled(page, judged, k, settled, gap)
 }
 
 // The heading, before the first.
-fn put_heading(page: &mut Page, at: usize, first: bool) -> usize {
-    if first {
-        return say(page, at, b"", 26, none());
+fn put_heading(page: &mut Page, begun: bool) -> fmt::Result {
+    if begun {
+        return Ok(());
     }
-    at
-}
-
-// How many bytes a line takes, its end among them: its words less than 256, and each of at most eight names 67.
-fn width(names: &[u8], k: u32, x: Term, line: u32, numbers: Numbers) -> usize {
-    let mut own = page::draft();
-    let head = put_subject(&mut own, 0, names, k, x);
-    say(&mut own, head, names, line, numbers)
-}
-
-// What settled term `k`; a line of over 80 columns is broken after its comma, by the text seven lines on.
-fn put_settled(
-    page: &mut Page,
-    at: usize,
-    names: &[u8],
-    table: &[u32],
-    values: &[u32],
-    truths: &[u32],
-    k: u32,
-    s: Settled,
-    first: bool,
-) -> usize {
-    let start = put_heading(page, at, first);
-    let x = table::term_at(table, k);
-    let numbers = unfree(table, truths, k, numbers_of(table, values, s));
-    let line = line_of(s);
-    let broken = ops::ite(81 < width(names, k, x, line, numbers), 7, 0);
-    let to = put_subject(page, start, names, k, x);
-    say(page, to, names, line.wrapping_add(broken), numbers)
+    writeln!(page, "\nFree though an operand is not:")
 }
 
 // What settled each term that is free though something beneath it is not.
-pub fn put_all_settled(
-    page: &mut Page,
-    at: usize,
-    names: &[u8],
-    table: &[u32],
-    values: &[u32],
-    truths: &[u32],
-    terms: u32,
-) -> usize {
-    let mut to = at;
-    let mut first = true;
-    for k in 0..terms {
-        let s = explain::settler(table, values, truths, k);
-        if line_of(s) == 0 {
-            continue;
+pub fn put_all_settled(page: &mut Page, judged: &Judged) -> fmt::Result {
+    let mut begun = false;
+    for k in 0..judged.terms {
+        if let Some(settled) = explained(judged).settler(k) {
+            put_heading(page, begun)?;
+            put_broken(page, judged, k, settled)?;
+            begun = true;
         }
-        to = put_settled(page, to, names, table, values, truths, k, s, first);
-        first = false;
     }
-    to
-}
-
-// The heading of the way down.
-pub fn put_way_heading(page: &mut Page, at: usize) -> usize {
-    say(page, at, b"", 41, none())
+    Ok(())
 }
 
 // The terms on the way down from the rule.
-pub fn put_way(
-    page: &mut Page,
-    at: usize,
-    names: &[u8],
-    table: &[u32],
-    values: &[u32],
-    truths: &[u32],
-    way: &[u32; 512],
-    terms: u32,
-) -> usize {
-    let mut to = at;
-    for i in 0..terms {
-        let k = terms - 1 - i;
-        if number_at(way, k) != 1 {
-            continue;
+pub fn put_way(page: &mut Page, judged: &Judged, way: &[u32; 512]) -> fmt::Result {
+    for k in (0..judged.terms).rev() {
+        if number_at(way, k) == 1 {
+            put_why(page, judged, k)?;
         }
-        to = put_why(page, to, names, table, values, truths, k);
     }
-    to
+    Ok(())
 }

@@ -3,7 +3,8 @@ ghost use Rattle.std.specs.Prelude.{◌≡◌};
 ghost use Rattle.reasons.specs.Settling.{settling_value, settled};
 
 // The value of the first or second operand that settles an operator: the first that does of 0, 1, the width, all ones and
-// the bounds of the signed order.
+// the bounds of the signed order. Tested one by one and not by a search of a list: all ones and the bounds are asked only
+// of a width up to 32.
 pub fn settling(op: u32, second: bool, width: u32) -> u32
     ensures { result ≡ settling_value op second width }
 {

@@ -1,301 +1,214 @@
 // A command on a case: its work, and the answer put into a page.
 ghost use Rattle.std.specs.Prelude.{◌≡◌, length};
-ghost use Rattle.cli.specs.Outcomes.{of_judgement, of_evaluation, of_finishing, outcome, refused_status, status_of};
+ghost use Rattle.cli.specs.Outcomes.{outcome, refused_status, status_of};
 
-use evaluate::{Evaluation, Spent};
-use finish::{Extent, Finishing};
-use judge::{Judgement, Verdict};
+use evaluate::Spent;
+use finish::Extent;
+use judge::Verdict;
 use page::Page;
-use request::arguments::Request;
-use request::{arguments, status};
+use report::{Files, Given};
+use request::arguments::{Command, Request};
+use request::status::Status;
+use show::{Judged, Names};
+use std::fmt;
 use table::Refusal;
 
-// What the work of a command comes to.
+// What the work of a command comes to, where nothing is refused.
 #[derive(Clone, Copy)]
-pub enum Outcome {
-    OfRule(Verdict),
-    OfTerms(Spent),
-    OfTable(Extent),
-    OfRefusal(Refusal),
+pub enum Work {
+    Judged(Verdict),
+    Evaluated(Spent),
+    Finished(Extent),
 }
 
-fn judged(answer: Judgement) -> Outcome
-    ensures { result ≡ of_judgement answer }
-{
-    match answer {
-        Judgement::Judged(v) => Outcome::OfRule(v),
-        Judgement::NotJudged(r) => Outcome::OfRefusal(r),
+impl Work {
+    // The work of a command, in a room for it.
+    pub fn of(command: Command, given: Given, room: &mut [u32]) -> Result<Work, Refusal>
+        ensures { result ≡ outcome command given.entry.table.now given.entry.sheet.now
+            given.entry.values.now given.entry.cells.now given.entry.allowance (length room.old) }
+    {
+        let Given {
+            table,
+            sheet,
+            values,
+            cells,
+            allowance,
+        } = given;
+        match command {
+            Command::Finish => Ok(Work::Finished(finish::finish(table, room)?)),
+            Command::Evaluate => {
+                let spent = evaluate::evaluate(table, values, cells, allowance, room)?;
+                Ok(Work::Evaluated(spent))
+            }
+            _ => {
+                let verdict = judge::judge(table, sheet, values, cells, allowance, room)?;
+                Ok(Work::Judged(verdict))
+            }
+        }
     }
-}
-
-fn evaluated(answer: Evaluation) -> Outcome
-    ensures { result ≡ of_evaluation answer }
-{
-    match answer {
-        Evaluation::Evaluated(spent) => Outcome::OfTerms(spent),
-        Evaluation::NotEvaluated(r) => Outcome::OfRefusal(r),
-    }
-}
-
-fn finished(answer: Finishing) -> Outcome
-    ensures { result ≡ of_finishing answer }
-{
-    match answer {
-        Finishing::Finished(extent) => Outcome::OfTable(extent),
-        Finishing::NotFinished(r) => Outcome::OfRefusal(r),
-    }
-}
-
-// The work of a command, in a room for it.
-pub fn work(
-    command: u32,
-    table: &[u32],
-    sheet: &[u32],
-    values: &[u32],
-    cells: &[u32],
-    allowance: u64,
-    room: &mut [u32],
-) -> Outcome
-    ensures { result ≡ outcome command table.now sheet.now values.now
-        cells.now allowance (length room.old) }
-{
-    if command == arguments::FINISH {
-        return finished(finish::finish(table, room));
-    }
-    if command == arguments::EVALUATE {
-        return evaluated(evaluate::evaluate(table, values, cells, allowance, room));
-    }
-    judged(judge::judge(table, sheet, values, cells, allowance, room))
 }
 
 // The status of a refusal: 21 says that the room was short.
-pub fn refused(r: Refusal) -> u32
+pub fn refused(r: Refusal) -> Status
     ensures { result ≡ refused_status r }
 {
-    ops::ite(r.number == 21, status::SHORT, status::REFUSED)
+    if r.number == 21 {
+        Status::Short
+    } else {
+        Status::Refused
+    }
 }
 
 // The status of an outcome: a picture is work done.
-pub fn status_of(command: u32, outcome: Outcome) -> u32
+pub fn status_of(command: Command, outcome: Result<Work, Refusal>) -> Status
     ensures { result ≡ status_of command outcome }
 {
-    let asked = (command == arguments::JUDGE) | (command == arguments::EXPLAIN);
     match outcome {
-        Outcome::OfRule(v) => ops::ite(asked & !judge::passes(v), status::FAILS, status::DONE),
-        Outcome::OfTerms(_) => status::DONE,
-        Outcome::OfTable(_) => status::DONE,
-        Outcome::OfRefusal(r) => refused(r),
+        Ok(Work::Judged(v)) if command.tells() && !judge::passes(v) => Status::Fails,
+        Ok(_) => Status::Done,
+        Err(r) => refused(r),
     }
 }
 
 // The line before an answer that is one of several.
-pub fn put_heading(page: &mut Page, request: Request, path: &[u8], setting: &[u8]) -> usize {
-    if (request.command == arguments::JUDGE) | request.json | !request.several {
-        return 0;
+pub fn put_heading(page: &mut Page, request: Request, files: Files) -> fmt::Result {
+    if request.command == Command::Judge || request.json || !request.several {
+        return Ok(());
     }
-    report::put_heading(page, 0, path, setting, request.first)
+    report::put_heading(page, files, request.first)
 }
 
-// A judgement: its verdict.
-fn put_verdict(
-    page: &mut Page,
-    at: usize,
-    request: Request,
-    path: &[u8],
-    setting: &[u8],
-    v: Verdict,
-) -> usize {
-    if request.json {
-        return report::put_json_verdict(page, at, path, setting, v);
-    }
-    if request.several {
-        return report::put_outcome(page, at, path, setting, v);
-    }
-    report::put_verdict(page, at, v)
+// What a request is about: a case, of which the rule and the names are empty, and the text is the case's; or a rule, and
+// the text of its setting; and what they give.
+#[derive(Clone, Copy)]
+pub struct Subject<'a> {
+    pub request: Request,
+    pub files: Files<'a>,
+    pub rule: &'a [u8],
+    pub names: Names<'a>,
+    pub text: &'a [u8],
+    pub given: Given<'a>,
 }
 
-// A judgement: its picture, with the terms as they were typed in the text of a rule.
-fn put_picture(
-    page: &mut Page,
-    at: usize,
-    request: Request,
-    rule: &[u8],
-    names: &[u8],
-    table: &[u32],
-    room: &[u32],
-) -> usize {
-    if request.command == arguments::TREE {
-        let to = trees::put_tree(page, at, names, table, room, request.color);
-        return report::put_typed(page, to, rule, table);
-    }
-    graphs::put_graph(page, at, rule, names, table, room)
-}
-
-// A judgement: its explanation.
-fn put_explanation(
-    page: &mut Page,
-    at: usize,
-    json: bool,
-    path: &[u8],
-    setting: &[u8],
-    rule: &[u8],
-    names: &[u8],
-    table: &[u32],
-    sheet: &[u32],
-    room: &[u32],
-    v: Verdict,
-) -> usize {
-    if json {
-        let open = report::put_json_judgement(page, at, path, setting, v);
-        return reasons::put_json_reasons(page, open, names, table, sheet, room);
-    }
-    let to = report::put_judgement(page, at, names, rule, table, sheet, room, v);
-    reasons::put_reasons(page, to, names, table, room, v.rule, v.condition)
-}
-
-fn put_judged(
-    page: &mut Page,
-    at: usize,
-    request: Request,
-    path: &[u8],
-    setting: &[u8],
-    rule: &[u8],
-    names: &[u8],
-    table: &[u32],
-    sheet: &[u32],
-    room: &[u32],
-    v: Verdict,
-) -> usize {
-    if request.command == arguments::JUDGE {
-        return put_verdict(page, at, request, path, setting, v);
-    }
-    if request.command == arguments::EXPLAIN {
-        return put_explanation(
-            page,
-            at,
-            request.json,
+impl<'a> Subject<'a> {
+    pub fn of_case(
+        request: Request,
+        path: &'a [u8],
+        text: &'a [u8],
+        given: Given<'a>,
+    ) -> Subject<'a> {
+        let files = Files {
             path,
-            setting,
-            rule,
-            names,
-            table,
-            sheet,
-            room,
-            v,
-        );
-    }
-    put_picture(page, at, request, rule, names, table, room)
-}
-
-// The line of a case's text, or of a setting's, that a refusal is about.
-fn line_of(setting: &[u8], text: &[u8], names: &[u8], table: &[u32], r: Refusal) -> u64 {
-    if setting.len() == 0 {
-        return report::refusal_line(text, table, r);
-    }
-    forms::setting_line(text, names, table, r)
-}
-
-fn put_refusal(
-    page: &mut Page,
-    at: usize,
-    json: bool,
-    path: &[u8],
-    setting: &[u8],
-    names: &[u8],
-    text: &[u8],
-    table: &[u32],
-    sheet: &[u32],
-    values: &[u32],
-    cells: &[u32],
-    allowance: u64,
-    r: Refusal,
-) -> usize {
-    let line = line_of(setting, text, names, table, r);
-    if json {
-        return report::put_json_refusal(
-            page, at, names, path, setting, line, table, sheet, values, cells, allowance, r,
-        );
-    }
-    if setting.len() != 0 {
-        return report::put_refusal(
-            page, at, names, setting, line, table, sheet, values, cells, allowance, r,
-        );
-    }
-    put_case_refusal(
-        page, at, path, text, table, sheet, values, cells, allowance, r,
-    )
-}
-
-// The refusal of a case, and the note on its table.
-pub fn put_case_refusal(
-    page: &mut Page,
-    at: usize,
-    path: &[u8],
-    text: &[u8],
-    table: &[u32],
-    sheet: &[u32],
-    values: &[u32],
-    cells: &[u32],
-    allowance: u64,
-    r: Refusal,
-) -> usize {
-    let line = report::refusal_line(text, table, r);
-    let to = report::put_refusal(
-        page, at, b"", path, line, table, sheet, values, cells, allowance, r,
-    );
-    report::put_note(page, to, path, text, r)
-}
-
-// An outcome. Of a case the setting's path, the rule's text and the names are empty, and the text is the case's; of a
-// rule the text is the setting's.
-pub fn put_outcome(
-    page: &mut Page,
-    at: usize,
-    request: Request,
-    path: &[u8],
-    setting: &[u8],
-    rule: &[u8],
-    names: &[u8],
-    text: &[u8],
-    table: &[u32],
-    sheet: &[u32],
-    values: &[u32],
-    cells: &[u32],
-    allowance: u64,
-    room: &[u32],
-    outcome: Outcome,
-) -> usize {
-    match outcome {
-        Outcome::OfRule(v) => put_judged(
-            page, at, request, path, setting, rule, names, table, sheet, room, v,
-        ),
-        Outcome::OfTerms(spent) => report::put_evaluation(page, at, names, table, room, spent),
-        Outcome::OfTable(e) => forms::put_finished(
-            page,
-            at,
-            room,
-            e.terms,
-            e.condition,
-            e.last,
-            sheet,
-            values,
-            cells,
-            allowance,
-        ),
-        Outcome::OfRefusal(r) => put_refusal(
-            page,
-            at,
-            request.json,
-            path,
-            setting,
+            setting: None,
+        };
+        let names = Names(b"");
+        Subject {
+            request,
+            files,
+            rule: b"",
             names,
             text,
-            table,
-            sheet,
-            values,
-            cells,
-            allowance,
-            r,
-        ),
+            given,
+        }
+    }
+
+    // Of a rule whose setting is not read.
+    pub fn of_rule(
+        request: Request,
+        files: Files<'a>,
+        rule: &'a [u8],
+        names: Names<'a>,
+        table: &'a [u32],
+    ) -> Subject<'a> {
+        let given = Given::of_table(table);
+        Subject {
+            request,
+            files,
+            rule,
+            names,
+            text: rule,
+            given,
+        }
+    }
+}
+
+impl Subject<'_> {
+    // A judgement: its verdict.
+    fn put_verdict(self, page: &mut Page, v: Verdict) -> fmt::Result {
+        if self.request.json {
+            report::put_json_verdict(page, self.files, v)
+        } else if self.request.several {
+            report::put_outcome(page, self.files, v)
+        } else {
+            report::put_verdict(page, v)
+        }
+    }
+
+    // A judgement: its explanation.
+    fn put_explanation(self, page: &mut Page, judged: &Judged, v: Verdict) -> fmt::Result {
+        let sheet = self.given.sheet;
+        if self.request.json {
+            report::put_json_judgement(page, self.files, v)?;
+            return reasons::put_json_reasons(page, judged, sheet);
+        }
+        report::put_judgement(page, judged, self.rule, sheet, v)?;
+        reasons::put_reasons(page, judged, v.rule, v.condition)
+    }
+
+    // A judgement: its tree, with the terms as they were typed in the text of a rule.
+    fn put_tree(self, page: &mut Page, judged: &Judged) -> fmt::Result {
+        trees::put_tree(page, judged, self.request.color)?;
+        report::put_typed(page, self.rule, judged.table)
+    }
+
+    fn put_judged(self, page: &mut Page, room: &[u32], v: Verdict) -> fmt::Result {
+        let judged = Judged::new(self.names, self.given.table, room);
+        match self.request.command {
+            Command::Judge => self.put_verdict(page, v),
+            Command::Explain => self.put_explanation(page, &judged, v),
+            Command::Tree => self.put_tree(page, &judged),
+            _ => graphs::put_graph(page, self.rule, &judged),
+        }
+    }
+
+    // The line of a case's text, or of a setting's, that a refusal is about; 0 where there is none.
+    fn line_of(self, r: Refusal) -> u64 {
+        let table = self.given.table;
+        match self.files.setting {
+            None => report::refusal_line(self.text, table, r),
+            Some(_) => forms::setting_line(self.text, self.names.0, table, r).unwrap_or(0),
+        }
+    }
+
+    fn put_refusal(self, page: &mut Page, r: Refusal) -> fmt::Result {
+        let line = self.line_of(r);
+        if self.request.json {
+            return report::put_json_refusal(page, self.names, self.files, line, self.given, r);
+        }
+        match self.files.setting {
+            Some(path) => report::put_refusal(page, self.names, path, line, self.given, r),
+            None => self.put_case_refusal(page, r),
+        }
+    }
+
+    // The refusal of a case, and the note on its table.
+    pub fn put_case_refusal(self, page: &mut Page, r: Refusal) -> fmt::Result {
+        let path = self.files.path;
+        let line = report::refusal_line(self.text, self.given.table, r);
+        report::put_refusal(page, Names(b""), path, line, self.given, r)?;
+        report::put_note(page, path, self.text, r)
+    }
+
+    // An outcome, with what the work left in its room.
+    pub fn put(self, page: &mut Page, room: &[u32], outcome: Result<Work, Refusal>) -> fmt::Result {
+        put_heading(page, self.request, self.files)?;
+        match outcome {
+            Ok(Work::Judged(v)) => self.put_judged(page, room, v),
+            Ok(Work::Evaluated(spent)) => {
+                report::put_evaluation(page, self.names, self.given.table, room, spent)
+            }
+            Ok(Work::Finished(extent)) => forms::put_finished(page, room, extent, self.given),
+            Err(r) => self.put_refusal(page, r),
+        }
     }
 }

@@ -1,91 +1,104 @@
 // The program: commands on case files and rules (docs/PROGRAM.md). Its status goes to descriptor 3.
 #![tactic(auto)]
 
+ghost use Rattle.std.specs.Prelude.{◌<◌};
+
 mod answers; // a command on a case
 mod failures; // what is told on standard error
 mod files; // reading a file, in a small room or a large one
 mod printed; // the commands print and print-finished
+mod rooms; // rooms on the stack
 mod rules; // a rule and its setting
 
 use failures::{complained, failed_name};
-use request::arguments::Options;
-use request::status::Run;
-use request::{arguments, status};
-use std::env::FillError;
-use std::io::{Eprint, Print};
+use request::arguments;
+use request::arguments::{Argument, Command, Options, Request};
+use request::status::{Answer, Run, Status};
+use std::io::Print;
 use std::process::ExitCode;
 use std::rt::Env;
 
 // What a shell says of a program that was ended since nobody reads any more what it writes (SIGPIPE).
 const PIPE: u8 = 141;
 
-// An option is passed by, a file is answered; a setting was, with its rule.
-fn answer_word(
-    rt: HostRuntime,
-    command: u32,
+// What is answered: a command, with its options, among so many arguments.
+#[derive(Clone, Copy)]
+struct Question {
+    command: Command,
     options: Options,
-    i: usize,
     count: usize,
-    run: Run,
-    word: &[u8],
-) -> Run {
-    let kind = arguments::kind_of(word, run.ended);
-    if kind != arguments::FILE {
-        return status::passed_by(run, kind == arguments::END);
+}
+
+// An option is passed by, a file is answered; a setting was, with its rule.
+fn answer_word(rt: HostRuntime, asked: Question, i: usize, run: &mut Run, word: &[u8])
+    requires { i < asked.count }
+{
+    let argument = Argument::of_word(word, run.ended);
+    if argument != Argument::File {
+        run.ended |= argument == Argument::End;
+    } else if run.paired {
+        run.paired = false;
+    } else {
+        let next = arguments::next_file(&rt, i + 1, asked.count, run.ended);
+        let request = Request::new(asked.command, asked.options, run.answers == 0, next);
+        run.add(files::answer_file(rt, request, word));
     }
-    if run.paired {
-        return status::settled(run);
-    }
-    let next = arguments::next_file(&rt, i.wrapping_add(1), count, run.ended);
-    let request = arguments::request_of(command, options, run.answers, next);
-    status::after(run, files::answer_file(rt, request, word))
 }
 
 // One argument after the command.
-fn answer_argument(
-    rt: HostRuntime,
-    command: u32,
-    options: Options,
-    i: usize,
-    count: usize,
-    run: Run,
-) -> Run {
+fn answer_argument(rt: HostRuntime, asked: Question, i: usize, run: &mut Run)
+    requires { i < asked.count }
+{
     let mut word = io::buffer();
     match rt.arg(i, &mut word) {
-        Ok(length) => answer_word(rt, command, options, i, count, run, &word[..length]),
-        Err(e) => status::after(run, status::alone(failed_name(rt, e))),
+        Ok(length) => answer_word(rt, asked, i, run, &word[..length]),
+        Err(e) => run.add(Answer {
+            status: failed_name(rt, e),
+            paired: false,
+        }),
     }
 }
 
 // Each argument after the command, until a write fails.
-fn answer_all(rt: HostRuntime, command: u32, options: Options, count: usize) -> Run {
-    let mut run = status::begun();
-    for i in 2..count {
-        if !status::is_broken(run.status) {
-            run = answer_argument(rt, command, options, i, count, run);
+fn answer_all(rt: HostRuntime, asked: Question) -> Status {
+    let mut run = Run::default();
+    for i in 2..asked.count {
+        if run.status.is_broken() {
+            break;
         }
+        answer_argument(rt, asked, i, &mut run);
     }
-    run
+    run.status.told()
 }
 
 // The status of the command line.
-fn answer(rt: HostRuntime) -> u32 {
-    let command = arguments::command(&rt);
+fn answer(rt: HostRuntime) -> Status {
+    let given = Command::given(&rt);
     let count = arguments::count_of(&rt);
-    let options = arguments::options_of(&rt, count);
-    if arguments::fitting(command, options) {
-        let run = answer_all(rt, command, options, count);
-        return status::told(run.status);
+    let options = Options::among(&rt, count);
+    match given {
+        Some(command) if arguments::fitting(given, options) => {
+            answer_all(
+                rt,
+                Question {
+                    command,
+                    options,
+                    count,
+                },
+            )
+        }
+        _ => {
+            let usage = b"hiranthok: usage: see ./hiranthok help\n";
+            complained(rt.stderr().write_all(usage), Status::Error)
+        }
     }
-    let usage = b"hiranthok: usage: see ./hiranthok help\n";
-    complained(rt.stderr().write_all(usage), status::ERROR)
 }
 
 fn main(rt: HostRuntime) -> ExitCode {
     let ends = answer(rt);
-    if ends == status::CLOSED {
+    if ends == Status::Closed {
         return ExitCode::from(PIPE);
     }
-    status::tell(ends);
+    ends.tell();
     ExitCode::SUCCESS
 }

@@ -5,61 +5,57 @@
 mod routines; // calling a routine, and printing what it answers
 mod shows; // printing answers and rooms
 
-use lines::parts::{TABLE, WRONG, taken};
+use lines::parts;
+use lines::parts::{Next, taken};
 use lines::tokens::Token;
-use lines::{parts, tokens};
-use shows::show_count;
-use std::io::{Read, Result, Stdout};
+use std::io::{Print, Result, Stdout};
 
-// Takes a line, and answers the part that the next line goes on with; or a number above the parts', where the line is
-// wrong. After a routine's word the rest of the line is the example's name.
-fn run_line(output: Stdout, line: &[u8], numbers: &mut [u32], part: u32) -> Result<u32> {
+// Takes a line, and answers what the next line goes on with. After a routine's word the rest of the line is the
+// example's name.
+fn run_line(output: Stdout, line: &[u8], numbers: &mut [u32], part: Next) -> Result<Next> {
     let mut next = part;
     let mut token = Token::Nothing;
-    for i in 0..line.len() {
-        let b = line[i];
-        if (b != b' ') & (b != b';') {
-            token = tokens::with_byte(token, b);
+    for (i, b) in line.iter().enumerate() {
+        if *b != b' ' && *b != b';' {
+            token = token.with_byte(*b);
             continue;
         }
         next = taken(numbers, next, token);
         token = Token::Nothing;
-        if TABLE < next {
-            return routines::run(output, numbers, next, &line[i + 1..]);
+        match next {
+            Next::Routine(routine) => {
+                return routines::run(output, numbers, routine, &line[i + 1..]);
+            }
+            Next::Wrong => return Ok(Next::Wrong),
+            Next::Nothing | Next::Part(_) => {}
         }
-        if b == b';' {
+        if *b == b';' {
             return Ok(next);
         }
     }
     Ok(taken(numbers, next, token))
 }
 
-// The part after a line, 0 where the line is wrong, which is told.
-fn checked(output: Stdout, part: u32, line: u64) -> Result<u32> {
-    if TABLE < part {
-        show_count(output, b"stdin is wrong in line ", line)?;
-        shows::say(output, b"\n")?;
-        return Ok(0);
+// What a line goes on with; nothing, where the line is wrong, which is told.
+fn checked(output: Stdout, next: Next, line: u64) -> Result<Next> {
+    match next {
+        Next::Nothing | Next::Part(_) => Ok(next),
+        Next::Routine(_) | Next::Wrong => {
+            println!(output; "stdin is wrong in line {line}")?;
+            Ok(Next::Nothing)
+        }
     }
-    Ok(part)
 }
 
 // Takes one line after another. A last line without an end is wrong.
 fn run_lines(output: Stdout, text: &[u8], numbers: &mut [u32]) -> Result<()> {
-    let mut part = 0;
-    let mut from = 0;
-    let mut line = 1;
-    for i in 0..text.len() {
-        if text[i] != b'\n' {
-            continue;
-        }
-        let next = run_line(output, &text[from..i], numbers, part)?;
-        part = checked(output, next, line)?;
-        from = i + 1;
-        line = line.wrapping_add(1);
-    }
-    if from < text.len() {
-        checked(output, WRONG, line)?;
+    let mut next = Next::Nothing;
+    for (k, line) in (1..u64::MAX).zip(text.split_inclusive(|b| *b == b'\n')) {
+        let after = match line.strip_suffix(b"\n") {
+            Some(whole) => run_line(output, whole, numbers, next)?,
+            None => Next::Wrong,
+        };
+        next = checked(output, after, k)?;
     }
     Ok(())
 }

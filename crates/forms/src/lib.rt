@@ -7,10 +7,7 @@ mod parts; // the parts of a case
 mod reading; // an open file
 mod settings; // settings of rules
 
-pub use faults::{
-    CROWDED, INPUT_TWICE, LONG_RULE, NO_SETTING, complain, complain_of, complain_of_name,
-    complain_of_setting, complain_of_size,
-};
+pub use faults::{Fault, complain};
 pub use finished::put_finished;
 pub use parts::part;
 pub use reading::{Input, ended_well, read_full, read_rest};

@@ -1,5 +1,5 @@
 // Reading an open file.
-ghost use Rattle.std.specs.Io.{ReadsAtMost};
+ghost use Rattle.std.specs.Prelude.{◌≤◌, length};
 ghost use Rattle.io.specs.Counts.{IsPrefixLen};
 
 use std::fs::File;
@@ -12,22 +12,12 @@ pub enum Input {
     Opened(File),
 }
 
-fn read(input: &mut Input, bytes: &mut [u8]) -> Result<usize>
-    ensures { ReadsAtMost result bytes.new }
-{
-    match input {
-        Input::Standard(stdin) => stdin.read(bytes),
-        Input::Opened(file) => file.read(bytes),
-    }
-}
-
-// How many bytes were read; where that failed, none.
-fn read_some(input: &mut Input, bytes: &mut [u8]) -> usize
-    ensures { IsPrefixLen result bytes.new }
-{
-    match read(input, bytes) {
-        Ok(count) => count,
-        Err(_) => 0,
+impl Read for Input {
+    fn read(&mut self, bytes: &mut [u8]) -> Result<usize> {
+        match self {
+            Input::Standard(stdin) => stdin.read(bytes),
+            Input::Opened(file) => file.read(bytes),
+        }
     }
 }
 
@@ -37,11 +27,10 @@ pub fn read_full(input: &mut Input, text: &mut [u8]) -> usize
 {
     let mut done = 0;
     while done < text.len() {
-        let count = read_some(input, &mut text[done..]);
-        if count == 0 {
-            break;
+        match input.read(&mut text[done..]) {
+            Ok(0) | Err(_) => break,
+            Ok(count) => done += count,
         }
-        done += count;
     }
     done
 }
@@ -49,28 +38,23 @@ pub fn read_full(input: &mut Input, text: &mut [u8]) -> usize
 // An error, where reading has not ended at the end of the input.
 pub fn ended_well(input: &mut Input) -> Result<()> {
     let mut more = [0u8; 1];
-    read(input, &mut more)?;
+    input.read(&mut more)?;
     Ok(())
 }
 
-// Sets a byte; one past the end is left out.
-fn set(bytes: &mut [u8], i: usize, byte: u8) {
-    if i < bytes.len() {
-        bytes[i] = byte;
-    }
-}
-
-// Copies some bytes to the front of others.
-pub fn copy(from: &[u8], to: &mut [u8]) {
-    for i in 0..from.len() {
-        set(to, i, from[i]);
-    }
+// Copies some bytes to the front of others, as many as go there, and answers how many.
+pub fn copy(from: &[u8], to: &mut [u8]) -> usize
+    ensures { IsPrefixLen result to.new }
+{
+    let count = from.len().min(to.len());
+    to[..count].copy_from_slice(&from[..count]);
+    count
 }
 
 // Puts the bytes that are read after some others, and answers how many there are in all.
-pub fn read_rest(input: &mut Input, front: &[u8], text: &mut [u8]) -> usize {
-    copy(front, text);
-    let start = page::filled(text, front.len());
-    let got = read_full(input, &mut text[start..]);
-    start.wrapping_add(got)
+pub fn read_rest(input: &mut Input, front: &[u8], text: &mut [u8]) -> usize
+    ensures { IsPrefixLen result text.new }
+{
+    let start = copy(front, text);
+    start + read_full(input, &mut text[start..])
 }

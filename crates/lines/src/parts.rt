@@ -1,68 +1,126 @@
 // The parts that routines are called with, in one row of numbers. Number k counts part k's numbers, which stand from
 // 64 * k on.
 ghost use Rattle.std.specs.Prelude.{◌≡◌, ◌*◌, ◌<◌, get_or, set};
-ghost use Rattle.lines.specs.Parts.{part_of, most, row_of, table_of, opened, begun, part_added, added};
+ghost use Rattle.lines.specs.Parts.{part_number, number, named, most, single, row_of, table_of, opened, begun, part_added, added};
 ghost use Rattle.lines.specs.Parts.{part_after, after};
 
 use crate::tokens::Token;
-use ops::ite;
 use table::number_at;
 
-// Parts of one number.
-pub const ALLOWANCE: u32 = 1;
-
-pub const ROOM: u32 = 2;
-
-pub const FINISHED: u32 = 3;
-
-pub const LIMIT: u32 = 4;
-
-const CONSTANTS: u32 = 5;
-
-// Parts of any count of numbers.
-pub const VALUES: u32 = 6;
-
-pub const CELLS: u32 = 7;
-
-pub const SHEET: u32 = 8;
-
-pub const TABLE: u32 = 9;
-
-// What is no part, nor the word of a routine.
-pub const WRONG: u32 = 16;
-
-// The part of a word, or the routine's number: 10 admit, 11 admit_within, 12 evaluate, 13 judge, 14 finish, 15
-// extent.
-fn part_of(word: u64) -> u32
-    ensures { result ≡ part_of word }
-{
-    let extent = ite(word == 262872598, 15, WRONG);
-    let finish = ite(word == 280506026, 14, extent);
-    let judge = ite(word == 13343015, 13, finish);
-    let evaluate = ite(word == 266404073159, 12, judge);
-    let admit_within = ite(word == 115382408546298224, 11, evaluate);
-    let admit = ite(word == 3358070, 10, admit_within);
-    let table = ite(word == 23171527, TABLE, admit);
-    let sheet = ite(word == 22355190, SHEET, table);
-    let cells = ite(word == 5487061, CELLS, sheet);
-    let values = ite(word == 808934645, VALUES, cells);
-    let constants = ite(word == 6099581387477, CONSTANTS, values);
-    let limit = ite(word == 15056246, LIMIT, constants);
-    let finished = ite(word == 287238170854, FINISHED, limit);
-    let room = ite(word == 673327, ROOM, finished);
-    ite(word == 3795200360615, ALLOWANCE, room)
+// Up to Constants parts of one number, then parts of any count of numbers.
+#[derive(Clone, Copy, PartialEq, Eq)]
+pub enum Part {
+    Allowance,
+    Room,
+    Finished,
+    Limit,
+    Constants,
+    Values,
+    Cells,
+    Sheet,
+    Table,
 }
 
-// The most numbers of a part.
-fn most(part: u32) -> u32
-    ensures { result ≡ most part }
-{
-    let one = ite((part == 0) | (TABLE < part), 0, 1);
-    ite(
-        part == TABLE,
-        6144,
-        ite((VALUES <= part) & (part <= SHEET), 64, one),
-    )
+#[derive(Clone, Copy, PartialEq, Eq)]
+pub enum Routine {
+    Admit,
+    AdmitWithin,
+    Evaluate,
+    Judge,
+    Finish,
+    Extent,
+}
+
+// What a line goes on with: the part that the next number goes to, or none yet; the routine that is called; nothing, since
+// it is wrong.
+#[derive(Clone, Copy, PartialEq, Eq)]
+pub enum Next {
+    Nothing,
+    Part(Part),
+    Routine(Routine),
+    Wrong,
+}
+
+impl Part {
+    fn number(self) -> u32
+        ensures { result ≡ part_number self }
+    {
+        match self {
+            Part::Allowance => 1,
+            Part::Room => 2,
+            Part::Finished => 3,
+            Part::Limit => 4,
+            Part::Constants => 5,
+            Part::Values => 6,
+            Part::Cells => 7,
+            Part::Sheet => 8,
+            Part::Table => 9,
+        }
+    }
+
+    // The most numbers of it.
+    fn most(self) -> u32
+        ensures { result ≡ most self }
+    {
+        match self {
+            Part::Table => 6144,
+            Part::Values | Part::Cells | Part::Sheet => 64,
+            _ => 1,
+        }
+    }
+}
+
+impl Next {
+    // A part's number; those above are routines', and the last says that a line is wrong.
+    fn number(self) -> u32
+        ensures { result ≡ number self }
+    {
+        match self {
+            Next::Nothing => 0,
+            Next::Part(part) => part.number(),
+            Next::Routine(Routine::Admit) => 10,
+            Next::Routine(Routine::AdmitWithin) => 11,
+            Next::Routine(Routine::Evaluate) => 12,
+            Next::Routine(Routine::Judge) => 13,
+            Next::Routine(Routine::Finish) => 14,
+            Next::Routine(Routine::Extent) => 15,
+            Next::Wrong => 16,
+        }
+    }
+
+    // What a word names, by its number in base 32.
+    fn of_word(word: u64) -> Next
+        ensures { result ≡ named word }
+    {
+        match word {
+            3795200360615 => Next::Part(Part::Allowance),
+            673327 => Next::Part(Part::Room),
+            287238170854 => Next::Part(Part::Finished),
+            15056246 => Next::Part(Part::Limit),
+            6099581387477 => Next::Part(Part::Constants),
+            808934645 => Next::Part(Part::Values),
+            5487061 => Next::Part(Part::Cells),
+            22355190 => Next::Part(Part::Sheet),
+            23171527 => Next::Part(Part::Table),
+            3358070 => Next::Routine(Routine::Admit),
+            115382408546298224 => Next::Routine(Routine::AdmitWithin),
+            266404073159 => Next::Routine(Routine::Evaluate),
+            13343015 => Next::Routine(Routine::Judge),
+            280506026 => Next::Routine(Routine::Finish),
+            262872598 => Next::Routine(Routine::Extent),
+            _ => Next::Wrong,
+        }
+    }
+
+    // Whether it is a part of one number.
+    fn is_single(self) -> bool
+        ensures { result ≡ single self }
+    {
+        match self {
+            Next::Part(part) => part.number() <= 5,
+            _ => false,
+        }
+    }
 }
 
 // All zero. From 8192 on it stays so.
@@ -70,7 +128,7 @@ pub fn room() -> [u32; 500000] {
     [0u32; 500000]
 }
 
-// Writes a number, where the row has its place.
+// Writes a number, where the row has its place. After a write through get_mut no element is known to a proof.
 fn put(numbers: &mut [u32], at: usize, number: u32)
     ensures { numbers.new ≡ set numbers.old at number }
 {
@@ -85,71 +143,78 @@ fn run(numbers: &[u32], from: usize, count: usize) -> &[u32]
     requires count_bound { count < 1099511627776 }
     ensures { result.now ≡ row_of numbers.now from count }
 {
-    let to = from + count;
-    if to <= numbers.len() {
-        return &numbers[from..to];
-    }
-    &numbers[..0]
+    numbers.get(from..from + count).unwrap_or(&[])
 }
 
 // The numbers of a part.
-pub fn row(numbers: &[u32], part: u32) -> &[u32]
-    ensures { result.now ≡ row_of numbers.now (part * 64) (get_or numbers.now part 0) }
+pub fn row(numbers: &[u32], part: Part) -> &[u32]
+    ensures { result.now ≡ row_of numbers.now (part_number part * 64) (get_or numbers.now (part_number part) 0) }
 {
-    let count = number_at(numbers, part) as usize;
-    run(numbers, (part as usize) * 64, count)
+    let k = part.number();
+    run(numbers, k as usize * 64, number_at(numbers, k) as usize)
+}
+
+// The one number of a part, 0 where it has none.
+pub fn single(numbers: &[u32], part: Part) -> u32
+    ensures { result ≡ get_or numbers.now (part_number part * 64) 0 }
+{
+    number_at(numbers, part.number() * 64)
 }
 
 // The table: its own numbers, or so many constants, six zeros each, where they were given last.
 pub fn table(numbers: &[u32]) -> &[u32]
     ensures { result.now ≡ table_of numbers.now }
 {
-    if number_at(numbers, CONSTANTS) == 0 {
-        return row(numbers, TABLE);
+    if number_at(numbers, Part::Constants.number()) == 0 {
+        return row(numbers, Part::Table);
     }
-    let count = number_at(numbers, 64 * CONSTANTS) as usize;
+    let count = single(numbers, Part::Constants) as usize;
     run(numbers, 8192, count * 6)
 }
 
 // Begins a part by its word. It is wrong before the one number of another part was given.
-fn begin(numbers: &mut [u32], part: u32, next: u32) -> u32
+fn begin(numbers: &mut [u32], part: Next, next: Next) -> Next
     ensures value { result ≡ opened numbers.old part next }
     ensures numbers_after { numbers.new ≡ begun numbers.old next }
 {
-    let count = number_at(numbers, part);
-    put(numbers, ite(next == TABLE, CONSTANTS, next) as usize, 0);
-    put(numbers, next as usize, 0);
-    ite((0 < part) & (part < VALUES) & (count == 0), WRONG, next)
-}
-
-// One number more. It is wrong past the most.
-fn add(numbers: &mut [u32], part: u32, number: u32) -> u32
-    ensures value { result ≡ part_added numbers.old part }
-    ensures numbers_after { numbers.new ≡ added numbers.old part number }
-{
-    let count = number_at(numbers, part);
-    if most(part) <= count {
-        return WRONG;
+    let missing = part.is_single() && number_at(numbers, part.number()) == 0;
+    if next == Next::Part(Part::Table) {
+        put(numbers, Part::Constants.number() as usize, 0);
     }
-    put(numbers, (part as usize) * 64 + count as usize, number);
-    put(numbers, part as usize, count + 1);
-    part
+    put(numbers, next.number() as usize, 0);
+    if missing { Next::Wrong } else { next }
 }
 
-// Takes a token, and answers the part that the next number goes to; or a routine's number; or that it is wrong.
-pub fn taken(numbers: &mut [u32], part: u32, token: Token) -> u32
-    ensures value { result ≡ part_after numbers.old part token }
-    ensures numbers_after { numbers.new ≡ after numbers.old part token }
+// One number more. It is wrong past the most, and where no part was begun.
+fn add(numbers: &mut [u32], next: Next, number: u32) -> Next
+    ensures value { result ≡ part_added numbers.old next }
+    ensures numbers_after { numbers.new ≡ added numbers.old next number }
+{
+    let Next::Part(part) = next else {
+        return Next::Wrong;
+    };
+    let k = part.number();
+    let count = number_at(numbers, k);
+    if part.most() <= count {
+        return Next::Wrong;
+    }
+    put(numbers, k as usize * 64 + count as usize, number);
+    put(numbers, k as usize, count + 1);
+    next
+}
+
+// Takes a token, and answers what the line goes on with.
+pub fn taken(numbers: &mut [u32], next: Next, token: Token) -> Next
+    ensures value { result ≡ part_after numbers.old next token }
+    ensures numbers_after { numbers.new ≡ after numbers.old next token }
 {
     match token {
-        Token::Nothing => part,
-        Token::Number(value) => {
-            if value < 4294967296 {
-                return add(numbers, part, value as u32);
-            }
-            WRONG
-        }
-        Token::Word(word) => begin(numbers, part, part_of(word)),
-        Token::Unknown => WRONG,
+        Token::Nothing => next,
+        Token::Number(value) => match u32::try_from(value) {
+            Ok(number) => add(numbers, next, number),
+            Err(_) => Next::Wrong,
+        },
+        Token::Word(word) => begin(numbers, next, Next::of_word(word)),
+        Token::Unknown => Next::Wrong,
     }
 }

@@ -11,60 +11,48 @@ pub enum Token {
     Unknown,
 }
 
-fn digit(b: u8) -> bool
-    ensures { result ≡ digit b }
-{
-    (b'0' <= b) & (b <= b'9')
-}
-
-// A lower-case letter, _ or `.
-fn letter(b: u8) -> bool
-    ensures { result ≡ letter b }
-{
-    (b'_' <= b) & (b <= b'z')
-}
-
 // A number with one digit more.
 fn with_digit(value: u64, b: u8) -> Token
     ensures { result ≡ with_digit value b }
 {
-    if digit(b) & (value < 4294967296) {
-        Token::Number(value * 10 + ((b - b'0') as u64))
+    if matches!(b, b'0'..=b'9') && value < 1 << 32 {
+        Token::Number(value * 10 + u64::from(b - b'0'))
     } else {
         Token::Unknown
     }
 }
 
-// A word with one letter more.
+// A word with one letter more: a lower-case letter, _ or `.
 fn with_letter(word: u64, b: u8) -> Token
     ensures { result ≡ with_letter word b }
 {
-    if letter(b) & (word < 36028797018963968) {
-        Token::Word(word * 32 + ((b - 94) as u64))
+    if matches!(b, b'_'..=b'z') && word < 1 << 55 {
+        Token::Word(word * 32 + u64::from(b - 94))
     } else {
         Token::Unknown
     }
 }
 
-// A token of one byte.
-fn begun(b: u8) -> Token
-    ensures { result ≡ begun b }
-{
-    if digit(b) {
-        with_digit(0, b)
-    } else {
-        with_letter(0, b)
+impl Token {
+    // A token of one byte.
+    fn of_byte(b: u8) -> Token
+        ensures { result ≡ begun b }
+    {
+        match b {
+            b'0'..=b'9' => with_digit(0, b),
+            _ => with_letter(0, b),
+        }
     }
-}
 
-// A token with one byte more.
-pub fn with_byte(token: Token, b: u8) -> Token
-    ensures { result ≡ with_byte token b }
-{
-    match token {
-        Token::Nothing => begun(b),
-        Token::Number(value) => with_digit(value, b),
-        Token::Word(word) => with_letter(word, b),
-        Token::Unknown => Token::Unknown,
+    // A token with one byte more.
+    pub fn with_byte(self, b: u8) -> Token
+        ensures { result ≡ with_byte self b }
+    {
+        match self {
+            Token::Nothing => Token::of_byte(b),
+            Token::Number(value) => with_digit(value, b),
+            Token::Word(word) => with_letter(word, b),
+            Token::Unknown => Token::Unknown,
+        }
     }
 }

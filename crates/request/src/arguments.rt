@@ -1,42 +1,131 @@
 // The program's arguments: a command; options, anywhere after it up to --; files.
-ghost use Rattle.std.specs.Prelude.{◌≡◌, slice_index};
-ghost use Rattle.request.specs.Arguments.{same_word, command_of, hyphened, kind_of, fitting, several, crowded};
+ghost use Rattle.std.specs.Prelude.{◌≡◌, ◌≤◌, ◌<◌, true, false, IfSome};
+ghost use Rattle.request.specs.Arguments.{command_of, kind_of, is_hyphen, telling, drawing, printing, alone, taking};
+ghost use Rattle.request.specs.Arguments.{counted, fitting, several, crowded};
 
 use std::env::FillError;
 use std::rt::Env;
 
-// The commands, by number; 0 is none.
-pub const JUDGE: u32 = 1;
+#[derive(Clone, Copy, PartialEq, Eq)]
+pub enum Command {
+    Judge,
+    Explain,
+    Evaluate,
+    Tree,
+    Graph,
+    Finish,
+    Print,
+    PrintFinished,
+}
 
-pub const EXPLAIN: u32 = 2;
+impl Command {
+    // The command that a word is.
+    pub fn of_word(word: &[u8]) -> Option<Command>
+        ensures { result ≡ command_of word.now }
+    {
+        match word {
+            b"judge" => Some(Command::Judge),
+            b"explain" => Some(Command::Explain),
+            b"evaluate" => Some(Command::Evaluate),
+            b"tree" => Some(Command::Tree),
+            b"graph" => Some(Command::Graph),
+            b"finish" => Some(Command::Finish),
+            b"print" => Some(Command::Print),
+            b"print-finished" => Some(Command::PrintFinished),
+            _ => None,
+        }
+    }
 
-pub const EVALUATE: u32 = 3;
+    // The command that argument 1 is.
+    pub fn given(rt: &impl Env) -> Option<Command> {
+        let mut word = [0u8; 16];
+        match rt.arg(1, &mut word) {
+            Ok(length) => Command::of_word(&word[..length]),
+            Err(_) => None,
+        }
+    }
 
-pub const TREE: u32 = 4;
+    // Whether it tells a judgement, in JSON too.
+    pub fn tells(self) -> bool
+        ensures { result ≡ telling self }
+    {
+        matches!(self, Command::Judge | Command::Explain)
+    }
 
-pub const GRAPH: u32 = 5;
+    // Whether it prints solver text.
+    pub fn prints(self) -> bool
+        ensures { result ≡ printing self }
+    {
+        matches!(self, Command::Print | Command::PrintFinished)
+    }
 
-pub const FINISH: u32 = 6;
+    // Whether a rule alone will do, without a setting.
+    pub fn takes_rule_alone(self) -> bool
+        ensures { result ≡ alone self }
+    {
+        self == Command::Finish || self.prints()
+    }
 
-pub const PRINT: u32 = 7;
-
-pub const PRINT_FINISHED: u32 = 8;
+    // Whether it takes so many files: a rule takes the next as its setting.
+    fn takes(self, files: u32) -> bool
+        ensures { result ≡ taking self files }
+    {
+        match self {
+            Command::Judge | Command::Explain | Command::Evaluate | Command::Tree => files != 0,
+            Command::Graph | Command::Finish => files == 1 || files == 2,
+            Command::Print | Command::PrintFinished => files == 1,
+        }
+    }
+}
 
 // What an argument is.
-pub const FILE: u32 = 0;
+#[derive(Clone, Copy, PartialEq, Eq)]
+pub enum Argument {
+    File,
+    Json,
+    Color,
+    Plain,
+    End,
+    Unknown,
+}
 
-pub const JSON: u32 = 1;
+impl Argument {
+    // What a word is; where the options have ended, a file.
+    pub fn of_word(word: &[u8], ended: bool) -> Argument
+        ensures { result ≡ kind_of word.now ended }
+    {
+        if ended {
+            return Argument::File;
+        }
+        match word {
+            b"--json" => Argument::Json,
+            b"--color" => Argument::Color,
+            b"--no-color" => Argument::Plain,
+            b"--" => Argument::End,
+            [b'-', _, ..] => Argument::Unknown,
+            _ => Argument::File,
+        }
+    }
 
-pub const COLOR: u32 = 2;
+    // What argument `i` is; one that is too long is a file.
+    fn at(rt: &impl Env, i: usize, ended: bool) -> Argument {
+        let mut word = io::buffer();
+        match rt.arg(i, &mut word) {
+            Ok(length) => Argument::of_word(&word[..length], ended),
+            Err(_) => Argument::File,
+        }
+    }
+}
 
-pub const PLAIN: u32 = 3;
-
-pub const END: u32 = 4;
-
-pub const UNKNOWN: u32 = 5;
+// Whether a word is a hyphen alone: standard input.
+pub fn hyphen(path: &[u8]) -> bool
+    ensures { result ≡ is_hyphen path.now }
+{
+    matches!(path, b"-")
+}
 
 // The options given, whether they have ended, whether one is unknown; how many files there are.
-#[derive(Clone, Copy)]
+#[derive(Clone, Copy, Default)]
 pub struct Options {
     pub json: bool,
     pub color: bool,
@@ -46,156 +135,60 @@ pub struct Options {
     pub files: u32,
 }
 
-// A command on a file: its options, how many files there are, whether its answer is one of several, whether another was
-// answered before, and which argument is the next file, 0 where there is none.
+impl Options {
+    // The options among so many arguments.
+    pub fn among(rt: &impl Env, count: usize) -> Options {
+        let mut options = Options::default();
+        for i in 2..count {
+            let argument = Argument::at(rt, i, options.ended);
+            options.add(argument);
+        }
+        options
+    }
+
+    // One more argument.
+    fn add(&mut self, argument: Argument)
+        ensures { self.new ≡ counted self.old argument }
+    {
+        match argument {
+            Argument::File => self.files = self.files.saturating_add(1),
+            Argument::Json => self.json = true,
+            Argument::Color => self.color = true,
+            Argument::Plain => {
+                self.color = false;
+                self.plain = true;
+            }
+            Argument::End => self.ended = true,
+            Argument::Unknown => self.unknown = true,
+        }
+    }
+}
+
+// Whether a command takes these options and so many files.
+pub fn fitting(command: Option<Command>, o: Options) -> bool
+    ensures { result ≡ fitting command o }
+{
+    match command {
+        None => false,
+        Some(c) => {
+            let json = !o.json | c.tells();
+            let color = !(o.color | o.plain) | (c == Command::Tree);
+            !o.unknown & json & color & c.takes(o.files)
+        }
+    }
+}
+
+// A command on a file: its options, how many files there are, whether its answer is one of several, whether it is the
+// first, and which argument is the next file.
 #[derive(Clone, Copy)]
 pub struct Request {
-    pub command: u32,
+    pub command: Command,
     pub json: bool,
     pub color: bool,
     pub files: u32,
     pub several: bool,
     pub first: bool,
-    pub next: usize,
-}
-
-// Whether two words are the same.
-fn is(word: &[u8], name: &[u8]) -> bool
-    ensures { result ≡ same_word word.now name.now }
-{
-    check::same(word, name)
-}
-
-// The command that a word is.
-pub fn command_of(word: &[u8]) -> u32
-    ensures { result ≡ command_of word.now }
-{
-    let finished = ops::ite(is(word, b"print-finished"), PRINT_FINISHED, 0);
-    let print = ops::ite(is(word, b"print"), PRINT, finished);
-    let finish = ops::ite(is(word, b"finish"), FINISH, print);
-    let graph = ops::ite(is(word, b"graph"), GRAPH, finish);
-    let tree = ops::ite(is(word, b"tree"), TREE, graph);
-    let evaluate = ops::ite(is(word, b"evaluate"), EVALUATE, tree);
-    let explain = ops::ite(is(word, b"explain"), EXPLAIN, evaluate);
-    ops::ite(is(word, b"judge"), JUDGE, explain)
-}
-
-// The first byte of a word, 0 where it has none.
-pub fn first(word: &[u8]) -> u8
-    ensures { result ≡ slice_index word.now 0 }
-{
-    if 0 < word.len() { word[0] } else { 0 }
-}
-
-// Whether a word is a hyphen alone: standard input.
-pub fn hyphen(path: &[u8]) -> bool {
-    (path.len() == 1) & (first(path) == b'-')
-}
-
-// Whether a word looks like an option: a hyphen and more.
-fn hyphened(word: &[u8]) -> bool
-    ensures { result ≡ hyphened word.now }
-{
-    (1 < word.len()) & (first(word) == b'-')
-}
-
-// What an argument is; where the options have ended, a file.
-pub fn kind_of(word: &[u8], ended: bool) -> u32
-    ensures { result ≡ kind_of word.now ended }
-{
-    let other = ops::ite(hyphened(word), UNKNOWN, FILE);
-    let end = ops::ite(is(word, b"--"), END, other);
-    let plain = ops::ite(is(word, b"--no-color"), PLAIN, end);
-    let color = ops::ite(is(word, b"--color"), COLOR, plain);
-    ops::ite(ended, FILE, ops::ite(is(word, b"--json"), JSON, color))
-}
-
-// The options after one more argument.
-fn counted(o: Options, kind: u32) -> Options {
-    Options {
-        json: o.json | (kind == JSON),
-        color: (o.color | (kind == COLOR)) & (kind != PLAIN),
-        plain: o.plain | (kind == PLAIN),
-        ended: o.ended | (kind == END),
-        unknown: o.unknown | (kind == UNKNOWN),
-        files: o.files.wrapping_add(ops::bit(kind == FILE)),
-    }
-}
-
-fn is_missing(rt: &impl Env, i: usize) -> bool {
-    let mut word = [0u8; 1];
-    match rt.arg(i, &mut word) {
-        Ok(_) => false,
-        Err(FillError::TooLong) => false,
-        Err(FillError::NotPresent) => true,
-    }
-}
-
-// How many arguments there are, the program's own name among them.
-pub fn count_of(rt: &impl Env) -> usize {
-    for i in 0..usize::MAX {
-        if is_missing(rt, i) {
-            return i;
-        }
-    }
-    usize::MAX
-}
-
-// The command that argument 1 is.
-pub fn command(rt: &impl Env) -> u32 {
-    let mut word = [0u8; 16];
-    match rt.arg(1, &mut word) {
-        Ok(length) => command_of(&word[..length]),
-        Err(_) => 0,
-    }
-}
-
-// What argument `i` is; one that is too long is a file.
-fn kind_at(rt: &impl Env, i: usize, ended: bool) -> u32 {
-    let mut word = io::buffer();
-    match rt.arg(i, &mut word) {
-        Ok(length) => kind_of(&word[..length], ended),
-        Err(_) => FILE,
-    }
-}
-
-// The options among so many arguments.
-pub fn options_of(rt: &impl Env, count: usize) -> Options {
-    let mut o = Options {
-        json: false,
-        color: false,
-        plain: false,
-        ended: false,
-        unknown: false,
-        files: 0,
-    };
-    for i in 2..count {
-        o = counted(o, kind_at(rt, i, o.ended));
-    }
-    o
-}
-
-// The first file from an argument on, 0 where there is none.
-pub fn next_file(rt: &impl Env, from: usize, count: usize, ended: bool) -> usize {
-    let mut over = ended;
-    for i in from..count {
-        let kind = kind_at(rt, i, over);
-        if kind == FILE {
-            return i;
-        }
-        over = over | (kind == END);
-    }
-    0
-}
-
-// Whether a command takes these options and so many files: a rule takes the next as its setting.
-pub fn fitting(command: u32, o: Options) -> bool
-    ensures { result ≡ fitting command o }
-{
-    let json = !o.json | (command == JUDGE) | (command == EXPLAIN);
-    let color = !(o.color | o.plain) | (command == TREE);
-    let most = (command < GRAPH) | (o.files == 1) | ((command < PRINT) & (o.files == 2));
-    (command != 0) & !o.unknown & json & color & most & (o.files != 0)
+    pub next: Option<usize>,
 }
 
 // Whether an answer is one of several: a rule and its setting have one.
@@ -205,34 +198,75 @@ fn several(files: u32, rule: bool) -> bool
     (2 < files) | ((files == 2) & !rule)
 }
 
-// Whether there is a file too many for a command on a case.
-pub fn crowded(request: Request) -> bool
-    ensures { result ≡ crowded request.command request.files }
+impl Request {
+    // On a case.
+    pub fn new(command: Command, options: Options, first: bool, next: Option<usize>) -> Request
+        ensures { result ≡ record {
+          command = command;
+          json = options.json;
+          color = options.color;
+          files = options.files;
+          several = several options.files false;
+          first = first;
+          next = next;
+        } }
+    {
+        Request {
+            command,
+            json: options.json,
+            color: options.color,
+            files: options.files,
+            several: several(options.files, false),
+            first,
+            next,
+        }
+    }
+
+    // The same on a rule.
+    pub fn of_rule(self) -> Request
+        ensures { result ≡ record self { several = several self.files true } }
+    {
+        Request {
+            several: several(self.files, true),
+            ..self
+        }
+    }
+
+    // Whether there is a file too many for a command on a case.
+    pub fn crowded(self) -> bool
+        ensures { result ≡ crowded self.command self.files }
+    {
+        match self.command {
+            Command::Judge | Command::Explain | Command::Evaluate | Command::Tree => false,
+            Command::Graph | Command::Finish | Command::Print | Command::PrintFinished => {
+                1 < self.files
+            }
+        }
+    }
+}
+
+fn is_missing(rt: &impl Env, i: usize) -> bool {
+    matches!(rt.arg(i, &mut [0u8; 1]), Err(FillError::NotPresent))
+}
+
+// How many arguments there are, the program's own name among them.
+pub fn count_of(rt: &impl Env) -> usize {
+    (0..usize::MAX)
+        .find(|i| is_missing(rt, *i))
+        .unwrap_or(usize::MAX)
+}
+
+// The first file from an argument on.
+pub fn next_file(rt: &impl Env, from: usize, count: usize, ended: bool) -> Option<usize>
+    ensures { IfSome result (λ i. (from ≤ i) × (i < count)) }
 {
-    (GRAPH <= request.command) & (1 < request.files)
-}
-
-// The request on a case; that on a rule is `of_rule` of it.
-pub fn request_of(command: u32, o: Options, answers: u32, next: usize) -> Request {
-    Request {
-        command: command,
-        json: o.json,
-        color: o.color,
-        files: o.files,
-        several: several(o.files, false),
-        first: answers == 0,
-        next: next,
+    let mut over = ended;
+    for i in from..count {
+        let argument = Argument::at(rt, i, over);
+        if argument == Argument::File {
+            return Some(i);
+        }
+        over |= argument == Argument::End;
     }
-}
-
-pub fn of_rule(request: Request) -> Request {
-    Request {
-        command: request.command,
-        json: request.json,
-        color: request.color,
-        files: request.files,
-        several: several(request.files, true),
-        first: request.first,
-        next: request.next,
-    }
+    None
 }

@@ -1,122 +1,99 @@
 // What the program ends with: 0 done, or the setting passes; 1 it does not; 3 it is refused; 2 an error.
 ghost use Rattle.std.specs.Prelude.{◌≡◌};
-ghost use Rattle.request.specs.Status.{rank, worse, answered};
+ghost use Rattle.request.specs.Status.{rank, worse, broken, answered, after};
 
-pub const DONE: u32 = 0;
+#[derive(Clone, Copy, PartialEq, Eq, Default)]
+pub enum Status {
+    #[default]
+    Done,
+    Fails,
+    Error,
+    Refused,
+    // Within the program: a write has failed; a room was too short, and nothing was put; nobody reads any more what is
+    // written.
+    Broken,
+    Short,
+    Closed,
+}
 
-pub const FAILS: u32 = 1;
+impl Status {
+    // The order of badness: 0, 1, 3, 2, and last a failed write. Broken and Short rank alike in the contract of worse,
+    // so it is no derived Ord.
+    fn rank(self) -> u8
+        ensures { result ≡ rank self }
+    {
+        match self {
+            Status::Done => 0,
+            Status::Fails => 1,
+            Status::Refused => 3,
+            Status::Error => 4,
+            Status::Broken | Status::Short => 5,
+            Status::Closed => 6,
+        }
+    }
 
-pub const ERROR: u32 = 2;
+    // The worse of two.
+    pub fn worse(self, other: Status) -> Status
+        ensures { result ≡ worse self other }
+    {
+        if self.rank() < other.rank() {
+            other
+        } else {
+            self
+        }
+    }
 
-pub const REFUSED: u32 = 3;
+    // Whether a write has failed.
+    pub fn is_broken(self) -> bool
+        ensures { result ≡ broken self }
+    {
+        matches!(self, Status::Broken | Status::Closed)
+    }
 
-// Within the program: a write has failed; a room was too short, and nothing was put; nobody reads any more what is written.
-pub const BROKEN: u32 = 4;
+    // A failed write is an error.
+    pub fn told(self) -> Status
+        ensures { result ≡ answered self }
+    {
+        if self == Status::Broken {
+            Status::Error
+        } else {
+            self
+        }
+    }
 
-pub const SHORT: u32 = 5;
-
-pub const CLOSED: u32 = 6;
+    // The status to descriptor 3, as a digit and a line feed, where somebody listens.
+    pub fn tell(self) {
+        let line = [b'0' + self as u8, b'\n'];
+        io::write_all(3, &line);
+    }
+}
 
 // What a file comes to: a status, and whether the next file belongs to it.
 #[derive(Clone, Copy)]
 pub struct Answer {
-    pub status: u32,
+    pub status: Status,
     pub paired: bool,
-}
-
-pub fn alone(status: u32) -> Answer {
-    Answer {
-        status,
-        paired: false,
-    }
-}
-
-pub fn paired(status: u32) -> Answer {
-    Answer {
-        status,
-        paired: true,
-    }
 }
 
 // The worst status so far; how many files were answered; whether -- has ended the options; whether the next file belongs
 // to the rule before it.
-#[derive(Clone, Copy)]
+#[derive(Clone, Copy, Default)]
 pub struct Run {
-    pub status: u32,
+    pub status: Status,
     pub answers: u32,
     pub ended: bool,
     pub paired: bool,
 }
 
-pub fn begun() -> Run {
-    Run {
-        status: DONE,
-        answers: 0,
-        ended: false,
-        paired: false,
+impl Run {
+    // After a file that ended so: all but an error is an answer.
+    pub fn add(&mut self, answer: Answer)
+        ensures { self.new ≡ after self.old answer }
+    {
+        self.status = self.status.worse(answer.status);
+        self.paired = answer.paired;
+        if answer.status != Status::Error {
+            self.answers = self.answers.saturating_add(1);
+        }
     }
-}
-
-// The order of badness: 0, 1, 3, 2, and last a failed write.
-fn rank(status: u32) -> u32
-    ensures { result ≡ rank status }
-{
-    ops::ite(status == ERROR, 4, ops::ite(status == BROKEN, 5, status))
-}
-
-// The worse of two.
-pub fn worse(a: u32, b: u32) -> u32
-    ensures { result ≡ worse a b }
-{
-    ops::ite(rank(a) < rank(b), b, a)
-}
-
-// After a file that ended so: all but an error is an answer.
-pub fn after(run: Run, answer: Answer) -> Run {
-    let status = answer.status;
-    Run {
-        status: worse(run.status, status),
-        answers: run.answers.wrapping_add(ops::bit(status != ERROR)),
-        ended: run.ended,
-        paired: answer.paired,
-    }
-}
-
-// After an option.
-pub fn passed_by(run: Run, ended: bool) -> Run {
-    Run {
-        status: run.status,
-        answers: run.answers,
-        ended: run.ended | ended,
-        paired: run.paired,
-    }
-}
-
-// After a setting, which was answered with its rule.
-pub fn settled(run: Run) -> Run {
-    Run {
-        status: run.status,
-        answers: run.answers,
-        ended: run.ended,
-        paired: false,
-    }
-}
-
-// Whether a write has failed.
-pub fn is_broken(status: u32) -> bool {
-    (status == BROKEN) | (status == CLOSED)
-}
-
-// A failed write is an error.
-pub fn told(status: u32) -> u32
-    ensures { result ≡ answered status }
-{
-    ops::ite(status == BROKEN, ERROR, status)
-}
-
-// The status to descriptor 3, as a digit and a line feed, where somebody listens.
-pub fn tell(status: u32) {
-    let mut page = page::draft();
-    let at = page::fill(&mut page, 0, b"", b"#$", b"", 0, page::one(status));
-    io::write_all(3, page::text(&page, at));
 }

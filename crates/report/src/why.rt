@@ -130,12 +130,9 @@ fn put_of_setting(page: &mut Page, names: Names, reason: Reason) -> fmt::Result 
     }
 }
 
-// 7 to 10, of a term and those that it stands on.
-fn put_of_term(page: &mut Page, names: Names, reason: Reason) -> fmt::Result {
+// Of an input: its slot and its mark.
+fn put_of_input(page: &mut Page, names: Names, reason: Reason) -> fmt::Result {
     match reason {
-        Reason::ConstantTooLarge { value, most, sort } => {
-            put_large(page, "the constant", value, most, sort)
-        }
         Reason::SlotTooLarge { slot } => {
             write!(page, "the slot is {slot}, at most 255 is allowed")
         }
@@ -146,12 +143,8 @@ fn put_of_term(page: &mut Page, names: Names, reason: Reason) -> fmt::Result {
             there,
             here,
         } => {
-            write!(
-                page,
-                "{} has slot {slot} as {}, ",
-                names.term(term),
-                SortWords(there)
-            )?;
+            let term = names.term(term);
+            write!(page, "{term} has slot {slot} as {}, ", SortWords(there))?;
             write!(page, "and here it is {}", SortWords(here))
         }
         Reason::OtherMark {
@@ -160,12 +153,19 @@ fn put_of_term(page: &mut Page, names: Names, reason: Reason) -> fmt::Result {
             there,
             here,
         } => {
-            write!(
-                page,
-                "{} has slot {slot} with mark {there}, ",
-                names.term(term)
-            )?;
+            let term = names.term(term);
+            write!(page, "{term} has slot {slot} with mark {there}, ")?;
             write!(page, "and here it is {here}")
+        }
+        _ => put_of_setting(page, names, reason),
+    }
+}
+
+// 7 to 10, of a term and those that it stands on.
+fn put_of_term(page: &mut Page, names: Names, reason: Reason) -> fmt::Result {
+    match reason {
+        Reason::ConstantTooLarge { value, most, sort } => {
+            put_large(page, "the constant", value, most, sort)
         }
         Reason::TooManyStores { stores } => write!(
             page,
@@ -174,7 +174,7 @@ fn put_of_term(page: &mut Page, names: Names, reason: Reason) -> fmt::Result {
         Reason::RuleNotBool { sort } => {
             write!(page, "the rule is {}, and Bool is asked", SortWords(sort))
         }
-        _ => put_of_setting(page, names, reason),
+        _ => put_of_input(page, names, reason),
     }
 }
 

@@ -106,9 +106,12 @@ pub fn cells_checked<C: Cells>(table: &[u32], cells: &C) -> Result<(), Refusal>
     ensures { result ≡ scan (λ k. cell_fault table.now (C.at cells.now k))
         (C.count cells.now) 0 accepted }
 {
+    let listed = cells.count();
+    if listed == 0 {
+        return Ok(());
+    }
     let mut entries = [0u32; 256];
     fill_entries(table, &mut entries);
-    let listed = cells.count();
     for k in 0..listed {
         let number = cell_fault(table, &entries, cells.cell(k));
         if number != 0 {

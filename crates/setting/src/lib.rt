@@ -10,10 +10,10 @@ ghost use Rattle.std.specs.Prelude.{◌≡◌};
 ghost use Rattle.table.specs.WellFormed.{WellFormed};
 ghost use Rattle.setting.specs.Check.{check_by};
 
-pub use arrays::ENTRIES;
+pub use arrays::{ENTRIES, fill_entries};
 pub use cells::{Cell, Cells, Flat, cells_checked, look};
 use table::{Refusal, refused};
-use variables::variables_checked;
+pub use variables::variables_checked;
 
 // Whether a setting is one to evaluate in, else its first refusal: 11, then the variables, then the cells.
 pub fn check<C: Cells>(table: &[u32], values: &[u32], cells: &C) -> Result<(), Refusal>

@@ -65,6 +65,7 @@ pub fn rank_of(op: u32) -> Rank
 }
 
 impl Rank {
+    #[inline(always)]
     pub fn fields(self) -> Fields
         ensures { result ≡ fields_of self }
     {

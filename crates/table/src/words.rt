@@ -113,10 +113,12 @@ pub fn put(table: &mut [u32], k: u32, x: Term)
     }
 }
 
-// A table's numbers, at a room's front.
+// A table's numbers, at a room's front. A loop over places: with `copy_from_slice` the archive for C needs `memmove` besides.
 pub fn copy(table: &[u32], room: &mut [u32])
     requires { length table.now ≤ length room.old }
     ensures { room.new ≡ table.now ++ drop (length table.now) room.old }
 {
-    room[..table.len()].copy_from_slice(table);
+    for i in 0..table.len() {
+        room[i] = table[i];
+    }
 }

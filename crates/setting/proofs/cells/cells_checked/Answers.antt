@@ -1,10 +1,18 @@
 use Prim.Native.Nat.{ℕ}
 use mathlib.Core.Path.{◌≡◌, refl, ap, ◌∙◌}
+use native.Mathlib.Omega.{arith}
 use Rattle.table.specs.Answers.{accepted}
 use Rattle.table.specs.Admission.{scan}
 use Rattle.table.proofs.Scans.{begun, on, stop, through}
 use Rattle.setting.specs.Check.{cell_fault}
 use Rattle.setting.proofs.cells.cells_checked.Goals as goal
+
+pub returns-then-listed-eq0 : goal.returns-then-listed-eq0
+returns-then-listed-eq0 g c =
+    let faults : ℕ → ℕ = λ i. cell_fault c.args.table.now (g.C.Cells.at c.args.cells.now i) in
+    let none : c.count-listed.result ≡ 0 = c.if-listed-eq0.true in
+    through faults c.count-listed.result accepted 0 (begun faults c.count-listed.result accepted) (omega arith)
+    ∙ ap (λ n. scan faults n 0 accepted) c.count-listed.ensures
 
 pub fill_entries-requires : goal.fill_entries-requires
 fill_entries-requires g c = record { well_formed = c.requires; entries_value = refl }

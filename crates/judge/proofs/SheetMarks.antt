@@ -23,7 +23,6 @@ use Rattle.table.proofs.FoldLaws.{fold_same}
 use Rattle.table.proofs.SoundTerms.{slot-most}
 use Rattle.sheets.specs.Marks.{line_count, marks_under}
 use Rattle.sheets.specs.Check.{sheet_check}
-use Rattle.sheets.specs.declared.marks.Ruling.{Ruling}
 use Rattle.sheets.specs.Code.Said.{Said, marks_by}
 use Rattle.sheets.proofs.Saying.{marks_by-row}
 use Rattle.setting.specs.Interpretation.{Value, Interpretation}
@@ -80,7 +79,7 @@ module _ (w : List ℕ) (m m' : Term → Bool) (I : Interpretation) where
 
 -- What a row says by slot marks what the sheet marks
 
-pub row-marks : (limit : ℕ) (w sheet : List ℕ) (row : List Ruling) → WellFormed limit w → Said sheet (line_count sheet) row → SameMarks w (marks_by row) (marks_under sheet)
+pub row-marks : (limit : ℕ) (w sheet row : List ℕ) → WellFormed limit w → Said sheet (line_count sheet) row → SameMarks w (marks_by row) (marks_under sheet)
 row-marks limit w sheet row f said k b v =
     let low : (term_at w k).p ≤ 255 = slot-most w k (f.sound k b) v in
     marks_by-row sheet row (term_at w k) said (omega arith)

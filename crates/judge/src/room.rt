@@ -10,16 +10,9 @@ ghost use Rattle.judge.specs.Conditions.{truths};
 use crate::terms::step;
 use crate::turns::first_turn;
 use setting::Cells;
-use sheets::Ruling;
 
 // Said is what the sheet says by slot. The front of work holds the terms' values, and after them the truths of their conditions.
-pub fn fill<C: Cells>(
-    table: &[u32],
-    said: &[Ruling; 256],
-    values: &[u32],
-    cells: &C,
-    work: &mut [u32],
-)
+pub fn fill<C: Cells>(table: &[u32], said: &[u32; 256], values: &[u32], cells: &C, work: &mut [u32])
     requires well_formed { WellFormed 80000 table.now }
     requires table_in_bounds { terms table.now * 2 ≤ length work.old }
     ensures { work.new

@@ -11,7 +11,6 @@ ghost use Rattle.judge.specs.Code.Turns.{note_on, gathered, next_room, next_turn
 
 use crate::reads::{Labelled, read, truth_at};
 use crate::turns::{Turn, asks_more, turn_here};
-use sheets::Ruling;
 use table::{Term, number_at};
 
 // Value and truth of an operator. A choice of arrays is not free.
@@ -44,7 +43,7 @@ fn operated(table: &[u32], front: &[u32], truths: &[u32], x: Term) -> Labelled
 // Value and truth of a term that is no read; said is what the sheet says by slot.
 fn plain(
     table: &[u32],
-    said: &[Ruling; 256],
+    said: &[u32; 256],
     values: &[u32],
     front: &[u32],
     truths: &[u32],
@@ -79,7 +78,7 @@ fn plain(
 // The same at a place of the room: the numbers stand at its front, the truths from number terms on.
 fn plain_here(
     table: &[u32],
-    said: &[Ruling; 256],
+    said: &[u32; 256],
     values: &[u32],
     terms: u32,
     room: &[u32],
@@ -181,7 +180,7 @@ fn note_read(table: &[u32], terms: u32, work: &mut [u32], at: u32, array: u32, c
 // Writes value and truth of the terms from at on, up to the next read, and answers which that is.
 fn advance(
     table: &[u32],
-    said: &[Ruling; 256],
+    said: &[u32; 256],
     values: &[u32],
     terms: u32,
     work: &mut [u32],
@@ -210,7 +209,7 @@ fn advance(
 // Writes value and truth of a turn's term and of those after it, up to the next read, and answers which that is.
 fn run(
     table: &[u32],
-    said: &[Ruling; 256],
+    said: &[u32; 256],
     values: &[u32],
     terms: u32,
     work: &mut [u32],
@@ -237,7 +236,7 @@ fn run(
 // the turn's term and of those after it, up to the next read, and answers what that asks.
 pub fn step(
     table: &[u32],
-    said: &[Ruling; 256],
+    said: &[u32; 256],
     values: &[u32],
     count: usize,
     terms: u32,

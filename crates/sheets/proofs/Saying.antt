@@ -12,8 +12,6 @@ use Rattle.ops.proofs.Booleans.{and_shut}
 use Rattle.table.specs.Folds.{any_below}
 use Rattle.table.specs.Admission.{scan}
 use Rattle.sheets.specs.declared.lines.Line.{Line}
-use Rattle.sheets.specs.declared.marks.Ruling.{Ruling}
-use Rattle.sheets.specs.declared.marks.Ruling.TheVariants.{Unsaid, Kept, Marked}
 use Rattle.sheets.specs.Marks.{own_marks, line_at, line_count, names, speaks, says, mark, keep}
 use Rattle.sheets.specs.Check.{sheet_check}
 use Rattle.sheets.specs.Code.Said.{higher, over_by, said_below, Said, Over, mark_by}
@@ -21,25 +19,25 @@ use Rattle.sheets.specs.Laws.{Empty, MarksByRow}
 
 -- Line by line
 
-pub none_said : (sheet : List ℕ) → Said sheet 0 (replicate 256 Unsaid)
+pub none_said : (sheet : List ℕ) → Said sheet 0 (replicate 256 0)
 unfolding said_below
-none_said sheet = record { size = refl; is = λ slot b. get_or-replicate 256 slot Unsaid Unsaid b }
+none_said sheet = record { size = refl; is = λ slot b. get_or-replicate 256 slot 0 0 b }
 
 said_more : (sheet : List ℕ) (k slot : ℕ) → said_below sheet (k + 1) slot ≡ over_by (said_below sheet k slot) (line_at sheet k) slot
 unfolding said_below
 said_more sheet k slot = ap (λ (n : ℕ). said_below sheet n slot) (add-one k)
 
-pub one_said : (sheet : List ℕ) (k : ℕ) (before row : List Ruling) (line : Line) → Said sheet k before → line ≡ line_at sheet k → Over before row line → Said sheet (k + 1) row
+pub one_said : (sheet : List ℕ) (k : ℕ) (before row : List ℕ) (line : Line) → Said sheet k before → line ≡ line_at sheet k → Over before row line → Said sheet (k + 1) row
 one_said sheet k before row line h e over =
     record {
       size = over.size ∙ h.size;
-      is = λ slot b. over.is slot b ∙ ap (λ (x : Ruling). over_by x line slot) (h.is slot b) ∙ ap (λ (l : Line). over_by (said_below sheet k slot) l slot) e ∙ sym (said_more sheet k slot);
+      is = λ slot b. over.is slot b ∙ ap (λ (x : ℕ). over_by x line slot) (h.is slot b) ∙ ap (λ (l : Line). over_by (said_below sheet k slot) l slot) e ∙ sym (said_more sheet k slot);
     }
 
--- In one: whether some line marks, whether some line keeps
+-- In one number: whether some line marks, whether some line keeps
 
-abbrev standing : Bool → Bool → Ruling
-standing marks keeps = cond marks Marked (cond keeps Kept Unsaid)
+abbrev standing : Bool → Bool → ℕ
+standing marks keeps = cond marks 2 (cond keeps 1 0)
 
 abbrev says_below : List ℕ → ℕ → ℕ → ℕ → Bool
 says_below sheet k kind slot = any_below k (λ i. speaks kind slot (line_at sheet i))
@@ -69,7 +67,7 @@ unfolding said_below any_below
 said_is sheet zero slot = refl
 said_is sheet (suc k) slot =
     let line = line_at sheet k in
-    ap (λ (x : Ruling). over_by x line slot) (said_is sheet k slot)
+    ap (λ (x : ℕ). over_by x line slot) (said_is sheet k slot)
     ∙ more (says_below sheet k mark slot) (says_below sheet k keep slot) (names line slot) (eqb line.kind mark) (eqb line.kind keep)
 
 -- So the row marks what the sheet marks
@@ -82,7 +80,7 @@ mark_is false false own = refl
 pub marks_by-row : MarksByRow
 marks_by-row sheet row x h b =
     rw (lt-ltb x.p 256 b)
-    (ap (λ (n : Ruling). mark_by n (own_marks x)) (h.is x.p b ∙ said_is sheet (line_count sheet) x.p)
+    (ap (λ (n : ℕ). mark_by n (own_marks x)) (h.is x.p b ∙ said_is sheet (line_count sheet) x.p)
     ∙ mark_is (says sheet mark x.p) (says sheet keep x.p) (own_marks x))
 
 -- The empty sheet

@@ -5,7 +5,6 @@ use Rattle.table.specs.declared.words.Term.{Term}
 use Rattle.table.specs.Answers.{Acceptance, accepted}
 use Rattle.sheets.specs.Marks.{own_marks, line_count, line_at, names, marks_under, mark, keep}
 use Rattle.sheets.specs.Check.{sheet_check}
-use Rattle.sheets.specs.declared.marks.Ruling.{Ruling}
 use Rattle.sheets.specs.Code.Said.{Said, marks_by}
 use Rattle.sheets.specs.Deciding.{deciding}
 
@@ -16,7 +15,7 @@ pub record Empty : Type 0 where
 
 -- A row that says by slot what a sheet says marks what the sheet marks.
 abbrev pub MarksByRow : Type 0
-MarksByRow = (sheet : List ℕ) (row : List Ruling) (x : Term) → Said sheet (line_count sheet) row → x.p < 256 → marks_by row x ≡ marks_under sheet x
+MarksByRow = (sheet row : List ℕ) (x : Term) → Said sheet (line_count sheet) row → x.p < 256 → marks_by row x ≡ marks_under sheet x
 
 -- The deciding line of a slot is one of the sheet's just where some line names the slot; it then names it, and its kind is what holds.
 pub record Decided (sheet : List ℕ) (x : Term) : Type 0 where

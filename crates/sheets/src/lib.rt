@@ -8,5 +8,5 @@ mod slots; // the line by which a slot is marked or kept
 
 pub use faults::check;
 pub use lines::{Line, count, line_at};
-pub use marks::{Ruling, marked, said};
+pub use marks::{marked, said};
 pub use slots::deciding;

@@ -5,7 +5,7 @@
 mod failures; // errors of the system
 mod words; // text that is kept as bytes
 
-ghost use Rattle.std.specs.Prelude.{◌≡◌, ℕ, ◌+◌, ◌<◌, ◌≤◌, List, [], ◌∷◌, ◌++◌, length, take, min, IfOk};
+ghost use Rattle.std.specs.Prelude.{◌≡◌, ℕ, ◌+◌, ◌<◌, ◌≤◌, List, [], ◌∷◌, ◌++◌, length, take, min, IfOk, Some, None, Err};
 ghost use Rattle.io.specs.Counts.{IsPrefixLen};
 
 pub use failures::{fail, is_closed};
@@ -23,6 +23,21 @@ enum Stream {
     Output(Stdout),
     Errors(Stderr),
     Draft,
+}
+
+// Keeps what a write came to: of failures the first, whatever comes after it. An error where there is one.
+fn keep(failure: &mut Option<Error>, written: Result<()>) -> fmt::Result
+    ensures first { (e : Error) → failure.old ≡ Some e → failure.new ≡ Some e }
+    ensures kept { (e : Error) → failure.old ≡ None → written ≡ Err e → failure.new ≡ Some e }
+    ensures none_lost { IfOk result (λ _. failure.new ≡ None) }
+{
+    if failure.is_none() {
+        *failure = written.err();
+    }
+    match failure {
+        None => Ok(()),
+        Some(_) => Err(fmt::Error),
+    }
 }
 
 #[derive(Drop)]
@@ -90,20 +105,17 @@ impl Page {
         }
     }
 
-    // Begins it anew, once it is written; a failure is kept.
+    // Begins it anew, once it is written. After a failure nothing is written any more.
     fn flush(&mut self) -> fmt::Result
         ensures { IfOk result (λ _. self.new ≡ []) }
     {
-        match self.write_out() {
-            Ok(()) => {
-                self.at = 0;
-                Ok(())
-            }
-            Err(e) => {
-                self.failure = Some(e);
-                Err(fmt::Error)
-            }
+        if self.failure.is_some() {
+            return Err(fmt::Error);
         }
+        let written = self.write_out();
+        keep(&mut self.failure, written)?;
+        self.at = 0;
+        Ok(())
     }
 
     // One byte more. A page that is full is written first.
@@ -129,10 +141,14 @@ impl Page {
         Ok(())
     }
 
-    // A column of so many places: what is shown, and spaces, one at least.
+    // A column of so many places: what is shown, and spaces, one at least. It is shown once: what is shown may be dear to find.
     pub fn put_column<T: Display>(&mut self, width: usize, shown: &T) -> fmt::Result {
-        write!(self, "{shown}")?;
-        let spaces = width.saturating_sub(width_of(shown)).max(1);
+        let mut column = Column {
+            page: self,
+            width: Count(0),
+        };
+        write!(column, "{shown}")?;
+        let spaces = width.saturating_sub(column.width.0).max(1);
         write!(self, "{:spaces$}", "")
     }
 
@@ -162,6 +178,20 @@ impl fmt::Write for Count {
     fn write_str(&mut self, text: &str) -> fmt::Result {
         self.0 = self.0.saturating_add(text.len());
         Ok(())
+    }
+}
+
+// What is put on a page, and how many bytes it was.
+#[derive(Drop)]
+struct Column<'a> {
+    page: &'a mut Page,
+    width: Count,
+}
+
+impl fmt::Write for Column<'_> {
+    fn write_str(&mut self, text: &str) -> fmt::Result {
+        self.width.write_str(text)?;
+        self.page.write_str(text)
     }
 }
 

@@ -16,12 +16,13 @@ impl Display for Label<'_> {
         let k = self.term;
         let x = self.judged.term(k);
         let value = Value::of_width(x.sort.n, self.judged.value(k));
-        let slot = self.judged.names.slot(x.p);
+        // A name is looked up among all of the rule's: for a variable alone.
+        let names = self.judged.names;
         match (table::is_variable(x), x.sort.m) {
             _ if is_bare(x) => write!(f, "t{k} {}", Operator(x.op)),
             (false, _) => write!(f, "t{k} {} = {value}", Operator(x.op)),
-            (true, 0) => write!(f, "t{k} {slot} = {value}"),
-            (true, _) => write!(f, "t{k} {slot}: array"),
+            (true, 0) => write!(f, "t{k} {} = {value}", names.slot(x.p)),
+            (true, _) => write!(f, "t{k} {}: array", names.slot(x.p)),
         }
     }
 }

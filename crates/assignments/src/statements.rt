@@ -1,5 +1,5 @@
 // The statements of a setting, token by token. The first fault ends them.
-ghost use Rattle.std.specs.Prelude.{◌≡◌, get_or};
+ghost use Rattle.std.specs.Prelude.{◌≡◌, ◌+◌, ◌<◌, get_or};
 ghost use Rattle.assignments.specs.Statements.{listed_in, given_before, after_name, after_allowance, after_mark};
 ghost use Rattle.assignments.specs.Statements.{indexed, index_at, step, work_of};
 ghost use Rattle.assignments.specs.Reading.{worked};
@@ -27,13 +27,25 @@ fn number_in(row: &[u32], k: usize) -> u32
     row.get(k).copied().unwrap_or(0)
 }
 
+// Numbers `k` and `k` + 1 of a room: one look at its end serves both, where it has them.
+fn pair_in(row: &[u32], k: usize) -> (u32, u32)
+    requires { k < 18446744073709551615 }
+    ensures { result ≡ (get_or row.now k 0, get_or row.now (k + 1) 0) }
+{
+    if k + 1 < row.len() {
+        return (row[k], row[k + 1]);
+    }
+    (number_in(row, k), number_in(row, k + 1))
+}
+
 // A cell is among the first `count` of the room.
 fn listed_in(cells: &[u32], count: u32, cell: Cell) -> bool
     ensures { result ≡ listed_in cells.now count cell.slot cell.index }
 {
     // The clause reads a number past the room's end as 0; chunks_exact would leave its cell out.
     for n in (0..count as usize).rev() {
-        if number_in(cells, 3 * n) == cell.slot && number_in(cells, 3 * n + 1) == cell.index {
+        let (slot, index) = pair_in(cells, 3 * n);
+        if (slot == cell.slot) & (index == cell.index) {
             return true;
         }
     }

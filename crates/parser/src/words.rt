@@ -114,7 +114,7 @@ fn inside(b: u8) -> bool
 fn symbolic(b: u8) -> bool
     ensures { result ≡ symbolic b }
 {
-    b.is_ascii_alphanumeric() | b"~!@$%^&*_-+=<>.?/".contains(&b)
+    b.is_ascii_alphanumeric() || b"~!@$%^&*_-+=<>.?/".contains(&b)
 }
 
 fn all_digits(word: &[u8]) -> bool

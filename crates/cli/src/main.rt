@@ -61,7 +61,7 @@ fn answer_argument(rt: HostRuntime, asked: Question, i: usize, run: &mut Run)
 
 // Each argument after the command, until a write fails.
 fn answer_all(rt: HostRuntime, asked: Question) -> Status {
-    let mut run = Run::default();
+    let mut run: Run = Run::default();
     for i in 2..asked.count {
         if run.status.is_broken() {
             break;
@@ -77,7 +77,7 @@ fn answer(rt: HostRuntime) -> Status {
     let count = arguments::count_of(&rt);
     let options = Options::among(&rt, count);
     match given {
-        Some(command) if arguments::fitting(given, options) => {
+        Some(command) if options.fit(given) => {
             answer_all(
                 rt,
                 Question {

@@ -6,7 +6,7 @@ mod routines; // calling a routine, and printing what it answers
 mod shows; // printing answers and rooms
 
 use lines::parts;
-use lines::parts::{Next, taken};
+use lines::parts::Next;
 use lines::tokens::Token;
 use std::io::{Print, Result, Stdout};
 
@@ -20,7 +20,7 @@ fn run_line(output: Stdout, line: &[u8], numbers: &mut [u32], part: Next) -> Res
             token = token.with_byte(*b);
             continue;
         }
-        next = taken(numbers, next, token);
+        next = next.take(numbers, token);
         token = Token::Nothing;
         match next {
             Next::Routine(routine) => {
@@ -33,7 +33,7 @@ fn run_line(output: Stdout, line: &[u8], numbers: &mut [u32], part: Next) -> Res
             return Ok(next);
         }
     }
-    Ok(taken(numbers, next, token))
+    Ok(next.take(numbers, token))
 }
 
 // What a line goes on with; nothing, where the line is wrong, which is told.

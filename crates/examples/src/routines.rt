@@ -1,15 +1,15 @@
 // Calling a routine with the parts as they are, and printing what it answers. A room has 7 at each place.
 use crate::shows::{show_admission, show_evaluation, show_finishing, show_judgement, show_room};
 use lines::parts;
-use lines::parts::{Next, Part, Routine, row, single};
+use lines::parts::{Next, Part, Routine, single};
 use std::io::{Print, Result, Stdout};
 
 // The longest room.
 const LONGEST: u32 = 256;
 
 fn evaluate(output: Stdout, numbers: &[u32], table: &[u32], room: &mut [u32]) -> Result<()> {
-    let values = row(numbers, Part::Values);
-    let cells = row(numbers, Part::Cells);
+    let values = Part::Values.row(numbers);
+    let cells = Part::Cells.row(numbers);
     let allowance = u64::from(single(numbers, Part::Allowance));
     show_evaluation(
         output,
@@ -19,9 +19,9 @@ fn evaluate(output: Stdout, numbers: &[u32], table: &[u32], room: &mut [u32]) ->
 }
 
 fn judge(output: Stdout, numbers: &[u32], table: &[u32], room: &mut [u32]) -> Result<()> {
-    let sheet = row(numbers, Part::Sheet);
-    let values = row(numbers, Part::Values);
-    let cells = row(numbers, Part::Cells);
+    let sheet = Part::Sheet.row(numbers);
+    let values = Part::Values.row(numbers);
+    let cells = Part::Cells.row(numbers);
     let allowance = u64::from(single(numbers, Part::Allowance));
     show_judgement(
         output,

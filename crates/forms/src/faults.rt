@@ -60,7 +60,7 @@ impl<'a> Fault<'a> {
 
 // A word, of which at most 24 bytes are shown, those that are no letters, digits or signs as ?.
 #[derive(Clone, Copy)]
-struct Word<'a>(&'a [u8]);
+pub struct Word<'a>(pub &'a [u8]);
 
 impl Display for Word<'_> {
     fn fmt<W: fmt::Write>(&self, f: &mut Formatter<W>) -> fmt::Result {
@@ -131,8 +131,8 @@ fn name_words(fault: NameFault, word: &[u8]) -> &'static str {
 }
 
 // A line; where there is a word at fault, its column and the word.
-fn put_place<W: fmt::Write>(
-    f: &mut Formatter<W>,
+pub fn put_place<W: fmt::Write>(
+    f: &mut W,
     line: u64,
     column: Option<u64>,
     word: Option<Word>,

@@ -1,2 +1,3 @@
 pub mod Tokens
 pub mod Parts
+pub mod Numbers

@@ -4,6 +4,7 @@ ghost use Rattle.std.specs.Prelude.{◌≡◌, ◌*◌, ◌<◌, get_or, set};
 ghost use Rattle.lines.specs.Parts.{part_number, number, named, most, single, row_of, table_of, opened, begun, part_added, added};
 ghost use Rattle.lines.specs.Parts.{part_after, after};
 
+pub use crate::numbers::taken;
 use crate::tokens::Token;
 use table::number_at;
 
@@ -68,11 +69,18 @@ impl Part {
             _ => 1,
         }
     }
+
+    // The numbers of it.
+    pub fn row(self, numbers: &[u32]) -> &[u32]
+        ensures { result.now ≡ row_of numbers.now (part_number self * 64) (get_or numbers.now (part_number self) 0) }
+    {
+        row(numbers, self.number())
+    }
 }
 
 impl Next {
     // A part's number; those above are routines', and the last says that a line is wrong.
-    fn number(self) -> u32
+    pub(crate) fn number(self) -> u32
         ensures { result ≡ number self }
     {
         match self {
@@ -121,6 +129,22 @@ impl Next {
             _ => false,
         }
     }
+
+    // Takes a token, and answers what the line goes on with.
+    pub fn take(self, numbers: &mut [u32], token: Token) -> Next
+        ensures value { result ≡ part_after numbers.old self token }
+        ensures numbers_after { numbers.new ≡ after numbers.old self token }
+    {
+        match token {
+            Token::Nothing => self,
+            Token::Number(value) => match u32::try_from(value) {
+                Ok(number) => add(numbers, self, number),
+                Err(_) => Next::Wrong,
+            },
+            Token::Word(word) => begin(numbers, self, Next::of_word(word)),
+            Token::Unknown => Next::Wrong,
+        }
+    }
 }
 
 // All zero. From 8192 on it stays so.
@@ -146,12 +170,12 @@ fn run(numbers: &[u32], from: usize, count: usize) -> &[u32]
     numbers.get(from..from + count).unwrap_or(&[])
 }
 
-// The numbers of a part.
-pub fn row(numbers: &[u32], part: Part) -> &[u32]
-    ensures { result.now ≡ row_of numbers.now (part_number part * 64) (get_or numbers.now (part_number part) 0) }
+// The numbers of a part by its number.
+pub fn row(numbers: &[u32], part: u32) -> &[u32]
+    ensures { result.now ≡ row_of numbers.now (part * 64) (get_or numbers.now part 0) }
 {
-    let k = part.number();
-    run(numbers, k as usize * 64, number_at(numbers, k) as usize)
+    let count = number_at(numbers, part) as usize;
+    run(numbers, part as usize * 64, count)
 }
 
 // The one number of a part, 0 where it has none.
@@ -166,7 +190,7 @@ pub fn table(numbers: &[u32]) -> &[u32]
     ensures { result.now ≡ table_of numbers.now }
 {
     if number_at(numbers, Part::Constants.number()) == 0 {
-        return row(numbers, Part::Table);
+        return Part::Table.row(numbers);
     }
     let count = single(numbers, Part::Constants) as usize;
     run(numbers, 8192, count * 6)
@@ -201,20 +225,4 @@ fn add(numbers: &mut [u32], next: Next, number: u32) -> Next
     put(numbers, k as usize * 64 + count as usize, number);
     put(numbers, k as usize, count + 1);
     next
-}
-
-// Takes a token, and answers what the line goes on with.
-pub fn taken(numbers: &mut [u32], next: Next, token: Token) -> Next
-    ensures value { result ≡ part_after numbers.old next token }
-    ensures numbers_after { numbers.new ≡ after numbers.old next token }
-{
-    match token {
-        Token::Nothing => next,
-        Token::Number(value) => match u32::try_from(value) {
-            Ok(number) => add(numbers, next, number),
-            Err(_) => Next::Wrong,
-        },
-        Token::Word(word) => begin(numbers, next, Next::of_word(word)),
-        Token::Unknown => Next::Wrong,
-    }
 }

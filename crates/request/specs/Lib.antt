@@ -1,2 +1,4 @@
 pub mod Arguments
+pub mod Laws
+pub mod Numbers
 pub mod Status

@@ -37,6 +37,6 @@ one_more Error n = n
 one_more _ n = min (n + 1) (2 ^ 32 - 1)
 
 -- a run after a file that ended so
-abbrev pub after : Run → Answer → Run
+abbrev pub after : Run Status → Answer Status → Run Status
 after run answer =
     record run { status = worse run.status answer.status; answers = one_more answer.status run.answers; paired = answer.paired }

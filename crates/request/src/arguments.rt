@@ -3,6 +3,7 @@ ghost use Rattle.std.specs.Prelude.{◌≡◌, ◌≤◌, ◌<◌, true, false, 
 ghost use Rattle.request.specs.Arguments.{command_of, kind_of, is_hyphen, telling, drawing, printing, alone, taking};
 ghost use Rattle.request.specs.Arguments.{counted, fitting, several, crowded};
 
+pub use crate::numbers::{crowded, fitting};
 use std::env::FillError;
 use std::rt::Env;
 
@@ -162,27 +163,27 @@ impl Options {
             Argument::Unknown => self.unknown = true,
         }
     }
-}
 
-// Whether a command takes these options and so many files.
-pub fn fitting(command: Option<Command>, o: Options) -> bool
-    ensures { result ≡ fitting command o }
-{
-    match command {
-        None => false,
-        Some(c) => {
-            let json = !o.json | c.tells();
-            let color = !(o.color | o.plain) | (c == Command::Tree);
-            !o.unknown & json & color & c.takes(o.files)
+    // Whether a command takes them, and so many files.
+    pub fn fit(self, command: Option<Command>) -> bool
+        ensures { result ≡ fitting command self }
+    {
+        match command {
+            None => false,
+            Some(c) => {
+                let json = !self.json | c.tells();
+                let color = !(self.color | self.plain) | (c == Command::Tree);
+                !self.unknown & json & color & c.takes(self.files)
+            }
         }
     }
 }
 
-// A command on a file: its options, how many files there are, whether its answer is one of several, whether it is the
-// first, and which argument is the next file.
+// A command, or its number, on a file: its options, how many files there are, whether its answer is one of several,
+// whether it is the first, and which argument is the next file.
 #[derive(Clone, Copy)]
-pub struct Request {
-    pub command: Command,
+pub struct Request<C = Command> {
+    pub command: C,
     pub json: bool,
     pub color: bool,
     pub files: u32,
@@ -198,9 +199,9 @@ fn several(files: u32, rule: bool) -> bool
     (2 < files) | ((files == 2) & !rule)
 }
 
-impl Request {
+impl<C> Request<C> {
     // On a case.
-    pub fn new(command: Command, options: Options, first: bool, next: Option<usize>) -> Request
+    pub fn new(command: C, options: Options, first: bool, next: Option<usize>) -> Request<C>
         ensures { result ≡ record {
           command = command;
           json = options.json;
@@ -223,7 +224,7 @@ impl Request {
     }
 
     // The same on a rule.
-    pub fn of_rule(self) -> Request
+    pub fn of_rule(self) -> Request<C>
         ensures { result ≡ record self { several = several self.files true } }
     {
         Request {
@@ -231,7 +232,9 @@ impl Request {
             ..self
         }
     }
+}
 
+impl Request {
     // Whether there is a file too many for a command on a case.
     pub fn crowded(self) -> bool
         ensures { result ≡ crowded self.command self.files }

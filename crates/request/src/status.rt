@@ -2,6 +2,8 @@
 ghost use Rattle.std.specs.Prelude.{◌≡◌};
 ghost use Rattle.request.specs.Status.{rank, worse, broken, answered, after};
 
+pub use crate::numbers::{after, is_broken, tell, told, worse};
+
 #[derive(Clone, Copy, PartialEq, Eq, Default)]
 pub enum Status {
     #[default]
@@ -63,23 +65,22 @@ impl Status {
 
     // The status to descriptor 3, as a digit and a line feed, where somebody listens.
     pub fn tell(self) {
-        let line = [b'0' + self as u8, b'\n'];
-        io::write_all(3, &line);
+        tell(self as u32);
     }
 }
 
-// What a file comes to: a status, and whether the next file belongs to it.
+// What a file comes to: a status, or its number, and whether the next file belongs to it.
 #[derive(Clone, Copy)]
-pub struct Answer {
-    pub status: Status,
+pub struct Answer<S = Status> {
+    pub status: S,
     pub paired: bool,
 }
 
 // The worst status so far; how many files were answered; whether -- has ended the options; whether the next file belongs
 // to the rule before it.
 #[derive(Clone, Copy, Default)]
-pub struct Run {
-    pub status: Status,
+pub struct Run<S = Status> {
+    pub status: S,
     pub answers: u32,
     pub ended: bool,
     pub paired: bool,
